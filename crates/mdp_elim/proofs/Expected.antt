@@ -21,7 +21,8 @@ use Rattle.mdp_elim.proofs.Lists.{one_or_two}
 use Rattle.mdp_elim.proofs.RowSums.{over}
 use Rattle.mdp_elim.proofs.Law.{unit, matrix, all_below, can_eliminate, divides_by_positive, solution_solves}
 use Rattle.mdp_elim.proofs.Chains.{entries_next}
-use Rattle.mdp_elim.proofs.RowsInto.{flat_more, over-row_into, between-row_into, one_term, length-transposed, row_of-transposed}
+use Rattle.mdp_math.proofs.Lists.{flat_more}
+use Rattle.mdp_elim.proofs.RowsInto.{over-row_into, between-row_into, one_term, length-transposed, row_of-transposed}
 use Rattle.mdp_elim.proofs.Active.{wide_active}
 use Rattle.mdp_elim.proofs.Leaving.{at_active, at_inactive, active-below, length-system, down-system, matrix-active, matrix-inactive, all_pivots, first_solves, chain_pivots_transposed, row_between}
 

@@ -10,17 +10,13 @@ use Rattle.mdp_math.specs.Rational.{ℚ, of_int}
 use Rattle.mdp_math.specs.Written.{written_add, written_mul, ◌>>=◌}
 use Rattle.mdp_num.specs.Written.{written_div}
 use Rattle.mdp_spec.specs.Mdp.{Entry}
-use Rattle.mdp_elim.specs.Entries.{Between, place, entry_to, without, plus_entry, plus_row, divided_entry}
+use Rattle.mdp_elim.specs.Entries.{Between, place, entry_to, without, plus_entry, plus_row, divided_entry, after, MergesTo, IsTooWide}
 
 abbrev pub no_entry : Entry
 no_entry = record { target = 0; prob = of_int (pos 0) }
 
 abbrev pub entry : ℕ → ℚ → Entry
 entry v q = record { target = v; prob = q }
-
--- entries, and then those of a row, where it can be made
-abbrev pub after : List Entry → Option (List Entry) → Option (List Entry)
-after front o = o >>= (λ rest. Some (front ++ rest))
 
 after-nil : (o : Option (List Entry)) → o ≡ after [] o
 after-nil None = refl
@@ -215,35 +211,47 @@ between-drop low high zero (x ∷ row) h = (omega arith, h.1, h.2)
 between-drop low high (suc j) [] h = tt
 between-drop low high (suc j) (x ∷ row) h = between-drop (suc x.target) high j row h.2
 
--- as the loop of the code takes it
+-- as the code takes it
+module _ (w : ℚ) (x : Entry) (rest : List Entry) (t : ℕ) (p : ℚ) (target : t ≡ x.target) (prob : p ≡ x.prob) where
+  pub merge-no_term : None ≡ written_mul w p → IsTooWide w x rest
+  merge-no_term h source = ap (λ (o : Option ℚ). o >>= (λ term. plus_entry x.target term rest >>= plus_row w source)) (sym (h ∙ ap (written_mul w) prob))
+
+  module _ (more : ℚ) (term : Some more ≡ written_mul w p) (old z : ℚ)
+      (o : Option ℚ) (found : o ≡ entry_to t (drop (place t rest) rest)) (none : z ≡ of_int (pos 0)) (or : old ≡ unwrap_or o z) where
+    term_is : Some more ≡ written_mul w x.prob
+    term_is = term ∙ ap (written_mul w) prob
+
+    old_is : old ≡ or_zero (entry_to x.target (drop (place x.target rest) rest))
+    old_is = or ∙ ap (unwrap_or o) none ∙ ap or_zero (found ∙ ap (λ n. entry_to n (drop (place n rest) rest)) target)
+
+    pub merge-no_sum : None ≡ written_add old more → IsTooWide w x rest
+    merge-no_sum h source = no_sum w x source rest [] (plus_row w (x ∷ source) rest) (after-nil (plus_row w (x ∷ source) rest)) more term_is (h ∙ ap (λ (q : ℚ). written_add q more) old_is)
+
+    pub merge-next : (sums : List Entry) (sum : ℚ) (before behind new : List Entry) (y : Entry) (u : ℕ) → Some sum ≡ written_add old more
+        → before ≡ take (place t rest) rest → behind ≡ without t (drop (place t rest) rest) → u ≡ x.target → y ≡ entry u sum → new ≡ (sums ++ before) ++ y ∷ []
+        → MergesTo w x rest sums behind new
+    merge-next sums sum before behind new y u h b r v e n high source k =
+        next w x source rest sums (after sums (plus_row w (x ∷ source) rest)) refl more term_is 0 high sum (h ∙ ap (λ (q : ℚ). written_add q more) old_is) k
+        ∙ ap₂ after
+        (ap₂ (λ (xs : List Entry) (z : Entry). (sums ++ xs) ++ z ∷ []) (ap (λ n. take (place n rest) rest) (sym target) ∙ sym b) (ap (λ n. entry n sum) (sym v) ∙ sym e) ∙ sym n)
+        (ap (plus_row w source) (ap (λ n. without n (drop (place n rest) rest)) (sym target) ∙ sym r))
+
+-- entry after entry
 module _ (w : ℚ) (source : List Entry) (j : ℕ) (x : Entry) (rest sums : List Entry) (all : Option (List Entry))
-    (within : j < length source) (is : x ≡ get_or source j x) (so_far : all ≡ after sums (plus_row w (drop j source) rest))
-    (t : ℕ) (p more : ℚ) (target : t ≡ x.target) (prob : p ≡ x.prob) (term : Some more ≡ written_mul w p) (old z : ℚ)
-    (o : Option ℚ) (found : o ≡ entry_to t (drop (place t rest) rest)) (none : z ≡ of_int (pos 0)) (or : old ≡ unwrap_or o z) where
+    (within : j < length source) (is : x ≡ get_or source j x) (so_far : all ≡ after sums (plus_row w (drop j source) rest)) where
   this : drop j source ≡ x ∷ drop (suc j) source
   this = drop-cons source j x within ∙ ap (λ y. y ∷ drop (suc j) source) (sym is)
 
   so_far_this : all ≡ after sums (plus_row w (x ∷ drop (suc j) source) rest)
   so_far_this = so_far ∙ ap (λ (xs : List Entry). after sums (plus_row w xs rest)) this
 
-  term_is : Some more ≡ written_mul w x.prob
-  term_is = term ∙ ap (written_mul w) prob
+  pub merged-wide : IsTooWide w x rest → all ≡ None
+  merged-wide h = so_far_this ∙ ap (after sums) (h (drop (suc j) source))
 
-  old_is : old ≡ or_zero (entry_to x.target (drop (place x.target rest) rest))
-  old_is = or ∙ ap (unwrap_or o) none ∙ ap or_zero (found ∙ ap (λ n. entry_to n (drop (place n rest) rest)) target)
-
-  pub merge-no_sum : None ≡ written_add old more → all ≡ None
-  merge-no_sum h = no_sum w x (drop (suc j) source) rest sums all so_far_this more term_is (h ∙ ap (λ (q : ℚ). written_add q more) old_is)
-
-  pub merge-next : (high : ℕ) (sum : ℚ) (before behind new : List Entry) (y : Entry) (u : ℕ) → Between 0 high source → Some sum ≡ written_add old more
-      → before ≡ take (place t rest) rest → behind ≡ without t (drop (place t rest) rest) → u ≡ x.target → y ≡ entry u sum → new ≡ (sums ++ before) ++ y ∷ []
-      → all ≡ after new (plus_row w (drop (j + 1) source) behind)
-  merge-next high sum before behind new y u k h b r v e n =
+  pub merged-more : (high : ℕ) (behind new : List Entry) → Between 0 high source → MergesTo w x rest sums behind new → all ≡ after new (plus_row w (drop (j + 1) source) behind)
+  merged-more high behind new k h =
       let m : suc j ≡ j + 1 = omega arith in
-      next w x (drop (suc j) source) rest sums all so_far_this more term_is 0 high sum (h ∙ ap (λ (q : ℚ). written_add q more) old_is) (subst (Between 0 high) this (between-drop 0 high j source k))
-      ∙ ap₂ after
-      (ap₂ (λ (xs : List Entry) (z : Entry). (sums ++ xs) ++ z ∷ []) (ap (λ n. take (place n rest) rest) (sym target) ∙ sym b) (ap (λ n. entry n sum) (sym v) ∙ sym e) ∙ sym n)
-      (ap₂ (λ (i : ℕ) (xs : List Entry). plus_row w (drop i source) xs) m (ap (λ n. without n (drop (place n rest) rest)) (sym target) ∙ sym r))
+      so_far_this ∙ h high (drop (suc j) source) (subst (Between 0 high) this (between-drop 0 high j source k)) ∙ ap (λ (i : ℕ). after new (plus_row w (drop i source) behind)) m
 
 -- ---- the entry to s can only be the last one
 

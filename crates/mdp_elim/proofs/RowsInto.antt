@@ -1,16 +1,15 @@
 -- The transposed rows of a chain: their entries, where they lie, and the pivots of their system.
 use Rattle.std.proofs.Common.{◌≡◌, ℕ, zero, suc, ◌+◌, ◌<◌, ◌≤◌, inl, inr, Bool, true, false, List, [], ◌∷◌}
-use Rattle.std.proofs.Common.{◌++◌, length, map, refl, sym, ◌∙◌, ap, ap₂, subst, arith, eqb, if◌then◌else◌, pos, zero-add}
+use Rattle.std.proofs.Common.{◌++◌, length, refl, sym, ◌∙◌, ap, ap₂, subst, arith, eqb, if◌then◌else◌, pos, zero-add}
 use Rattle.std.specs.List.{flat_map, range_with_len}
-use Rattle.std.proofs.lemmas.List.{append-nil}
-use Rattle.std.proofs.lemmas.List.FromFn.{map-range_with_len_more, get_or-map-range_with_len, length-map-range_with_len}
-use Rattle.std.proofs.lemmas.Grind.{flat_map-append}
+use Rattle.std.proofs.lemmas.List.FromFn.{get_or-map-range_with_len, length-map-range_with_len}
 use Rattle.mdp_math.specs.Rational.{ℚ, ◌+ℚ◌, ◌*ℚ◌}
 use Rattle.mdp_math.specs.Sum.{sum_of}
 use Rattle.mdp_math.specs.Pivot.{entry_at}
 use Rattle.mdp_math.proofs.Numbers.{last_or, eqb-same, eqb-smaller, eqb-greater}
 use Rattle.mdp_math.proofs.Ring.{◌⊕◌, ◌⊗◌, lit, ring}
 use Rattle.mdp_math.proofs.Linear.{combine, equal}
+use Rattle.mdp_math.proofs.Lists.{range_more, flat_more}
 use Rattle.mdp_math.proofs.Laws.{rat_ring}
 use Rattle.mdp_math.proofs.Order.{0ℚ, 1ℚ}
 use Rattle.mdp_math.proofs.Sums.{sum_of-append}
@@ -21,16 +20,6 @@ use Rattle.mdp_elim.specs.Entries.{Between}
 use Rattle.mdp_elim.proofs.RowSums.{over, between-lower}
 
 -- ---- lists over a range
-
-map-same : (xs : List ℕ) → map (λ x. x) xs ≡ xs
-map-same [] = refl
-map-same (x ∷ xs) = ap (λ ys. x ∷ ys) (map-same xs)
-
-pub range_more : (n : ℕ) → range_with_len 0 (n + 1) ≡ range_with_len 0 n ++ n ∷ []
-range_more n = sym (map-same (range_with_len 0 (n + 1))) ∙ map-range_with_len_more (λ x. x) 0 n n (zero-add n) ∙ ap (λ xs. xs ++ n ∷ []) (map-same (range_with_len 0 n))
-
-pub flat_more : (f : ℕ → List Entry) (n : ℕ) → flat_map f (range_with_len 0 (n + 1)) ≡ flat_map f (range_with_len 0 n) ++ f n
-flat_more f n = ap (flat_map f) (range_more n) ∙ flat_map-append f (range_with_len 0 n) (n ∷ []) ∙ ap (λ xs. flat_map f (range_with_len 0 n) ++ xs) (append-nil (f n))
 
 pub sum_more : (f : ℕ → ℚ) (n : ℕ) → sum_of f (range_with_len 0 (n + 1)) ≡ sum_of f (range_with_len 0 n) +ℚ f n
 sum_more f n = ap (sum_of f) (range_more n) ∙ sum_of-append f (range_with_len 0 n) (n ∷ []) ∙ ring rat_ring 2 (λ a b. a ⊕ (b ⊕ lit (pos 0))) (λ a b. a ⊕ b) refl (sum_of f (range_with_len 0 n)) (f n)

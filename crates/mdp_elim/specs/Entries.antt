@@ -1,5 +1,5 @@
 -- Written arithmetic on the entries of an equation, whose targets ascend.
-use Rattle.std.specs.Prelude.{◌≡◌, ◌<◌, ◌≤◌, ℕ, suc, length, List, [], ◌∷◌, Option, Some, None, ◌==◌, nat_le, if◌then◌else◌, pos}
+use Rattle.std.specs.Prelude.{◌≡◌, ◌<◌, ◌≤◌, ℕ, suc, length, List, [], ◌∷◌, ◌++◌, Option, Some, None, ◌==◌, nat_le, if◌then◌else◌, pos}
 use Rattle.std.specs.List.{HoldsAt}
 use Rattle.mdp_math.specs.Rational.{ℚ, of_int}
 use Rattle.mdp_math.specs.Written.{written_add, written_mul, ◌>>=◌}
@@ -74,3 +74,17 @@ plus_row w (x ∷ source) row = do
   term ← written_mul w x.prob
   sum ← plus_entry x.target term row
   plus_row w source sum
+
+-- ---- two rows that are merged
+
+-- entries, and then those of a row, where it can be made
+abbrev pub after : List Entry → Option (List Entry) → Option (List Entry)
+after front o = o >>= (λ rest. Some (front ++ rest))
+
+-- the entries `new` in the place of `old`, and `behind` in the place of the row, whatever is added behind the entry x
+abbrev pub MergesTo : ℚ → Entry → List Entry → List Entry → List Entry → List Entry → Type 0
+MergesTo w x row old behind new = (high : ℕ) (source : List Entry) → Between 0 high (x ∷ source) → after old (plus_row w (x ∷ source) row) ≡ after new (plus_row w source behind)
+
+-- a term is past width where the entry x is added
+abbrev pub IsTooWide : ℚ → Entry → List Entry → Type 0
+IsTooWide w x row = (source : List Entry) → plus_row w (x ∷ source) row ≡ None

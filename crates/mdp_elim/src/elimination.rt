@@ -1,8 +1,8 @@
-ghost use Rattle.std.specs.Prelude.{ℕ, ◌≡◌, ◌≢◌, ◌<◌, ◌^◌, ◌+◌, length, Some, None, Ok, Err, OnOk, OnErr, IfOk, pos};
+ghost use Rattle.std.specs.Prelude.{ℕ, ◌≡◌, ◌≢◌, ◌<◌, ◌^◌, ◌+◌, length, Some, None, Ok, Err, OnOk, IfOk, pos};
 ghost use Rattle.mdp_math.specs.Rational.{of_int};
-ghost use Rattle.std.specs.List.{All, Contains};
+ghost use Rattle.std.specs.List.{All, Contains, remove};
 ghost use Rattle.mdp_elim.specs.Entries.{Between, entry_to, each};
-ghost use Rattle.mdp_elim.specs.Elimination.{CanEliminate, substituted, eliminated, solution, no_values};
+ghost use Rattle.mdp_elim.specs.Elimination.{CanEliminate, divided, substituted, eliminated, solution, no_values};
 ghost use Rattle.mdp_elim.specs.Finish.{finish, LeadDown, placed};
 ghost use Rattle.mdp_elim.specs.Predecessors.{IsLinked, IsPutAt, LeadsTo, LeadBelow, at};
 
@@ -13,6 +13,25 @@ use bumpalo::Bump;
 use mdp_num::Frac;
 use mdp_wide::Unfinished;
 use std::alloc::Global;
+
+/// Takes the equation of state `s`, the last one, out of the others, and solves it for its value.
+fn take_pivot<'a>(
+    equations: &mut Vec<Equation>,
+    arena: &'a Bump,
+    s: u32,
+) -> Result<Solved<'a>, StepError>
+    requires last { length equations.old.items ≡ s + 1 }
+    requires below { Between 0 (s + 1) (at equations.old.items s).entries }
+    requires other { entry_to s (at equations.old.items s).entries ≢ Some (of_int (pos 1)) }
+    ensures pivot { IfOk result (λ pivot. divided s (at equations.old.items s) ≡ Some pivot) }
+    ensures rest { OnOk result (equations.new.items ≡ remove equations.old.items s) }
+    ensures wide { result ≡ Err (Unfinished.TooWide tt) → divided s (at equations.old.items s) ≡ None }
+{
+    let mut equation = equations.remove(s as usize);
+    equation.divide(s)?;
+    let pivot = equation.settle(arena)?;
+    Ok(pivot)
+}
 
 /// The equations of the states that aren't eliminated, and for each of these the smaller states with an entry to it.
 #[derive(Drop)]
@@ -77,10 +96,8 @@ impl System {
         ensures linked { OnOk result (IsLinked s s self.new.lists.items self.new.equations.items) }
         ensures wide { result ≡ Err (Unfinished.TooWide tt) → eliminated s self.old.equations.items ≡ None }
     {
-        let mut equation = self.equations.remove(s as usize);
+        let pivot = take_pivot(&mut self.equations, arena, s)?;
         let states = self.lists.remove(s as usize);
-        equation.divide(s)?;
-        let pivot = equation.settle(arena)?;
         self.substitute_in_each(alloc, &pivot, s, &states)?;
         Ok(pivot)
     }

@@ -3,7 +3,7 @@ ghost use Rattle.std.specs.List.{All};
 ghost use Rattle.std.specs.Result.{result_ok};
 ghost use Rattle.mdp_spec.specs.Written.{written_sum};
 ghost use Rattle.mdp_math.specs.Rational.{of_int};
-ghost use Rattle.mdp_elim.specs.Entries.{Between, LeadsAt, reach, StartsNew, place, entry_to, without, each, divided_entry, plus_row};
+ghost use Rattle.mdp_elim.specs.Entries.{Between, LeadsAt, reach, StartsNew, place, entry_to, without, each, divided_entry, plus_row, after, MergesTo, IsTooWide};
 
 use crate::errors::StepError;
 use crate::sums::plus_times;
@@ -162,6 +162,24 @@ pub(crate) fn find(row: &[Term], target: u32) -> Option<usize>
     row.binary_search_by_key(&target, |x| x.target()).ok()
 }
 
+/// Appends what a row has before the target of `x`, and at this target so many times `x` more. Gives the entries behind.
+fn merge_entry<'r>(
+    sums: &mut Vec<Term>,
+    row: &'r [Term],
+    times: &Frac,
+    x: &Term,
+) -> Result<&'r [Term], StepError>
+    ensures ok { IfOk result (λ behind. MergesTo times.now x.now row.now sums.old.items behind.now sums.new.items) }
+    ensures wide { result ≡ Err (Unfinished.TooWide tt) → IsTooWide times.now x.now row.now }
+{
+    let split = split_row(row, x.target());
+    sums.extend_from_slice(split.before)?;
+    let more = times.mul(&x.factor())?;
+    let sum = split.entry.unwrap_or(Frac::whole(0)).add(&more)?;
+    sums.push(Term::new(x.target(), sum))?;
+    Ok(split.behind)
+}
+
 /// A row and so many times each entry of another, merged.
 fn merged(
     alloc: Global,
@@ -177,12 +195,7 @@ fn merged(
     sums.reserve(row.len() + source.len())?;
     let mut rest = row;
     for x in source {
-        let split = split_row(rest, x.target());
-        sums.extend_from_slice(split.before)?;
-        let more = times.mul(&x.factor())?;
-        let sum = split.entry.unwrap_or(Frac::whole(0)).add(&more)?;
-        sums.push(Term::new(x.target(), sum))?;
-        rest = split.behind;
+        rest = merge_entry(&mut sums, rest, times, x)?;
     }
     sums.extend_from_slice(rest)?;
     Ok(sums)

@@ -174,15 +174,24 @@ fn evaluate_states(
     Ok(())
 }
 
+/// So many equations without entries.
+fn no_equations(alloc: Global, states: u32) -> Result<Vec<Equation>, AllocError>
+    ensures count { IfOk result (λ equations. length equations.items ≡ states) }
+    ensures down { IfOk result (λ equations. LeadToSmaller equations.items) }
+{
+    let mut equations = Vec::with_capacity(alloc, states as usize)?;
+    for _ in 0..states {
+        equations.push(Equation::new(Vec::new(alloc), Frac::whole(0), Frac::whole(0)))?;
+    }
+    Ok(equations)
+}
+
 impl Kept {
     /// Room for so many states; no equation is solved.
     pub fn new(alloc: Global, states: u32) -> Result<Kept, AllocError>
         ensures { IfOk result (λ k. HasRoom states k) }
     {
-        let mut solved = Vec::with_capacity(alloc, states as usize)?;
-        for _ in 0..states {
-            solved.push(Equation::new(Vec::new(alloc), Frac::whole(0), Frac::whole(0)))?;
-        }
+        let solved = no_equations(alloc, states)?;
         let first = vec![in alloc; Frac::whole(0); states as usize]?;
         let second = vec![in alloc; Frac::whole(0); states as usize]?;
         Ok(Kept {

@@ -1,19 +1,18 @@
 -- The list of all nodes.
-use Rattle.std.proofs.Common.{◌≡◌, ℕ, ◌+◌, ◌<◌, ◌++◌, ◌∷◌, [], true, List, get_or, sym, ◌∙◌, ap, subst, zero-add, arith}
+use Rattle.std.proofs.Common.{◌≡◌, ℕ, ◌<◌, true, List, get_or, sym, ◌∙◌, ap, subst, zero-add, arith}
 use Rattle.std.specs.List.{All, range_with_len}
 use Rattle.std.specs.Prelude.{◌==◌}
-use Rattle.std.proofs.lemmas.List.FromFn.{get_or-range_with_len, length-range_with_len, map-range_with_len_more}
-use Rattle.std.proofs.lemmas.List.{map-id}
+use Rattle.std.proofs.lemmas.List.FromFn.{get_or-range_with_len, length-range_with_len}
 use Rattle.std.proofs.lemmas.List.Folds.{list_any_at}
 use Rattle.mdp_math.proofs.Numbers.{eqb-same}
 use Rattle.mdp_rows.specs.Preds.{is_among}
 use Rattle.mdp_policy_iteration.specs.Changes.{Ascend}
 
 module _ (n : ℕ) where
-  abbrev all : List ℕ
+  abbrev pub all : List ℕ
   all = range_with_len 0 n
 
-  at : (i d : ℕ) → i < n → get_or all i d ≡ i
+  pub at : (i d : ℕ) → i < n → get_or all i d ≡ i
   at i d l = get_or-range_with_len 0 n i d l ∙ zero-add i
 
   pub all-below : All (λ s. s < n) all
@@ -24,8 +23,3 @@ module _ (n : ℕ) where
 
   pub all-among : (s : ℕ) → s < n → is_among s all ≡ true
   all-among s l = list_any_at (λ x. x == s) all s 0 (let m = length-range_with_len 0 n in omega (arith, l)) (ap (λ x. x == s) (at s 0 l) ∙ eqb-same s)
-
--- one more node
-pub range-more : (n : ℕ) → range_with_len 0 (n + 1) ≡ range_with_len 0 n ++ n ∷ []
-range-more n =
-    sym (map-id (range_with_len 0 (n + 1))) ∙ map-range_with_len_more (λ (x : ℕ). x) 0 n n (zero-add n) ∙ ap (λ (xs : List ℕ). xs ++ n ∷ []) (map-id (range_with_len 0 n))

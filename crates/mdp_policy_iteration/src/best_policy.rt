@@ -1,5 +1,5 @@
 ghost use Rattle.std.specs.Prelude.{◌≡◌, ◌≢◌, ◌<◌, [], length, Ok, IfOk};
-ghost use Rattle.std.specs.List.{All, range_with_len};
+ghost use Rattle.std.specs.List.{All};
 ghost use Rattle.mdp_policy_iteration.specs.Problem.{count};
 ghost use Rattle.mdp_policy_iteration.specs.Path.{improved, improvements};
 ghost use Rattle.mdp_policy_iteration.specs.Laws.{IsSolvable, IsBestFrom};
@@ -9,7 +9,7 @@ ghost use Rattle.mdp_policy_iteration.specs.Ends.{Ends, EndsWithLast};
 
 use crate::comparison::take_changes;
 use crate::evaluation::Evaluation;
-use crate::loops::Loops;
+use crate::loops::{Loops, all_nodes};
 use crate::readers::readers_of;
 use crate::round::round_of;
 use crate::scope::Scope;
@@ -17,18 +17,7 @@ use crate::shortest_path::ShortestPath;
 use crate::solution::{PathError, Solution, path_error};
 use mdp_elim::solution_law;
 use mdp_rows::{Marks, Pred};
-use std::alloc::{AllocError, Global};
-
-/// All nodes.
-fn all_nodes(alloc: Global, count: u32) -> Result<Vec<u32>, AllocError>
-    ensures { IfOk result (λ nodes. nodes.items ≡ range_with_len 0 count) }
-{
-    let mut nodes = Vec::with_capacity(alloc, count as usize)?;
-    for s in 0..count {
-        nodes.push(s)?;
-    }
-    Ok(nodes)
-}
+use std::alloc::Global;
 
 /// The policy with these changes.
 fn next_policy(mut policy: Vec<u32>, changes: &[Pred]) -> Vec<u32>

@@ -164,24 +164,24 @@ fn put_constants<P: ShortestPath>(
 /// Solves a policy's system at these nodes. What is kept serves the others.
 fn solve_at<P: ShortestPath>(
     alloc: Global,
-    rows: &PolicyChain<'_, P>,
+    rows: PolicyChain<'_, P>,
     active: &Marks,
     constants: &Vec<Frac>,
     nodes: &[u32],
     kept: &mut Kept,
 ) -> Result<(), RoundError>
-    requires leaves { CanLeave (P.problem rows.now.problem.now) rows.now.policy.now }
-    requires active { active.now ≡ active_of (P.problem rows.now.problem.now) rows.now.policy.now }
-    requires constants { length constants.now.items ≡ count (P.problem rows.now.problem.now) }
-    requires in_range { All (λ s. s < count (P.problem rows.now.problem.now)) nodes.now }
+    requires leaves { CanLeave (P.problem rows.problem.now) rows.policy.now }
+    requires active { active.now ≡ active_of (P.problem rows.problem.now) rows.policy.now }
+    requires constants { length constants.now.items ≡ count (P.problem rows.problem.now) }
+    requires in_range { All (λ s. s < count (P.problem rows.problem.now)) nodes.now }
     requires ascend { Ascend nodes.now }
-    requires others { elimination.CanServe nodes.now (equations_of (P.problem rows.now.problem.now) rows.now.policy.now constants.now.items) kept.old }
-    ensures kept { OnOk result (IsKept (equations_of (P.problem rows.now.problem.now) rows.now.policy.now constants.now.items) kept.new) }
-    ensures solved { OnOk result (solved (P.problem rows.now.problem.now) rows.now.policy.now constants.now.items ≡ Ok (filled (P.problem rows.now.problem.now) rows.now.policy.now kept.new.first)) }
+    requires others { elimination.CanServe nodes.now (equations_of (P.problem rows.problem.now) rows.policy.now constants.now.items) kept.old }
+    ensures kept { OnOk result (IsKept (equations_of (P.problem rows.entry.problem.now) rows.entry.policy.now constants.now.items) kept.new) }
+    ensures solved { OnOk result (solved (P.problem rows.entry.problem.now) rows.entry.policy.now constants.now.items ≡ Ok (filled (P.problem rows.entry.problem.now) rows.entry.policy.now kept.new.first)) }
     ensures others { OnOk result ((s : ℕ) → is_among s nodes.now ≡ false → value_at kept.new.first s ≡ value_at kept.old.first s) }
-    ensures refused { IfErr result (λ e. Says e (solved (P.problem rows.now.problem.now) rows.now.policy.now constants.now.items)) }
+    ensures refused { IfErr result (λ e. Says e (solved (P.problem rows.entry.problem.now) rows.entry.policy.now constants.now.items)) }
 {
-    match kept.solve_again(alloc, rows, active, slice::from_ref(constants), nodes) {
+    match kept.solve_again(alloc, &rows, active, slice::from_ref(constants), nodes) {
         Ok(()) => Ok(()),
         Err(ElimError::TooWide(state)) => Err(RoundError::TooWide(NodePlace {
             kind: Kind::Evaluate,
@@ -295,7 +295,7 @@ impl Evaluation {
         };
         solve_at(
             alloc,
-            &rows,
+            rows,
             &self.active,
             &self.constants,
             nodes,

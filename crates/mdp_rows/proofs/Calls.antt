@@ -18,7 +18,7 @@ unrefused_before u old new None is again = is
 unrefused_before u old new (Some e) is again = absurd (let k = again.0 in cc)
 
 module _ (old new : Draft) (due : Result Draft RowsError) where
-  ok_before : (r : Result (Unit {0}) RowsError) → IsCall old new due r → OnOk r (IsUnrefused old × (due ≡ Ok new))
+  pub ok_before : (r : Result (Unit {0}) RowsError) → IsCall old new due r → OnOk r (IsUnrefused old × (due ≡ Ok new))
   ok_before (Ok u) call = (unrefused_before u old new old.refused refl call.again, call.ok)
   ok_before (Err e) call = tt
 

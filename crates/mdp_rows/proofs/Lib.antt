@@ -2,6 +2,7 @@ pub mod Assembled
 pub mod Calls
 pub mod ClosedRows
 pub mod CutModels
+pub mod Either
 mod Examples
 pub mod Flat
 pub mod Queries

@@ -1,5 +1,5 @@
-ghost use Rattle.std.specs.Prelude.{◌≡◌, ◌⊎◌, ◌≤◌, None, Some, IfOk, IfErr, OnOk, OnErr, length, map, nat_le};
-ghost use Rattle.std.specs.List.{position, position_or_len};
+ghost use Rattle.std.specs.Prelude.{◌≡◌, ◌==◌, ◌⊎◌, ◌≤◌, true, None, Some, IfOk, IfErr, OnOk, OnErr, length, map, nat_le};
+ghost use Rattle.std.specs.List.{position_or_len};
 ghost use Rattle.std.specs.Option.{IfSome};
 ghost use Rattle.mdp_num.specs.Meaning.{IsWithinLimit};
 ghost use Rattle.mdp_rows.specs.Draft.{new_draft, choice_closed, state_closed, all_closed, state_opened, choice_opened, finished};
@@ -57,20 +57,16 @@ pub struct Assembly {
     refused: Option<RowsError>,
 }
 
-fn first_from(places: &[u32], label: u32) -> Option<usize>
-    ensures { result ≡ position (λ k. nat_le label k) places.now }
-{
-    places.iter().position(|place| *place >= label)
-}
-
 /// Where a label's place stands among ascending ones, or would stand.
 fn place_of_label(places: &[u32], label: u32) -> usize
     ensures { result ≡ position_or_len (λ k. nat_le label k) places.now }
 {
-    match first_from(places, label) {
-        Some(place) => place,
-        None => places.len(),
+    for i in 0..places.len() {
+        if places[i] >= label {
+            return i;
+        }
     }
+    places.len()
 }
 
 /// Adds the label's place, where it isn't there. On `Err` the places are as before.
@@ -265,33 +261,41 @@ impl Assembly {
         Ok(())
     }
 
-    /// The model of the states that are closed.
-    fn into_model(self) -> Result<crate::model::Model, RowsError>
-        requires closed { self.state ≡ None }
-        requires whole { FinishesModel (finished self) }
-        ensures { finished self ≡ result }
+    /// Whether as many states are closed as were announced.
+    fn is_whole(&self) -> bool
+        ensures { result ≡ (length self.now.closed == self.now.announced) }
     {
-        if self.labels.states() != self.announced {
-            return Err(RowsError::Count);
+        self.labels.states() == self.announced
+    }
+
+    /// Closes what is open, where as many states as were announced are closed then.
+    fn close_all(&mut self) -> Result<(), RowsError>
+        ensures unrefused { OnOk result (IsUnrefused self.old) }
+        ensures closed { OnOk result (all_closed self.old ≡ Ok self.new) }
+        ensures counted { OnOk result ((length self.new.closed == self.new.announced) ≡ true) }
+        ensures again { IfSome self.old.refused (λ e. result ≡ Err e) }
+        ensures refusal { IfErr result (λ e. IsUnrefused self.old → (e ≡ RowsError.Memory) ⊎ (after_finish self.old ≡ Err e)) }
+    {
+        match self.close_state() {
+            Ok(()) => {
+                if self.is_whole() {
+                    Ok(())
+                } else {
+                    Err(RowsError::Count)
+                }
+            }
+            Err(refusal) => Err(refusal),
         }
-        let Assembly {
-            announced: _,
-            rule: _,
-            choices,
-            starts,
-            first_choice: _,
-            labels,
-            stage: _,
-            rewards: _,
-            places: _,
-            label_calls: _,
-            sums: _,
-            row: _,
-            targets: _,
-            entries: _,
-            refused: _,
-        } = self;
-        Ok(crate::model::Model::from_parts(choices, starts, labels))
+    }
+
+    /// The model of the states that are closed, which are as many as were announced.
+    fn into_model(self) -> crate::model::Model
+        requires closed { self.state ≡ None }
+        requires counted { (length self.closed == self.announced) ≡ true }
+        requires whole { FinishesModel (finished self) }
+        ensures { finished self ≡ Ok result }
+    {
+        crate::model::Model::from_parts(self.choices, self.starts, self.labels)
     }
 
     /// A builder of a model of so many states, 1 to 2^20, with these reward names: 1 to 16 different ones of 1 to 255 bytes without blank,
@@ -307,20 +311,24 @@ impl Assembly {
         requires names { AreRewardNames (map (λ n. n.items) names.items) }
         ensures { IfOk result (λ builder. builder ≡ new_draft states rule (map (λ n. n.items) names.items)) }
     {
+        let starts = vec![in alloc; 0]?;
+        let targets = vec![in alloc; false; states as usize]?;
+        let choices = Choices::new(alloc, names)?;
+        let labels = Labels::new(alloc)?;
         Ok(Assembly {
             announced: states,
             rule,
-            choices: Choices::new(alloc, names)?,
-            starts: vec![in alloc; 0]?,
+            choices,
+            starts,
             first_choice: 0,
-            labels: Labels::new(alloc)?,
+            labels,
             stage: Stage::Between,
             rewards: Vec::new(alloc),
             places: Vec::new(alloc),
             label_calls: 0,
             sums: Vec::new(alloc),
             row: Vec::new(alloc),
-            targets: Marks::from_values(vec![in alloc; false; states as usize]?),
+            targets: Marks::from_values(targets),
             entries: 0,
             refused: None,
         })
@@ -446,10 +454,9 @@ impl Assembly {
         ensures refusal { IfErr result (λ e. IsUnrefused self → (e ≡ RowsError.Memory) ⊎ (after_finish self ≡ Err e)) }
     {
         let mut builder = self;
-        if let Some(refusal) = builder.refused {
-            return Err(refusal);
+        match builder.close_all() {
+            Ok(()) => Ok(builder.into_model()),
+            Err(refusal) => Err(refusal),
         }
-        builder.try_close_state()?;
-        builder.into_model()
     }
 }

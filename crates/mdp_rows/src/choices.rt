@@ -1,7 +1,6 @@
-ghost use Rattle.std.specs.Prelude.{◌≡◌, ◌+◌, ◌<◌, ◌-◌, ◌^◌, ◌++◌, ◌∷◌, [], length, map, sum_by, slice_index_or, IfOk, OnOk, OnErr, pos};
+ghost use Rattle.std.specs.Prelude.{◌≡◌, ◌+◌, ◌<◌, ◌-◌, ◌^◌, ◌++◌, ◌∷◌, [], length, map, sum_by, slice_index_or, IfOk, OnOk, OnErr};
 ghost use Rattle.std.specs.List.{All, position};
 ghost use Rattle.std.specs.Str.{bytes_eq};
-ghost use Rattle.mdp_math.specs.Rational.{of_int};
 ghost use Rattle.mdp_rows.specs.ChoiceTable.{IsChoice};
 ghost use Rattle.mdp_rows.specs.Draft.{kept};
 ghost use Rattle.mdp_rows.specs.Given.{row_of};
@@ -22,7 +21,12 @@ use std::marker::Model;
 fn place_in(names: &[Vec<u8>], name: &[u8]) -> Option<usize>
     ensures { result ≡ position (λ v. bytes_eq name.now v.items) names.now }
 {
-    names.iter().position(|other| name == other.as_slice())
+    for m in 0..names.len() {
+        if name == names[m].as_slice() {
+            return Some(m);
+        }
+    }
+    None
 }
 
 /// The choices of all states one after the other: their rows, and the rewards of all of them in one vector, one for each name.

@@ -1,4 +1,4 @@
-ghost use Rattle.std.specs.Prelude.{◌≡◌, ◌<◌, ◌≤◌, ◌*◌, ◌/◌, Some, None, IsTrue, nat_lt, if◌then◌else◌, map, unsigned_abs, MatchOption, OnOk, IfErr, false};
+ghost use Rattle.std.specs.Prelude.{◌≡◌, ◌<◌, ◌≤◌, ◌*◌, ◌/◌, Some, None, IsTrue, nat_lt, if◌then◌else◌, map, MatchOption, OnOk, IfErr, false};
 ghost use Rattle.mdp_math.specs.Rational.{ratio, inv_ℚ, ◌*ℚ◌};
 ghost use Rattle.std.specs.Prelude.{pos};
 ghost use Rattle.mdp_num.specs.Meaning.{IsWithinLimit};

@@ -37,9 +37,10 @@ impl Labels {
     pub fn new(alloc: Global) -> Result<Labels, AllocError>
         ensures { IfOk result (λ labels. labels ≡ record { names = []; of_state = [] }) }
     {
+        let starts = vec![in alloc; 0]?;
         Ok(Labels {
             names: IndexSet::new(alloc),
-            starts: vec![in alloc; 0]?,
+            starts,
             places: Vec::new(alloc),
             alloc,
         })

@@ -18,7 +18,7 @@ use Rattle.mdp_rows.specs.Given.{row_of, entry_of}
 use Rattle.mdp_rows.specs.GivenRow.{in_order, IsGivenRow}
 use Rattle.mdp_rows.specs.Draft.{Draft, OpenState, OpenChoice, closed_row, kept, is_zero, choice_closed, choice_closed_in, with_choice_closed, state_closed}
 use Rattle.mdp_rows.specs.Draft.{state_closed_in, state_opened, new_state, IsChoiceClosed, ◌>>=◌}
-use Rattle.mdp_rows.specs.FlatDraft.{draft_in, open_in, state_in, choice_in, open_choices, IsDraft}
+use Rattle.mdp_rows.specs.FlatDraft.{draft_in, open_in, state_in, choice_in, open_choices, open_states, AreStatesIn, IsDraft}
 use Rattle.mdp_rows.specs.declared.given.Given.{Given}
 use Rattle.mdp_rows.specs.declared.error.RowsError.{RowsError}
 use Rattle.mdp_rows.specs.declared.error.RowsError.TheVariants.{NoChoice, Count}
@@ -212,6 +212,16 @@ pub state_refused : (b : Inside) (v : Draft) (s n : ℕ) → draft_in b ≡ v �
     → state_closed v ≡ Err (NoChoice s)
 state_refused b v s n is ok e f g h =
     ap state_closed (sym is) ∙ closing_state_by b s true ok e f (let l = open_len b in eq-eqb (length (open_choices b)) 0 (omega arith))
+
+-- the builder with room for one more start
+pub is_with_room : (b : Inside) (starts : Vec ℕ) → IsDraft b → starts.items ≡ b.starts.items → IsDraft (record b { starts = starts })
+is_with_room b starts ok e = record {
+  states = subst (λ (xs : List ℕ). AreStatesIn b.announced xs b.first_choice b.labels.of_state) (sym e) ok.states;
+  room = subst (λ (xs : List ℕ). length xs + open_states b.stage ≤ b.announced + 1) (sym e) ok.room;
+  head = ok.head;
+  choices = ok.choices;
+  row = ok.row;
+}
 
 -- the builder with the state closed
 abbrev pub with_state : Inside → Vec ℕ → Labelling → ℕ → Inside

@@ -1,9 +1,9 @@
 -- A place among ascending ones.
 use Rattle.std.proofs.Common.{◌≡◌, ◌≢◌, ℕ, suc, ◌+◌, ◌<◌, ◌≤◌, Bool, true, false, cond, not, eqb, eq-eqb, leb, ltb, lt-ltb, le-ltb, List, [], ◌∷◌, ◌++◌, length, take}
-use Rattle.std.proofs.Common.{drop, get_or, Some, None, refl, sym, ap, ap₂, ◌∙◌, arith, if◌then◌else◌}
-use Rattle.std.specs.List.{position, position_or_len}
+use Rattle.std.proofs.Common.{drop, get_or, refl, sym, ap, ap₂, ◌∙◌, arith, if◌then◌else◌}
+use Rattle.std.specs.List.{position_or_len}
 use Rattle.std.proofs.lemmas.Bool.{ne_eqb}
-use borrow.Author.Tests.{leb-true, leb-false, ltb-false}
+use borrow.Author.Tests.{leb-true, leb-false}
 use Rattle.mdp_rows.specs.Draft.{with_place}
 
 abbrev pub place_in : ℕ → List ℕ → ℕ
@@ -76,17 +76,3 @@ le_by false n m h = omega arith
 pub place-le : (l : ℕ) (xs : List ℕ) → place_in l xs ≤ length xs
 place-le l [] = omega arith
 place-le l (k ∷ ks) = le_by (leb l k) (place_in l ks) (length ks) (place-le l ks)
-
-found_by : (b : Bool) (n m : ℕ) → Some m ≡ cond b (Some n) None → m ≡ n
-found_by true n m e = cc
-found_by false n m e = absurd cc
-
-none_by : (b : Bool) (n : ℕ) → None ≡ cond b (Some n) None → b ≡ false
-none_by true n e = absurd cc
-none_by false n e = refl
-
-pub first_found : (l m : ℕ) (xs : List ℕ) → Some m ≡ position (λ k. leb l k) xs → m ≡ place_in l xs
-first_found l m xs e = found_by (ltb (place_in l xs) (length xs)) (place_in l xs) m e
-
-pub none_found : (l : ℕ) (xs : List ℕ) → None ≡ position (λ k. leb l k) xs → length xs ≡ place_in l xs
-none_found l xs e = let h = ltb-false (place_in l xs) (length xs) (none_by (ltb (place_in l xs) (length xs)) (place_in l xs) e) in let k = place-le l xs in omega arith

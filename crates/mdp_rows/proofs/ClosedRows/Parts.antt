@@ -1,5 +1,5 @@
 -- A row's values in parts of a common denominator.
-use Rattle.std.proofs.Common.{◌≡◌, ℕ, zero, suc, ◌+◌, ◌*◌, ◌/◌, ◌<◌, ◌≤◌, ltb, lt-ltb, le-ltb, Option, Some, None, if◌then◌else◌, Bool, true, false, ◌&&◌, T, eqb, eq-eqb}
+use Rattle.std.proofs.Common.{◌≡◌, ℕ, zero, suc, ◌+◌, ◌*◌, ◌/◌, ◌<◌, ◌≤◌, ltb, lt-ltb, le-ltb, Option, Some, None, if◌then◌else◌, Bool, true, false, T, eqb, eq-eqb}
 use Rattle.std.proofs.Common.{eqb→eq, zero-mul, List, [], ◌∷◌, length, take, get_or, ℤ, pos, ◌*ℤ◌, ◌≤ℤ◌, unsigned_abs, refl, sym, ap, ap₂, subst, ◌∙◌, arith}
 use Rattle.std.proofs.lemmas.Int.{ints}
 use Rattle.std.specs.Int.{◌∣◌}
@@ -7,6 +7,7 @@ use Rattle.std.specs.List.{AllByRecursion}
 use Rattle.std.proofs.lemmas.List.Sums.{sum_by-cons, sum_by_more_le}
 use Rattle.mdp_math.specs.Rational.{ℚ, ratio, of_int, le_ℚ, ◌+ℚ◌}
 use Rattle.mdp_math.specs.Sum.{sum_of}
+use Rattle.mdp_math.proofs.Booleans.{and-parts}
 use Rattle.mdp_math.proofs.Laws.{is_self, is_ratio, is_of_int, same_is}
 use Rattle.mdp_math.proofs.Order.{0ℚ, 1ℚ, nonneg, is_le, ratio-add_same, ≤ℚ_antisymm, ≤ℚ_of_eq}
 use Rattle.mdp_spec.specs.Unit.{row_den}
@@ -43,13 +44,9 @@ sum_parts d (g ∷ row) h all =
 
 -- ---- whether a number of parts is 1
 
-both_true : (a b : Bool) → (a && b) ≡ true → (a ≡ true) × (b ≡ true)
-both_true true b e = (refl, e)
-both_true false b e = absurd cc
-
 pub one_by : (x : ℚ) → is_one x ≡ true → x ≡ 1ℚ
 one_by x e =
-    let p = both_true (le_ℚ x 1ℚ) (le_ℚ 1ℚ x) e in
+    let p = and-parts (le_ℚ x 1ℚ) (le_ℚ 1ℚ x) e in
     ≤ℚ_antisymm x 1ℚ (record { le = subst T (sym p.0) tt }) (record { le = subst T (sym p.1) tt })
 
 one_is : is_one 1ℚ ≡ true

@@ -1,11 +1,12 @@
 -- Looking up by the bytes of a key is looking up in the list of names.
-use Rattle.std.proofs.Common.{◌≡◌, ℕ, ◌+◌, Bool, true, false, cond, not, ◌||◌, ltb, List, [], ◌∷◌, ◌++◌, length, map, Some, None, refl, sym, ap, ◌∙◌}
+use Rattle.std.proofs.Common.{◌≡◌, ℕ, ◌+◌, ◌<◌, Bool, true, false, cond, not, ◌||◌, ltb, lt-ltb, le-ltb, get_or, arith, List, [], ◌∷◌, ◌++◌, length, map, Some, None, refl, sym, ap, ◌∙◌}
 use borrow.Author.Tests.{ltb-true, ltb-false}
 use Rattle.std.specs.List.{list_any, position_or_len, position}
 use Rattle.std.specs.Str.{bytes_eq}
 use Rattle.std.specs.Global.{Vec}
 use Rattle.mdp_rows.specs.Draft.{with_name}
 use Rattle.std.proofs.lemmas.List.{length-map, map_push}
+use Rattle.std.proofs.lemmas.List.Sums.{position_or_len_is}
 use Rattle.mdp_rows.proofs.SoundCalls.Names.{some_passes, none_passes, known_name, new_name}
 
 module _ {X Y : Type 0} (p : Y → Bool) (f : X → Y) where
@@ -29,6 +30,21 @@ none_cases true n e = absurd cc
 none_cases false n e = refl
 
 module _ {X : Type 0} (p : X → Bool) where
+  -- the first element that passes
+  pub first_is : (xs : List X) (i : ℕ) (d : X) → i < length xs → ((k : ℕ) → k < i → p (get_or xs k d) ≡ false) → p (get_or xs i d) ≡ true → Some i ≡ position p xs
+  first_is xs i d l before here =
+      ap (λ (b : Bool). cond b (Some i) None) (sym (lt-ltb i (length xs) l))
+      ∙ ap (λ (n : ℕ). cond (ltb n (length xs)) (Some n) None) (sym (position_or_len_is p xs i d (omega arith) before (λ _. here)))
+
+  none_by : (xs : List X) (d : X) → ((k : ℕ) → k < length xs → p (get_or xs k d) ≡ false) → None ≡ position p xs
+  none_by xs d before =
+      ap (λ (b : Bool). cond b (Some (length xs)) None) (sym (le-ltb (length xs) (length xs) (omega arith)))
+      ∙ ap (λ (n : ℕ). cond (ltb n (length xs)) (Some n) None) (sym (position_or_len_is p xs (length xs) d (omega arith) before (λ l. absurd (omega arith))))
+
+  pub none_is : (xs : List X) → ((k : ℕ) (d : X) → k < length xs → p (get_or xs k d) ≡ false) → None ≡ position p xs
+  none_is [] before = refl
+  none_is (x ∷ xs) before = none_by (x ∷ xs) x (λ k. before k x)
+
   -- where a place is found, it is the first place, and some element passes
   pub found_place : (xs : List X) (i : ℕ) → position p xs ≡ Some i → (i ≡ position_or_len p xs) × (list_any p xs ≡ true)
   found_place xs i e =

@@ -1,16 +1,17 @@
 -- What stands in the lists of predecessors while they are filled.
 use Rattle.std.proofs.Common.{◌≡◌, ◌≢◌, ℕ, zero, suc, ◌+◌, ◌<◌, ◌≤◌, Bool, true, false, ◌||◌, ◌==◌, IsTrue, cond, List, [], ◌∷◌, ◌++◌, length, map, take, get_or, set}
 use Rattle.std.proofs.Common.{replicate, refl, sym, ap, ◌∙◌, arith}
-use Rattle.std.specs.List.{flat_map, range_with_len}
+use Rattle.std.specs.List.{range_with_len}
 use Rattle.std.proofs.Common.{inl, inr, ◌⊎◌, append_assoc, leb, eq-eqb}
 use Rattle.std.proofs.lemmas.List.{append-nil, take_more, length-set, get_or-set_other, get_or-replicate, length-replicate}
-use Rattle.std.proofs.lemmas.Grind.{get_or-set_at, flat_map-append}
+use Rattle.std.proofs.lemmas.Grind.{get_or-set_at}
 use Rattle.std.proofs.lemmas.Bool.{ne_eqb, cases_lt}
 use Rattle.std.proofs.lemmas.List.Folds.{list_any-append}
 use Rattle.std.proofs.lemmas.List.Elements.{filter-append}
-use Rattle.std.proofs.lemmas.List.FromFn.{map-range_with_len_more, fill_by_all}
+use Rattle.std.proofs.lemmas.List.FromFn.{fill_by_all}
 use borrow.Author.Tests.{leb-true}
 use Rattle.mdp_math.proofs.Booleans.{and-left, and-right}
+use Rattle.mdp_math.proofs.Lists.{flat_more, map_more}
 use Rattle.mdp_math.specs.Rational.{ℚ}
 use Rattle.mdp_spec.specs.Mdp.{Mdp, states_of, row_at}
 use Rattle.mdp_spec.specs.Row.{entries, ascends_from}
@@ -102,20 +103,12 @@ leads_as_among [] ps t e = refl
 leads_as_among (x ∷ ts) [] t e = absurd (omega arith)
 leads_as_among (x ∷ ts) (p ∷ ps) t e = ap (λ b. (x == t) || b) (leads_as_among ts ps t (omega arith))
 
-map-same : (xs : List ℕ) → map (λ k. k) xs ≡ xs
-map-same [] = refl
-map-same (x ∷ xs) = ap (λ (l : List ℕ). x ∷ l) (map-same xs)
-
 -- the next choice of a state, and the next state
 pub choices_more : (s n : ℕ) → first_choices s (n + 1) ≡ first_choices s n ++ pair s n ∷ []
-choices_more s n = map-range_with_len_more (pair s) 0 n n (omega arith)
-
-range_more : (n : ℕ) → range_with_len 0 (n + 1) ≡ range_with_len 0 n ++ n ∷ []
-range_more n = sym (map-same (range_with_len 0 (n + 1))) ∙ map-range_with_len_more (λ k. k) 0 n n (omega arith) ∙ ap (λ (x : List ℕ). x ++ n ∷ []) (map-same (range_with_len 0 n))
+choices_more s n = map_more (pair s) n
 
 pub states_more : (m : Mdp) (n : ℕ) → choices_below m (n + 1) ≡ choices_below m n ++ choices_of m n
-states_more m n =
-    ap (flat_map (choices_of m)) (range_more n) ∙ flat_map-append (choices_of m) (range_with_len 0 n) (n ∷ []) ∙ ap (λ (x : List Pred). choices_below m n ++ x) (append-nil (choices_of m n))
+states_more m n = flat_more (choices_of m) n
 
 -- a pushed choice is one that leads to the targets of its row
 pub pushed_leads : (m : Mdp) (s c : ℕ) (ts : List ℕ) (ps : List ℚ) (t : ℕ) → length ts ≡ length ps → entries ts ps ≡ row_at m s c

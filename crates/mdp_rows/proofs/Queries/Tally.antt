@@ -1,10 +1,11 @@
 -- The first element of a list, and whether there are more.
-use Rattle.std.proofs.Common.{◌≡◌, ℕ, ◌+◌, Bool, true, false, cond, List, [], ◌∷◌, ◌++◌, map, Option, Some, None, refl, sym, ap, ap₂, ◌∙◌, zero-add, append-nil}
+use Rattle.std.proofs.Common.{◌≡◌, ℕ, ◌+◌, Bool, true, false, cond, List, [], ◌∷◌, ◌++◌, Option, Some, None, refl, sym, ap, ap₂, ◌∙◌, append-nil}
 use Rattle.std.specs.List.{filter, range_with_len}
-use Rattle.std.proofs.lemmas.List.FromFn.{filter_of_map_range_with_len_more}
+use Rattle.std.proofs.lemmas.List.Elements.{filter-append}
 use Rattle.std.specs.Option.{is_some}
 use Rattle.std.specs.Prelude.{codes}
 use Rattle.mdp_spec.specs.Mdp.{Mdp, states_of, has_label}
+use Rattle.mdp_math.proofs.Lists.{range_more}
 use Rattle.mdp_spec.specs.Labels.{only, place_of, initial_of}
 
 abbrev pub first_of : List ℕ → Option ℕ
@@ -37,15 +38,9 @@ more-new [] s z e = absurd cc
 more-new (x ∷ []) s z e = record { head = e; others = refl }
 more-new (x ∷ y ∷ xs) s z e = record { head = e; others = refl }
 
-map-same : (xs : List ℕ) → map (λ x. x) xs ≡ xs
-map-same [] = refl
-map-same (x ∷ xs) = ap (λ ys. x ∷ ys) (map-same xs)
-
 -- the test's answer at one more number
 filter-range_more : (p : ℕ → Bool) (n : ℕ) → filter p (range_with_len 0 (n + 1)) ≡ filter p (range_with_len 0 n) ++ cond (p n) (n ∷ []) []
-filter-range_more p n =
-    ap (filter p) (sym (map-same (range_with_len 0 (n + 1)))) ∙ filter_of_map_range_with_len_more p (λ x. x) 0 n n (zero-add n)
-    ∙ ap (λ xs. filter p xs ++ cond (p n) (n ∷ []) []) (map-same (range_with_len 0 n))
+filter-range_more p n = ap (filter p) (range_more n) ∙ filter-append p (range_with_len 0 n) (n ∷ [])
 
 module _ (p : ℕ → Bool) (n : ℕ) (more : Bool) where
   pub skip : (first : Option ℕ) → p n ≡ false → IsTally (filter p (range_with_len 0 n)) first more → IsTally (filter p (range_with_len 0 (n + 1))) first more

@@ -1,11 +1,12 @@
 -- What a row of values that are given closes as: a distribution over the states.
-use Rattle.std.proofs.Common.{◌≡◌, ℕ, ◌+◌, ◌*◌, ◌/◌, ◌≤◌, ◌<◌, Bool, true, false, cond, not, ◌&&◌, IsTrue, leb, le-leb, ltb, eqb→eq, T, List, [], ◌∷◌, length, map, pos}
+use Rattle.std.proofs.Common.{◌≡◌, ℕ, ◌+◌, ◌*◌, ◌/◌, ◌≤◌, ◌<◌, Bool, true, false, cond, not, IsTrue, leb, le-leb, ltb, eqb→eq, T, List, [], ◌∷◌, length, map, pos}
 use Rattle.std.proofs.Common.{unsigned_abs, refl, sym, ap, subst, ◌∙◌, arith}
 use Rattle.std.proofs.lemmas.Int.{ints}
 use Rattle.std.specs.Prelude.{Ok}
 use Rattle.std.specs.List.{All, AllByRecursion}
 use Rattle.std.proofs.lemmas.List.Elements.{All-from_recursion, recursion_from_All, All-filter}
 use borrow.Author.Tests.{leb-true, ltb-false, eqb-false}
+use Rattle.mdp_math.proofs.Booleans.{and-parts}
 use Rattle.mdp_math.proofs.Booleans.{and-both, and-left, and-right}
 use Rattle.mdp_math.specs.Gcd.{gcd-one_right}
 use Rattle.mdp_math.specs.Rational.{ℚ, ratio, inv_ℚ, le_ℚ, ◌+ℚ◌, ◌*ℚ◌, ◌<ℚ◌, ◌≤ℚ◌}
@@ -25,6 +26,7 @@ use Rattle.mdp_rows.specs.declared.rule.RowRule.{RowRule}
 use Rattle.mdp_rows.specs.declared.rule.RowRule.TheVariants.{Exact, Scaled}
 use Rattle.mdp_rows.proofs.Flat.Kept.{filter_le}
 use Rattle.mdp_rows.proofs.Calls.Steps.{done, ok_same, then_ok, else_ok, if_ok}
+use Rattle.mdp_rows.proofs.ClosedRows.Parts.{one_by}
 
 -- each value times q
 abbrev pub divided : ℚ → List Entry → List Entry
@@ -124,18 +126,9 @@ length-scaled q (x ∷ row) = let h = length-scaled q row in omega (arith, h)
 
 -- ---- what is 1, and what is near
 
-both_true : (a b : Bool) → (a && b) ≡ true → (a ≡ true) × (b ≡ true)
-both_true true b e = (refl, e)
-both_true false b e = absurd cc
-
-pub one_by : (x : ℚ) → is_one x ≡ true → x ≡ 1ℚ
-one_by x e =
-    let p = both_true (le_ℚ x 1ℚ) (le_ℚ 1ℚ x) e in
-    ≤ℚ_antisymm x 1ℚ (le_of_test x 1ℚ p.0) (le_of_test 1ℚ x p.1)
-
 near_pos : (x : ℚ) → is_near_one x ≡ true → 0ℚ <ℚ x
 near_pos x e =
-    let p = both_true (le_ℚ (ratio (pos 999) 1000) x) (le_ℚ x (ratio (pos 1001) 1000)) e in
+    let p = and-parts (le_ℚ (ratio (pos 999) 1000) x) (le_ℚ x (ratio (pos 1001) 1000)) e in
     <ℚ-≤ℚ_trans 0ℚ (ratio (pos 999) 1000) x (ratio-pos 999 1000 (omega arith) (omega arith)) (le_of_test (ratio (pos 999) 1000) x p.0)
 
 total-scaled : (row : List Entry) → 0ℚ <ℚ row_total row → row_total (scaled_row row) ≡ 1ℚ

@@ -1,20 +1,15 @@
-use Rattle.std.proofs.Common.{ap, ◌∙◌, ◌∷◌, ◌++◌, [], List}
-use Rattle.mdp_spec.specs.Mdp.{Entry}
-use Rattle.mdp_elim.proofs.Merge.{merge-no_sum, merge-next}
+use Rattle.std.proofs.Common.{◌≡◌, Err, rules}
+use Rattle.mdp_wide.specs.declared.unfinished.Unfinished.TheVariants as error
+use Rattle.mdp_elim.proofs.Merge.{merged-wide, merged-more}
 use Rattle.mdp_elim.proofs.entries.merged.Goals as goal
 
-pub returns-in_err-sum-clause-wide : goal.returns-in_err-sum-clause-wide
-returns-in_err-sum-clause-wide c = λ _.
-    merge-no_sum c.args.times.now c.args.source.now c.loop-x.x-index c.x-item.result c.loop-x.rest.now c.loop-x.sums.items _ c.loop-x-test.true c.x-item.is c.loop-x.invariant
-    c.target.result c.factor.result c.in_ok-more.more c.target.ensures c.factor.ensures (c.in_ok-more.ensures {u = tt})
-    c.unwrap_or.result c.whole.result c.split_row-split.result.entry c.split_row-split.ensures.entry c.whole.ensures c.unwrap_or.ensures
-    (c.in_err-sum.ensures {u = tt})
+pub returns-in_err-rest-clause-wide : goal.returns-in_err-rest-clause-wide
+returns-in_err-rest-clause-wide c = λ h.
+    let was : c.merge_entry.result ≡ Err (error.TooWide tt) = search rules in
+    merged-wide c.args.times.now c.args.source.now c.loop-x.x-index c.x-item.result c.loop-x.rest.now c.loop-x.sums.items _ c.loop-x-test.true c.x-item.is c.loop-x.invariant
+    (c.merge_entry.ensures.wide was)
 
 pub loop-x-preserved : goal.loop-x-preserved
 loop-x-preserved c =
-    merge-next c.args.times.now c.args.source.now c.loop-x.x-index c.x-item.result c.loop-x.rest.now c.loop-x.sums.items _ c.loop-x-test.true c.x-item.is c.loop-x.invariant
-    c.target.result c.factor.result c.in_ok-more.more c.target.ensures c.factor.ensures (c.in_ok-more.ensures {u = tt})
-    c.unwrap_or.result c.whole.result c.split_row-split.result.entry c.split_row-split.ensures.entry c.whole.ensures c.unwrap_or.ensures
-    c.requires.0 c.in_ok-sum.sum c.split_row-split.result.before.now c.split_row-split.result.behind.now c.push.new.self.items c.new.result c.target-in-loop-x.result
-    c.requires.1 (c.in_ok-sum.ensures {u = tt}) c.split_row-split.ensures.before c.split_row-split.ensures.behind c.target-in-loop-x.ensures c.new.ensures
-    ((c.in_ok-push.ensures {u = tt}).items ∙ ap (λ (xs : List Entry). xs ++ c.new.result ∷ []) (c.in_ok-extend_from_slice.ensures {u = tt}).items)
+    merged-more c.args.times.now c.args.source.now c.loop-x.x-index c.x-item.result c.loop-x.rest.now c.loop-x.sums.items _ c.loop-x-test.true c.x-item.is c.loop-x.invariant
+    c.requires.0 c.in_ok-rest.rest.now c.merge_entry.new.sums.items c.requires.1 (c.in_ok-rest.ensures {u = tt}).ok

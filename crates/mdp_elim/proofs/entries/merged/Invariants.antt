@@ -1,6 +1,5 @@
 use Rattle.std.proofs.Common.{◌≡◌, drop}
-use Rattle.mdp_elim.specs.Entries.{plus_row}
-use Rattle.mdp_elim.proofs.Merge.{after}
+use Rattle.mdp_elim.specs.Entries.{after, plus_row}
 use Rattle.mdp_elim.proofs.entries.merged.Given as goal
 
 abbrev pub invariant-loop-x : goal.invariant-loop-x

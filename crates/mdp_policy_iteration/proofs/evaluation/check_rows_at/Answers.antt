@@ -4,6 +4,7 @@ use Rattle.mdp_policy_iteration.specs.Path.{evaluating, fits}
 use Rattle.mdp_policy_iteration.proofs.NodesAmong.{so_far-start, so_far-next, so_far-all, visited-below}
 use Rattle.mdp_policy_iteration.proofs.Results.{all_pass-refused}
 use Rattle.mdp_policy_iteration.proofs.UpTo.{all_pass-from}
+use Rattle.mdp_policy_iteration.proofs.Chain.{can_take}
 use Rattle.mdp_policy_iteration.proofs.evaluation.check_rows_at.Goals as goal
 
 pub loop-s-init : goal.loop-s-init
@@ -29,3 +30,12 @@ returns g c =
     let p = g.P.ShortestPath.problem c.args.problem.now in
     all_pass-from (fits p c.args.policy.now) (evaluating c.args.policy.now) (count p)
     (so_far-all c.args.nodes.now (count p) (λ s. fits p c.args.policy.now s ≡ true) c.loop-s.s-index (omega (arith, c.loop-s.auto.s-index-end, c.loop-s-test.false)) c.loop-s.invariant)
+
+pub bounds-policy-s : goal.bounds-policy-s
+bounds-policy-s g c = omega (arith, c.requires.in_range c.loop-s.s-index 0 c.loop-s-test.true, c.requires.policy.one_each)
+
+pub fits-requires-clause-node : goal.fits-requires-clause-node
+fits-requires-clause-node g c = c.requires.in_range c.loop-s.s-index 0 c.loop-s-test.true
+
+pub fits-requires-clause-choice : goal.fits-requires-clause-choice
+fits-requires-clause-choice g c = can_take (g.P.ShortestPath.problem c.args.problem.now) c.args.policy.now c.requires.policy (get_or c.args.nodes.now c.loop-s.s-index 0) (c.requires.in_range c.loop-s.s-index 0 c.loop-s-test.true)

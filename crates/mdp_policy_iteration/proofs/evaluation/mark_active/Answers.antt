@@ -1,7 +1,8 @@
-use Rattle.std.proofs.Common.{◌≡◌, ◌+◌, List, Bool, false, sym, subst, arith}
+use Rattle.std.proofs.Common.{◌≡◌, ◌+◌, List, Bool, false, get_or, sym, subst, arith}
 use Rattle.std.proofs.lemmas.List.FromFn.{fill_by_all}
 use Rattle.mdp_policy_iteration.specs.Problem.{count, goes_on, taken}
 use Rattle.mdp_policy_iteration.proofs.NodesAmong.{AreMade, made-start, made-next, made-all}
+use Rattle.mdp_policy_iteration.proofs.Chain.{can_take}
 use Rattle.mdp_policy_iteration.proofs.evaluation.mark_active.Goals as goal
 
 pub loop-s-init : goal.loop-s-init
@@ -25,3 +26,12 @@ returns g c =
     fill_by_all (λ s. goes_on (taken p c.args.policy.now s)) c.loop-s.active (count p) false c.loop-s.invariant.len
     (made-all c.args.nodes.now false (count p) (λ s b. b ≡ goes_on (taken p c.args.policy.now s)) c.loop-s.s-index c.loop-s.active
     (omega (arith, c.loop-s.auto.s-index-end, c.loop-s-test.false)) c.loop-s.invariant)
+
+pub bounds-policy-s : goal.bounds-policy-s
+bounds-policy-s g c = omega (arith, c.requires.in_range c.loop-s.s-index 0 c.loop-s-test.true, c.requires.policy.one_each)
+
+pub goes_on-requires-clause-node : goal.goes_on-requires-clause-node
+goes_on-requires-clause-node g c = c.requires.in_range c.loop-s.s-index 0 c.loop-s-test.true
+
+pub goes_on-requires-clause-choice : goal.goes_on-requires-clause-choice
+goes_on-requires-clause-choice g c = can_take (g.P.ShortestPath.problem c.args.problem.now) c.args.policy.now c.requires.policy (get_or c.args.nodes.now c.loop-s.s-index 0) (c.requires.in_range c.loop-s.s-index 0 c.loop-s-test.true)

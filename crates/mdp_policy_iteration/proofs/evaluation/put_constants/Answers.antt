@@ -55,3 +55,21 @@ returns-clause-made g c =
     up_to-from (constant p c.args.policy.now) c.loop-s.constants (of_int (pos 0)) (count p) c.loop-s.invariant.len
     (made-all c.args.nodes.now (of_int (pos 0)) (count p) (λ s v. constant p c.args.policy.now s ≡ Ok v) c.loop-s.s-index c.loop-s.constants
     (omega (arith, c.loop-s.auto.s-index-end, c.loop-s-test.false)) c.loop-s.invariant)
+
+pub bounds-constants-s : goal.bounds-constants-s
+bounds-constants-s g c = omega (arith, c.requires.in_range c.loop-s.s-index 0 c.loop-s-test.true, c.loop-s.invariant.len)
+
+pub at_node-requires : goal.at_node-requires
+at_node-requires g c = omega (arith, c.requires.in_range c.loop-s.s-index 0 c.loop-s-test.true, c.requires.policy.one_each)
+
+pub constant_at-constant-requires-clause-node : goal.constant_at-constant-requires-clause-node
+constant_at-constant-requires-clause-node g c = c.requires.in_range c.loop-s.s-index 0 c.loop-s-test.true
+
+pub constant_at-constant-requires-clause-policy : goal.constant_at-constant-requires-clause-policy
+constant_at-constant-requires-clause-policy g c = c.requires.policy
+
+pub constant_at-constant-requires-clause-fit : goal.constant_at-constant-requires-clause-fit
+constant_at-constant-requires-clause-fit g c = c.requires.fit
+
+pub constant_at-constant-requires-clause-values : goal.constant_at-constant-requires-clause-values
+constant_at-constant-requires-clause-values g c = c.requires.values

@@ -35,3 +35,12 @@ returns-clause-others g c = λ s l out.
     (made-all c.args.nodes.now (of_int (pos 0)) (count p) (IsStopValue p c.args.policy.now c.args.nodes.now c.args.values.now) c.loop-s.s-index c.loop-s.values
     (omega (arith, c.loop-s.auto.s-index-end, c.loop-s-test.false)) c.loop-s.invariant s l)
     out
+
+pub bounds-values-s : goal.bounds-values-s
+bounds-values-s g c = omega (arith, c.requires.in_range c.loop-s.s-index 0 c.loop-s-test.true, c.loop-s.invariant.len)
+
+pub stop_value-requires-clause-node : goal.stop_value-requires-clause-node
+stop_value-requires-clause-node g c = c.requires.in_range c.loop-s.s-index 0 c.loop-s-test.true
+
+pub stop_value-requires-clause-policy : goal.stop_value-requires-clause-policy
+stop_value-requires-clause-policy g c = c.requires.policy

@@ -19,3 +19,12 @@ returns-clause-step g c = λ n.
     makes_answer p c.args.policy.now c.evaluate.new.self.values (IsEvaluated.written (c.in_ok-evaluate.ensures {u = tt}).evaluated) n c.improvements.result
     (subst (λ (x : List ℚ). Answers (λ changes. spread (count p) changes.items) c.improvements.result (improvements p x)) c.values.ensures c.improvements.ensures.answers)
     c.requires.policy.one_each c.improvements.ensures.each
+
+pub evaluate-requires-clause-policy : goal.evaluate-requires-clause-policy
+evaluate-requires-clause-policy g c = c.requires.policy
+
+pub evaluate-requires-clause-leaves : goal.evaluate-requires-clause-leaves
+evaluate-requires-clause-leaves g c = c.requires.leaves
+
+pub evaluate-requires-clause-loops : goal.evaluate-requires-clause-loops
+evaluate-requires-clause-loops g c = c.requires.loops

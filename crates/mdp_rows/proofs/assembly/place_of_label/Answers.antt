@@ -1,9 +1,10 @@
-use Rattle.std.proofs.Common.{sym, ◌∙◌}
-use Rattle.mdp_rows.proofs.Assembled.Places.{first_found, none_found}
+use Rattle.std.proofs.Common.{nat_le, sym, arith}
+use Rattle.std.proofs.lemmas.Bool.{le-leb}
+use Rattle.std.proofs.lemmas.List.Sums.{position_or_len_is}
 use Rattle.mdp_rows.proofs.assembly.place_of_label.Goals as goal
 
-pub returns-in-Some : goal.returns-in-Some
-returns-in-Some c = first_found c.args.label _ c.args.places.now (sym c.in-Some.is ∙ c.first_from.ensures)
+pub returns-then-places-i : goal.returns-then-places-i
+returns-then-places-i c = sym (position_or_len_is (λ k. nat_le c.args.label k) c.args.places.now c.loop-i.i 0 (omega arith) c.loop-i.invariant (λ _. le-leb _ _ c.if-places-i.true))
 
-pub returns-in-None : goal.returns-in-None
-returns-in-None c = none_found c.args.label c.args.places.now (sym c.in-None.is ∙ c.first_from.ensures)
+pub returns : goal.returns
+returns c = sym (position_or_len_is (λ k. nat_le c.args.label k) c.args.places.now _ 0 (omega arith) (λ k l. c.loop-i.invariant k (omega arith)) (λ l. absurd (omega arith)))

@@ -5,34 +5,34 @@ use Rattle.smallvec.specs.SmallVec.{SmallVec}
 use Rattle.mdp_wide.specs.declared.unfinished.Unfinished.TheVariants as error
 use Rattle.mdp_elim.specs.Equation as spec
 use Rattle.mdp_elim.specs.Entries.{each}
-use Rattle.mdp_elim.specs.Elimination.{divided, substituted}
-use Rattle.mdp_elim.specs.Predecessors.{no_states, at, IsLinked}
+use Rattle.mdp_elim.specs.Elimination.{substituted}
+use Rattle.mdp_elim.specs.Predecessors.{no_states, IsLinked}
 use Rattle.mdp_elim.proofs.Equations.{eliminated-none_pivot}
 use Rattle.mdp_elim.proofs.Putting.{linked_suc, rest_linked, taken_smaller, pivot_below, whole, whole_linked, whole_none}
 use Rattle.mdp_elim.proofs.elimination.System.eliminate.Goals as goal
-use Rattle.mdp_elim.proofs.elimination.System.eliminate.Goals.{After-deref}
 
-pub returns-in_err-divide-clause-wide : goal.returns-in_err-divide-clause-wide
-returns-in_err-divide-clause-wide c = λ _.
-    let at_s : c.remove-equation.result ≡ at c.args.self.now.equations.items c.args.s = c.remove-equation.ensures.value
-    ∙ get_or_default c.args.self.now.equations.items c.args.s _ spec.no_equation (omega (arith, c.requires.linked.count)) in
-    eliminated-none_pivot c.args.s c.args.self.now.equations.items (subst (λ (e : spec.Equation). divided c.args.s e ≡ None) at_s (c.in_err-divide.ensures {u = tt}).wide)
+pub take_pivot-requires-clause-last : goal.take_pivot-requires-clause-last
+take_pivot-requires-clause-last c = c.requires.linked.count
+
+pub take_pivot-requires-clause-below : goal.take_pivot-requires-clause-below
+take_pivot-requires-clause-below c = c.requires.linked.down c.args.s (omega arith)
+
+pub take_pivot-requires-clause-other : goal.take_pivot-requires-clause-other
+take_pivot-requires-clause-other c = c.requires.pivot
+
+pub returns-in_err-pivot-clause-wide : goal.returns-in_err-pivot-clause-wide
+returns-in_err-pivot-clause-wide c = λ h.
+    let w : c.take_pivot.result ≡ Err (error.TooWide tt) = search rules in
+    eliminated-none_pivot c.args.s c.args.self.now.equations.items (c.take_pivot.ensures.wide w)
 
 pub substitute_in_each-requires-clause-linked : goal.substitute_in_each-requires-clause-linked
 substitute_in_each-requires-clause-linked c =
-    subst (λ (ls : List (SmallVec ℕ)). IsLinked c.args.s (c.args.s + 1) ls c.remove-equation.new.self.items) (sym c.remove-states.ensures.items)
+    subst (λ (ls : List (SmallVec ℕ)). IsLinked c.args.s (c.args.s + 1) ls c.take_pivot.new.equations.items) (sym c.remove-states.ensures.items)
     (subst (λ (es : List spec.Equation). IsLinked c.args.s (c.args.s + 1) (remove c.args.self.now.lists.items c.args.s) es)
-    (sym c.remove-equation.ensures.items) (rest_linked c.args.s c.args.self.now.lists.items c.args.self.now.equations.items c.requires.linked))
-
--- the pivot is the equation of s, divided
-made : (c : After-deref) → divided c.args.s (at c.args.self.now.equations.items c.args.s) ≡ Some c.in_ok-pivot.pivot
-made c =
-    let at_s : c.remove-equation.result ≡ at c.args.self.now.equations.items c.args.s = c.remove-equation.ensures.value
-    ∙ get_or_default c.args.self.now.equations.items c.args.s _ spec.no_equation (omega (arith, c.requires.linked.count)) in
-    subst (λ (e : spec.Equation). divided c.args.s e ≡ Some c.divide.new.self) at_s (c.in_ok-divide.ensures {u = tt}).ok ∙ ap Some (sym (c.in_ok-pivot.ensures {u = tt}))
+    (sym (c.in_ok-pivot.ensures {u = tt}).rest) (rest_linked c.args.s c.args.self.now.lists.items c.args.self.now.equations.items c.requires.linked))
 
 pub substitute_in_each-requires-clause-pivot : goal.substitute_in_each-requires-clause-pivot
-substitute_in_each-requires-clause-pivot c = pivot_below c.args.s c.args.self.now.lists.items c.args.self.now.equations.items c.requires.linked c.in_ok-pivot.pivot (made c)
+substitute_in_each-requires-clause-pivot c = pivot_below c.args.s c.args.self.now.lists.items c.args.self.now.equations.items c.requires.linked c.in_ok-pivot.pivot (c.in_ok-pivot.ensures {u = tt}).pivot
 
 pub substitute_in_each-requires-clause-smaller : goal.substitute_in_each-requires-clause-smaller
 substitute_in_each-requires-clause-smaller c =
@@ -45,18 +45,18 @@ substitute_in_each-requires-clause-smaller c =
 pub returns-in_err-substitute_in_each-clause-wide : goal.returns-in_err-substitute_in_each-clause-wide
 returns-in_err-substitute_in_each-clause-wide c = λ h.
     let w : c.substitute_in_each.result ≡ Err (error.TooWide tt) = search rules in
-    whole_none c.args.s c.args.self.now.lists.items c.args.self.now.equations.items c.requires.linked c.in_ok-pivot.pivot (made (goal.at.returns-in_err-substitute_in_each-clause-wide c).After-deref)
-    (subst (λ (es : List spec.Equation). each (substituted c.args.s c.in_ok-pivot.pivot) es ≡ None) c.remove-equation.ensures.items (c.substitute_in_each.ensures.wide w))
+    whole_none c.args.s c.args.self.now.lists.items c.args.self.now.equations.items c.requires.linked c.in_ok-pivot.pivot (c.in_ok-pivot.ensures {u = tt}).pivot
+    (subst (λ (es : List spec.Equation). each (substituted c.args.s c.in_ok-pivot.pivot) es ≡ None) (c.in_ok-pivot.ensures {u = tt}).rest (c.substitute_in_each.ensures.wide w))
 
 pub returns-clause-ok : goal.returns-clause-ok
 returns-clause-ok c =
-    whole c.args.s c.args.self.now.lists.items c.args.self.now.equations.items c.requires.linked c.in_ok-pivot.pivot (made (goal.at.returns-clause-ok c).After-deref) c.substitute_in_each.new.self.equations.items
+    whole c.args.s c.args.self.now.lists.items c.args.self.now.equations.items c.requires.linked c.in_ok-pivot.pivot (c.in_ok-pivot.ensures {u = tt}).pivot c.substitute_in_each.new.self.equations.items
     (subst (λ (es : List spec.Equation). each (substituted c.args.s c.in_ok-pivot.pivot) es ≡ Some c.substitute_in_each.new.self.equations.items)
-    c.remove-equation.ensures.items (c.in_ok-substitute_in_each.ensures {u = tt}).ok)
+    (c.in_ok-pivot.ensures {u = tt}).rest (c.in_ok-substitute_in_each.ensures {u = tt}).ok)
 
 pub returns-clause-linked : goal.returns-clause-linked
 returns-clause-linked c =
-    whole_linked c.args.s c.args.self.now.lists.items c.args.self.now.equations.items c.requires.linked c.in_ok-pivot.pivot (made (goal.at.returns-clause-linked c).After-deref) c.substitute_in_each.new.self.equations.items
+    whole_linked c.args.s c.args.self.now.lists.items c.args.self.now.equations.items c.requires.linked c.in_ok-pivot.pivot (c.in_ok-pivot.ensures {u = tt}).pivot c.substitute_in_each.new.self.equations.items
     (subst (λ (es : List spec.Equation). each (substituted c.args.s c.in_ok-pivot.pivot) es ≡ Some c.substitute_in_each.new.self.equations.items)
-    c.remove-equation.ensures.items (c.in_ok-substitute_in_each.ensures {u = tt}).ok)
+    (c.in_ok-pivot.ensures {u = tt}).rest (c.in_ok-substitute_in_each.ensures {u = tt}).ok)
     c.substitute_in_each.new.self.lists.items (c.in_ok-substitute_in_each.ensures {u = tt}).linked

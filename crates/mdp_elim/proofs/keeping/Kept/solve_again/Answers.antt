@@ -7,7 +7,7 @@ use Rattle.mdp_elim.proofs.KeptSolution.{solved-solution}
 use Rattle.mdp_elim.specs.Equation as spec
 use Rattle.mdp_elim.specs.Predecessors.{at}
 use Rattle.mdp_elim.specs.System.{system}
-use Rattle.mdp_elim.specs.Kept.{Kept, CanServe, AreSolved, StaySolved, StayOutside, values_by}
+use Rattle.mdp_elim.specs.Kept.{Kept, CanServe, AreSolved, LeadToSmaller, StaySolved, StayOutside, values_by}
 use Rattle.mdp_elim.proofs.Leaving.{system-len}
 use Rattle.mdp_elim.proofs.Others.{serve-solved, serve-outside, outside-kept}
 use Rattle.mdp_elim.proofs.keeping.Kept.solve_again.Goals as goal
@@ -77,3 +77,27 @@ returns-clause-wide g c = λ s h.
     let len = system-len rows c.args.active.now c.requires.leaves.0 c.known.ensures c.requires.active c.requires.leaves.1 columns in
     let d : c.deref.result.now ≡ c.solve_states.new.solved = c.deref.ensures.value ∙ with_items_is c.self.inside.solved c.solve_states.new.solved (omega arith) in
     solution_by (system rows c.args.active.now columns) c.solve_states.new.solved c.deref.result.now (length rows) _ len (c.in_ok-solve_states.ensures {u = tt}).ok d (c.evaluate_states.ensures.wide s h)
+
+pub solve_states-requires-clause-active : goal.solve_states-requires-clause-active
+solve_states-requires-clause-active g c = c.requires.active
+
+pub solve_states-requires-clause-ascend : goal.solve_states-requires-clause-ascend
+solve_states-requires-clause-ascend g c = c.requires.ascend
+
+pub solve_states-requires-clause-columns : goal.solve_states-requires-clause-columns
+solve_states-requires-clause-columns g c = c.requires.columns
+
+pub solve_states-requires-clause-in_range : goal.solve_states-requires-clause-in_range
+solve_states-requires-clause-in_range g c = c.requires.in_range
+
+pub solve_states-requires-clause-leaves : goal.solve_states-requires-clause-leaves
+solve_states-requires-clause-leaves g c = c.requires.leaves
+
+pub evaluate_states-requires-clause-ascend : goal.evaluate_states-requires-clause-ascend
+evaluate_states-requires-clause-ascend g c = c.requires.ascend
+
+pub evaluate_states-requires-clause-down : goal.evaluate_states-requires-clause-down
+evaluate_states-requires-clause-down g c =
+    let d : c.deref.result.now ≡ c.solve_states.new.solved = c.deref.ensures.value ∙ with_items_is c.self.inside.solved c.solve_states.new.solved (omega arith) in
+    let ok = (c.in_ok-solve_states.ensures {u = tt}).ok in
+    subst (λ es. LeadToSmaller es) (sym d) (λ s l. ok.down s (omega (arith, ok.count, l)))

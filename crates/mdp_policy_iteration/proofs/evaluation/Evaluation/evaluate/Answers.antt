@@ -6,9 +6,9 @@ use Rattle.mdp_elim.specs.System.{is_active}
 use Rattle.mdp_elim.specs.Kept as elimination
 use Rattle.mdp_policy_iteration.specs.Problem.{count}
 use Rattle.mdp_policy_iteration.specs.Path.{evaluating, fits}
-use Rattle.mdp_policy_iteration.specs.Evaluated.{Evaluation, equations_of}
+use Rattle.mdp_policy_iteration.specs.Evaluated.{Evaluation, StopsWith, equations_of}
 use Rattle.mdp_policy_iteration.proofs.Results.{all_pass-at}
-use Rattle.mdp_policy_iteration.proofs.EvaluatedAgain.{written_back, kept-len, filled-elsewhere, others-marked, others-stop, others-constant, others-filled, serves-elimination}
+use Rattle.mdp_policy_iteration.proofs.EvaluatedAgain.{written_back, kept-len, filled-elsewhere, others-fit, others-marked, others-stop, others-constant, others-filled, serves-elimination}
 use Rattle.mdp_policy_iteration.proofs.evaluation.Evaluation.evaluate.Goals as goal
 
 pub mark_active-requires-clause-others : goal.mark_active-requires-clause-others
@@ -80,3 +80,95 @@ returns-clause-others g c = λ s out.
     ap (λ (v : List ℚ). value_at (take c.self.inside.values.len (c.put_values.new.values ++ drop (length c.put_values.new.values) v)) s) first
     ∙ ap (λ (v : List ℚ). value_at v s) (written_back c.self.inside.values.len c.put_values.new.values c.put_stop_values.new.values again (n ∙ sym same))
     ∙ filled-elsewhere p c.args.nodes.now c.args.policy.now c.args.self.now c.requires.others c.values.result.now kept c.put_values.new.values c.put_values.ensures s out
+
+pub check_rows_at-requires-clause-others : goal.check_rows_at-requires-clause-others
+check_rows_at-requires-clause-others g c = others-fit (g.P.ShortestPath.problem c.args.problem.now) c.args.nodes.now c.args.policy.now c.args.self.now c.requires.others
+
+pub check_rows_at-requires-clause-policy : goal.check_rows_at-requires-clause-policy
+check_rows_at-requires-clause-policy g c = c.requires.policy
+
+pub check_rows_at-requires-clause-in_range : goal.check_rows_at-requires-clause-in_range
+check_rows_at-requires-clause-in_range g c = c.requires.in_range
+
+pub mark_active-requires-clause-policy : goal.mark_active-requires-clause-policy
+mark_active-requires-clause-policy g c = c.requires.policy
+
+pub mark_active-requires-clause-in_range : goal.mark_active-requires-clause-in_range
+mark_active-requires-clause-in_range g c = c.requires.in_range
+
+pub put_stop_values-requires-clause-policy : goal.put_stop_values-requires-clause-policy
+put_stop_values-requires-clause-policy g c = c.requires.policy
+
+pub put_stop_values-requires-clause-in_range : goal.put_stop_values-requires-clause-in_range
+put_stop_values-requires-clause-in_range g c = c.requires.in_range
+
+pub put_constants-requires-clause-policy : goal.put_constants-requires-clause-policy
+put_constants-requires-clause-policy g c = c.requires.policy
+
+pub put_constants-requires-clause-in_range : goal.put_constants-requires-clause-in_range
+put_constants-requires-clause-in_range g c = c.requires.in_range
+
+pub put_values-requires-clause-policy : goal.put_values-requires-clause-policy
+put_values-requires-clause-policy g c = c.requires.policy
+
+pub put_values-requires-clause-in_range : goal.put_values-requires-clause-in_range
+put_values-requires-clause-in_range g c = c.requires.in_range
+
+pub check_rows_at-requires-clause-ascend : goal.check_rows_at-requires-clause-ascend
+check_rows_at-requires-clause-ascend g c = c.requires.ascend
+
+pub put_constants-requires-clause-ascend : goal.put_constants-requires-clause-ascend
+put_constants-requires-clause-ascend g c = c.requires.ascend
+
+pub solve_at-requires-clause-ascend : goal.solve_at-requires-clause-ascend
+solve_at-requires-clause-ascend g c = c.requires.ascend
+
+pub solve_at-requires-clause-in_range : goal.solve_at-requires-clause-in_range
+solve_at-requires-clause-in_range g c = c.requires.in_range
+
+pub solve_at-requires-clause-leaves : goal.solve_at-requires-clause-leaves
+solve_at-requires-clause-leaves g c = c.requires.leaves
+
+pub mark_active-requires-clause-room : goal.mark_active-requires-clause-room
+mark_active-requires-clause-room g c = ap (λ (e : Evaluation). length e.active) c.self.view_is ∙ c.requires.others.room.active
+
+pub put_stop_values-requires-clause-room : goal.put_stop_values-requires-clause-room
+put_stop_values-requires-clause-room g c = ap length c.deref_mut.ensures.value ∙ ap (λ (e : Evaluation). length e.values) c.self.view_is ∙ c.requires.others.room.values
+
+pub put_constants-requires-clause-room : goal.put_constants-requires-clause-room
+put_constants-requires-clause-room g c = ap length c.deref_mut-2.ensures.value ∙ ap (λ (e : Evaluation). length e.constants) c.self.view_is ∙ c.requires.others.room.constants
+
+pub put_constants-requires-clause-active : goal.put_constants-requires-clause-active
+put_constants-requires-clause-active g c = c.mark_active.ensures
+
+pub solve_at-requires-clause-active : goal.solve_at-requires-clause-active
+solve_at-requires-clause-active g c = c.mark_active.ensures
+
+pub put_constants-requires-clause-values : goal.put_constants-requires-clause-values
+put_constants-requires-clause-values g c =
+    let n : c.self.inside.values.len ≡ length c.self.inside.values.items = let k = c.self.inside.values.ok.0 in omega arith in
+    let same : length c.put_stop_values.new.values ≡ length c.self.inside.values.items = c.put_stop_values.auto.values ∙ ap length c.deref_mut.ensures.value in
+    let first = written_back c.self.inside.values.len c.put_stop_values.new.values c.self.inside.values.items same n in
+    ap length (c.deref.ensures.value ∙ first) ∙ same ∙ ap (λ (e : Evaluation). length e.values) c.self.view_is ∙ c.requires.others.room.values
+
+pub put_constants-requires-clause-stops : goal.put_constants-requires-clause-stops
+put_constants-requires-clause-stops g c = λ s l.
+    let n : c.self.inside.values.len ≡ length c.self.inside.values.items = let k = c.self.inside.values.ok.0 in omega arith in
+    let same : length c.put_stop_values.new.values ≡ length c.self.inside.values.items = c.put_stop_values.auto.values ∙ ap length c.deref_mut.ensures.value in
+    let first = written_back c.self.inside.values.len c.put_stop_values.new.values c.self.inside.values.items same n in
+    subst (λ (v : List ℚ). StopsWith (g.P.ShortestPath.problem c.args.problem.now) c.args.policy.now v s) (sym (c.deref.ensures.value ∙ first)) (c.put_stop_values.ensures.stops s l)
+
+pub put_values-requires-clause-room : goal.put_values-requires-clause-room
+put_values-requires-clause-room g c =
+    let n : c.self.inside.values.len ≡ length c.self.inside.values.items = let k = c.self.inside.values.ok.0 in omega arith in
+    let same : length c.put_stop_values.new.values ≡ length c.self.inside.values.items = c.put_stop_values.auto.values ∙ ap length c.deref_mut.ensures.value in
+    let first = written_back c.self.inside.values.len c.put_stop_values.new.values c.self.inside.values.items same n in
+    ap length (c.deref_mut-3.ensures.value ∙ first) ∙ same ∙ ap (λ (e : Evaluation). length e.values) c.self.view_is ∙ c.requires.others.room.values
+
+pub solve_at-requires-clause-constants : goal.solve_at-requires-clause-constants
+solve_at-requires-clause-constants g c =
+    let new = c.put_constants.new.constants in
+    let same : length new ≡ length c.self.inside.constants.items = c.put_constants.auto.constants ∙ ap length c.deref_mut-2.ensures.value in
+    let n : c.self.inside.constants.len ≡ length c.self.inside.constants.items = let k = c.self.inside.constants.ok.0 in omega arith in
+    ap length (written_back c.self.inside.constants.len new c.self.inside.constants.items same n) ∙ same ∙ ap (λ (e : Evaluation). length e.constants) c.self.view_is
+    ∙ c.requires.others.room.constants

@@ -1,5 +1,5 @@
-use Rattle.std.proofs.Common.{inr, List, ℕ, [], ◌∷◌, ◌++◌, ap, ◌∙◌}
-use Rattle.mdp_rows.proofs.Assembled.Drafts.{no_state_to_close, state_refused, state_kept, is_with_state}
+use Rattle.std.proofs.Common.{inl, inr, refl, List, ℕ, [], ◌∷◌, ◌++◌, length, ap, ◌∙◌, arith}
+use Rattle.mdp_rows.proofs.Assembled.Drafts.{no_state_to_close, state_refused, state_kept, is_with_state, is_with_room}
 use Rattle.mdp_rows.proofs.Assembled.Outcomes.{at_ok}
 use Rattle.mdp_rows.proofs.assembly.Assembly.end_state.Goals as goal
 
@@ -28,3 +28,25 @@ returns c =
       follows = state_kept c.self.inside _ _ c.len-end.result c.self.invariant c.in-InState.is c.len-end.ensures c.if-end-self.false g
           (p ∙ ap (λ (xs : List ℕ). xs ++ c.len-end.result ∷ []) c.reserve.ensures.items) _ c.self.view_is;
     }
+
+pub push_state-requires-clause-few_states : goal.push_state-requires-clause-few_states
+push_state-requires-clause-few_states c = omega (arith, c.self.invariant.states.labelled, c.self.invariant.room, c.self.invariant.states.few)
+
+pub push_state-requires-clause-few_places : goal.push_state-requires-clause-few_places
+push_state-requires-clause-few_places c =
+    omega (
+      arith,
+      ap length c.deref.ensures.value,
+      c.self.invariant.states.labelled,
+      c.self.invariant.states.label_total,
+      c.self.invariant.room,
+      c.self.invariant.states.few,
+      c.self.invariant.head.few_places,
+      c.self.invariant.head.few_calls,
+    )
+
+pub invariant_of-self : goal.invariant_of-self
+invariant_of-self c = is_with_room c.self.inside c.reserve.new.self c.self.invariant c.reserve.ensures.items
+
+pub returns-then-is_err : goal.returns-then-is_err
+returns-then-is_err c = record { follows = inl refl }

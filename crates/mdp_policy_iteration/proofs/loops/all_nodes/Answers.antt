@@ -1,0 +1,6 @@
+use Rattle.std.proofs.Common.{◌∙◌, ◌++◌, ◌∷◌, [], ℕ, List, sym, ap}
+use Rattle.mdp_math.proofs.Lists.{range_more}
+use Rattle.mdp_policy_iteration.proofs.loops.all_nodes.Goals as goal
+
+pub loop-s-preserved : goal.loop-s-preserved
+loop-s-preserved c = (c.in_ok-push.ensures {u = tt}).items ∙ ap (λ (xs : List ℕ). xs ++ c.loop-s.s ∷ []) c.loop-s.invariant ∙ sym (range_more c.loop-s.s)
