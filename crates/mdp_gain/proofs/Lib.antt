@@ -19,3 +19,4 @@ mod OnlyState
 mod OnlyPath
 mod OnlyMakes
 mod OnlyAlone
+mod Alls

@@ -30,14 +30,19 @@ fn has_other(targets: &[u32], parts: &[u32], part: u32) -> bool
     requires { All (λ t. t < length parts.now) targets.now }
     ensures { result ≡ list_any (λ t. not (slice_index parts.now t == part)) targets.now }
 {
-    targets.iter().any(|t| parts[*t as usize] != part)
+    for t in targets {
+        if is_other(part, parts[*t as usize]) {
+            return true;
+        }
+    }
+    false
 }
 
-/// Whether two choices differ.
-fn is_other(choice: u32, other: u32) -> bool
-    ensures { result ≡ not (other == choice) }
+/// Whether two numbers differ.
+pub(crate) fn is_other(number: u32, other: u32) -> bool
+    ensures { result ≡ not (other == number) }
 {
-    other != choice
+    other != number
 }
 
 /// For each state whether two policies differ there.

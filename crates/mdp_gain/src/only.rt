@@ -8,6 +8,7 @@ ghost use Rattle.mdp_gain.specs.Code.{component_in};
 ghost use Rattle.mdp_gain.specs.Only.{stays};
 ghost use Rattle.mdp_gain.specs.Query.{plain, EndsSo};
 
+use crate::classes::is_other;
 use crate::component::EndComponent;
 use crate::inner::Inner;
 use crate::only_round::Settled;
@@ -21,7 +22,12 @@ use std::alloc::{AllocError, Global};
 fn are_all(targets: &[u32], s: u32) -> bool
     ensures { result ≡ list_all (λ t. t == s) targets.now }
 {
-    targets.iter().all(|t| *t == s)
+    for t in targets {
+        if is_other(s, *t) {
+            return false;
+        }
+    }
+    true
 }
 
 impl EndComponent<'_> {
@@ -43,7 +49,12 @@ impl EndComponent<'_> {
         requires { s < count (component_in self.now) }
         ensures { result ≡ list_all (stays (component_in self.now) s) (range_with_len 0 (length (choices_at (component_in self.now) s))) }
     {
-        (0..self.choices(s)).all(|c| self.stays(s, c))
+        for c in 0..self.choices(s) {
+            if !self.stays(s, c) {
+                return false;
+            }
+        }
+        true
     }
 }
 

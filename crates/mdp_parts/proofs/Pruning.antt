@@ -117,6 +117,15 @@ module _ (m : Mdp) where
       ∙ list_any-by (λ (p : Pred). (p.state == Pred.state (get_or xs i d)) && (p.choice == Pred.choice (get_or xs i d))) xs d i l
       (and-both _ _ (eq-eqb (Pred.state (get_or xs i d)) (Pred.state (get_or xs i d)) refl) (eq-eqb (Pred.choice (get_or xs i d)) (Pred.choice (get_or xs i d)) refl)))
 
+  -- and is one of the lists
+  pub pred_within : (lists : List (List Bool)) → AreChoices m lists → (preds : List (List Pred)) → preds ≡ map (preds_to m) (range_with_len 0 (states_of m)) → (t : ℕ)
+      → t < states_of m → (xs : List Pred) → xs ≡ get_or preds t [] → (i : ℕ) (d : Pred) → i < length xs
+      → (Pred.state (get_or xs i d) < length lists) × (Pred.choice (get_or xs i d) < length (get_or lists (Pred.state (get_or xs i d)) []))
+  pred_within lists sizes preds are t h xs e i d l =
+      let w = pred_at preds are t h xs e i d l in
+      let k = AreChoices.width sizes (Pred.state (get_or xs i d)) w.0 in
+      (omega (arith, w.0, AreChoices.count sizes), omega (arith, w.1, k))
+
   -- what was forbidden so far, and the states that are lost
   pub record IsForbiddingInto (old now : List (List Bool)) (first old_lost lost : List ℕ) : Type 0 where
     pub pruned : IsPruned m old now

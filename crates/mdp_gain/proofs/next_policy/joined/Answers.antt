@@ -1,16 +1,10 @@
-use Rattle.std.proofs.Common.{◌∙◌, ◌++◌, ◌∷◌, [], List, ℕ, sym, ap₂, zero-add, arith}
-use Rattle.std.proofs.lemmas.List.FromFn.{map-range_with_len_more}
-use Rattle.mdp_graph.proofs.Collecting.{all_collected}
+use Rattle.std.proofs.Common.{arith}
+use Rattle.mdp_graph.proofs.Collecting.{collected, all_collected}
 use Rattle.std.proofs.Common.{length}
 use Rattle.mdp_gain.proofs.next_policy.joined.Goals as goal
 
 pub loop-s-preserved : goal.loop-s-preserved
-loop-s-preserved c =
-    (c.in_ok-push.ensures {u = tt}).items ∙ ap₂ (λ (xs : List ℕ) (x : ℕ). xs ++ x ∷ []) c.loop-s.invariant c.joined_at.ensures
-    ∙ sym (map-range_with_len_more _ 0 c.loop-s.s c.loop-s.s (zero-add c.loop-s.s))
-
-pub loop-s-init : goal.loop-s-init
-loop-s-init c = c.new-both.ensures.items
+loop-s-preserved c = collected _ c.loop-s.s _ _ _ c.loop-s.invariant (c.in_ok-push.ensures {u = tt}).items c.joined_at.ensures
 
 pub returns : goal.returns
 returns c = all_collected _ (length c.args.outside.now) c.loop-s.s _ c.loop-s.invariant (omega arith)

@@ -1,15 +1,9 @@
-use Rattle.std.proofs.Common.{◌∙◌, ◌++◌, ◌∷◌, [], List, Bool, sym, ap₂, refl, zero-add, arith}
-use Rattle.std.proofs.lemmas.List.FromFn.{map-range_with_len_more}
-use Rattle.mdp_graph.proofs.Collecting.{all_collected}
+use Rattle.std.proofs.Common.{◌∙◌, refl, arith}
+use Rattle.mdp_graph.proofs.Collecting.{collected, all_collected}
 use Rattle.mdp_gain.proofs.start.one_state.Goals as goal
 
 pub loop-s-preserved : goal.loop-s-preserved
-loop-s-preserved c =
-    (c.in_ok-push.ensures {u = tt}).items ∙ ap₂ (λ (xs : List Bool) (x : Bool). xs ++ x ∷ []) c.loop-s.invariant (refl)
-    ∙ sym (map-range_with_len_more _ 0 c.loop-s.s c.loop-s.s (zero-add c.loop-s.s))
-
-pub loop-s-init : goal.loop-s-init
-loop-s-init c = c.new-marks.ensures.items
+loop-s-preserved c = collected _ c.loop-s.s _ _ _ c.loop-s.invariant (c.in_ok-push.ensures {u = tt}).items refl
 
 pub returns : goal.returns
 returns c = c.from_values.ensures ∙ all_collected _ (c.args.states) c.loop-s.s _ c.loop-s.invariant (omega arith)

@@ -3,9 +3,6 @@ use Rattle.std.proofs.lemmas.List.{take_all}
 use Rattle.mdp_graph.proofs.Collecting.{mapped}
 use Rattle.mdp_graph.proofs.pass.marks_by.Goals as goal
 
-pub loop-rank-init : goal.loop-rank-init
-loop-rank-init c = c.in_ok-values.ensures.items
-
 pub loop-rank-preserved : goal.loop-rank-preserved
 loop-rank-preserved c =
     mapped is_some c.args.ranks.now c.loop-rank.rank-index None c.loop-rank.values.items _ _ c.loop-rank.invariant c.in_ok-push.ensures.items c.loop-rank-test.true c.is_some.ensures

@@ -4,9 +4,6 @@ use Rattle.mdp_graph.specs.Choices.{plain_rank}
 use Rattle.mdp_graph.proofs.Collecting.{mapped}
 use Rattle.mdp_graph.proofs.pass.plain_ranks.Goals as goal
 
-pub loop-rank-init : goal.loop-rank-init
-loop-rank-init c = c.in_ok-plain.ensures.items
-
 pub loop-rank-preserved : goal.loop-rank-preserved
 loop-rank-preserved c =
     mapped plain_rank c.args.ranks.now c.loop-rank.rank-index None c.loop-rank.plain.items _ _ c.loop-rank.invariant c.in_ok-push.ensures.items c.loop-rank-test.true c.unwrap_or.ensures

@@ -8,6 +8,9 @@ use Rattle.mdp_quot.specs.Quotient.{rows_by}
 use Rattle.mdp_quot.specs.QuotientView.{row_in, rows_in}
 use Rattle.mdp_quot.specs.Sums.{IsClear}
 use Rattle.mdp_quot.specs.declared.node.Node.{Node}
+use Rattle.std.specs.List.{All, range_with_len}
+use Rattle.std.proofs.lemmas.List.{take_all}
+use Rattle.mdp_spec.specs.Mdp.{states_of, choices_at}
 use Rattle.mdp_quot.proofs.build.all_nodes.Goals as goal
 
 laid_more : {A : Type 0} (f : Node → A) (nodes new : List Node) (x : Node) (ys : List A) (y : A) → new ≡ nodes ++ x ∷ [] → map f nodes ≡ ys → f x ≡ y → map f new ≡ ys ++ y ∷ []
@@ -28,3 +31,29 @@ loop-q-preserved c =
           ∙ sym (map-range_with_len_more (λ k. rows_by c.args.model.now c.args.numbering.now.nodes.items k (get_or c.args.lists.now k [])) 0 c.loop-q.q c.loop-q.q (omega arith)),
       subst (λ (ns : List ℕ). IsClear (nodes_in ns) c.rows_of_node.new.sums.sums.items c.rows_of_node.new.sums.seen.items) c.deref.ensures.value c.in_ok-rows.ensures.clear,
     )
+
+pub rows_of_node-requires-clause-nodes : goal.rows_of_node-requires-clause-nodes
+rows_of_node-requires-clause-nodes c = ap length c.deref.ensures.value ∙ c.requires.nodes
+
+pub rows_of_node-requires-clause-below : goal.rows_of_node-requires-clause-below
+rows_of_node-requires-clause-below c = subst (λ (ns : List ℕ). All (λ k. k < nodes_in ns) ns) (sym c.deref.ensures.value) c.requires.below
+
+pub rows_of_node-requires-clause-exits : goal.rows_of_node-requires-clause-exits
+rows_of_node-requires-clause-exits c =
+    let h : c.loop-q.q < length c.args.lists.now = omega (arith, c.loop-q-test.true) in
+    let exits : c.as_slice-exits.result.now ≡ get_or c.args.lists.now c.loop-q.q [] = c.as_slice-exits.ensures ∙ c.index-lists-q.is ∙ get_or_default c.args.lists.now c.loop-q.q c.index-lists-q.result [] h in
+    subst (λ (xs : List Pred). All (λ x. (x.state < states_of c.args.model.now) × (x.choice < length (choices_at c.args.model.now x.state))) xs) (sym exits) (c.requires.exits c.loop-q.q [] h)
+
+pub rows_of_node-requires-clause-clear : goal.rows_of_node-requires-clause-clear
+rows_of_node-requires-clause-clear c =
+    subst (λ (ns : List ℕ). IsClear (nodes_in ns) c.loop-q.sums.sums.items c.loop-q.sums.seen.items) (sym c.deref.ensures.value) c.loop-q.invariant.3
+
+pub returns : goal.returns
+returns c = record {
+  components = c.loop-q.invariant.0 ∙ take_all c.loop-q.q c.args.numbering.now.components.items (omega (arith, c.requires.count, c.requires.components));
+  exits = c.loop-q.invariant.1 ∙ take_all c.loop-q.q c.args.lists.now (omega arith);
+  rows =
+      (let all : c.loop-q.q ≡ length c.args.lists.now = omega arith in
+      c.loop-q.invariant.2
+      ∙ ap (λ (n : ℕ). map (λ k. rows_by c.args.model.now c.args.numbering.now.nodes.items k (get_or c.args.lists.now k [])) (range_with_len 0 n)) all);
+}

@@ -22,9 +22,6 @@ loop-t-preserved c =
 pub loop-t-init : goal.loop-t-init
 loop-t-init c = rw c.new-met.ensures.items (met_none _ _ _)
 
-pub of-requires : goal.of-requires
-of-requires c = c.requires.layer c.loop-t.t-index 0 c.loop-t-test.true
-
 pub release_all-requires-clause-ranks : goal.release_all-requires-clause-ranks
 release_all-requires-clause-ranks c = omega (arith, c.loop-t.invariant.released.count, c.requires.ranks)
 

@@ -1,10 +1,9 @@
 use Rattle.std.proofs.Common.{sym, ◌∙◌, arith}
 use Rattle.mdp_rows.specs.Preds.{pair}
 use Rattle.mdp_graph.proofs.NextMet.{in_preds}
-use Rattle.mdp_parts.specs.Allowed.{AreChoices}
 use Rattle.mdp_parts.specs.Losing.{IsPruned}
 use Rattle.mdp_parts.proofs.Forbidding.{forbidden_sizes}
-use Rattle.mdp_parts.proofs.Pruning.{pruned_none, losing_kept, one_pruned, pred_at, into_more}
+use Rattle.mdp_parts.proofs.Pruning.{pruned_none, losing_kept, one_pruned, pred_at, pred_within, into_more}
 use Rattle.mdp_parts.proofs.losing.Losing.forbid_into.Goals.{then-at+in_ok-look_at, else-at}
 use Rattle.mdp_parts.proofs.losing.Losing.forbid_into.Goals as goal
 
@@ -13,14 +12,13 @@ of-pred-items-requires c = let n = in_preds c.args.model.now c.args.preds.now c.
 
 pub at-requires-clause-state : goal.at-requires-clause-state
 at-requires-clause-state c =
-    let w = pred_at c.args.model.now c.args.preds.now c.requires.preds c.args.t c.requires.state c.of-pred-items.result.now c.of-pred-items.ensures c.loop-pred.pred-index (pair 0 0) c.loop-pred-test.true in
-    omega (arith, w.0, AreChoices.count (IsPruned.sizes c.loop-pred.invariant.pruned))
+    (pred_within c.args.model.now c.loop-pred.allowed (IsPruned.sizes c.loop-pred.invariant.pruned)
+    c.args.preds.now c.requires.preds c.args.t c.requires.state c.of-pred-items.result.now c.of-pred-items.ensures c.loop-pred.pred-index (pair 0 0) c.loop-pred-test.true).0
 
 pub at-requires-clause-choice : goal.at-requires-clause-choice
 at-requires-clause-choice c =
-    let w = pred_at c.args.model.now c.args.preds.now c.requires.preds c.args.t c.requires.state c.of-pred-items.result.now c.of-pred-items.ensures c.loop-pred.pred-index (pair 0 0) c.loop-pred-test.true in
-    let k = AreChoices.width (IsPruned.sizes c.loop-pred.invariant.pruned) _ w.0 in
-    omega (arith, w.1, k)
+    (pred_within c.args.model.now c.loop-pred.allowed (IsPruned.sizes c.loop-pred.invariant.pruned)
+    c.args.preds.now c.requires.preds c.args.t c.requires.state c.of-pred-items.result.now c.of-pred-items.ensures c.loop-pred.pred-index (pair 0 0) c.loop-pred-test.true).1
 
 pub loop-pred-preserved : goal.loop-pred-preserved
 loop-pred-preserved c =
@@ -38,14 +36,13 @@ loop-pred-init c = record { pruned = pruned_none c.args.model.now c.args.allowed
 
 pub set-requires-clause-state : goal.set-requires-clause-state
 set-requires-clause-state c =
-    let w = pred_at c.args.model.now c.args.preds.now c.requires.preds c.args.t c.requires.state c.of-pred-items.result.now c.of-pred-items.ensures c.loop-pred.pred-index (pair 0 0) c.loop-pred-test.true in
-    omega (arith, w.0, AreChoices.count (IsPruned.sizes c.loop-pred.invariant.pruned))
+    (pred_within c.args.model.now c.loop-pred.allowed (IsPruned.sizes c.loop-pred.invariant.pruned)
+    c.args.preds.now c.requires.preds c.args.t c.requires.state c.of-pred-items.result.now c.of-pred-items.ensures c.loop-pred.pred-index (pair 0 0) c.loop-pred-test.true).0
 
 pub set-requires-clause-choice : goal.set-requires-clause-choice
 set-requires-clause-choice c =
-    let w = pred_at c.args.model.now c.args.preds.now c.requires.preds c.args.t c.requires.state c.of-pred-items.result.now c.of-pred-items.ensures c.loop-pred.pred-index (pair 0 0) c.loop-pred-test.true in
-    let k = AreChoices.width (IsPruned.sizes c.loop-pred.invariant.pruned) _ w.0 in
-    omega (arith, w.1, k)
+    (pred_within c.args.model.now c.loop-pred.allowed (IsPruned.sizes c.loop-pred.invariant.pruned)
+    c.args.preds.now c.requires.preds c.args.t c.requires.state c.of-pred-items.result.now c.of-pred-items.ensures c.loop-pred.pred-index (pair 0 0) c.loop-pred-test.true).1
 
 pub look_at-requires-clause-state : goal.look_at-requires-clause-state
 look_at-requires-clause-state c =
