@@ -16,24 +16,25 @@ pub(crate) struct Few {
     pub(crate) is_needed: Vec<bool>,
 }
 
-impl Few {
-    /// Flags the states of a list.
-    fn need_each(&mut self, states: &[u32]) {
-        for s in states {
-            if let Some(flag) = self.is_needed.get_mut(*s as usize) {
-                *flag = true;
-            }
+/// Flags the states of a list.
+fn flag_each(flags: &mut [bool], states: &[u32]) {
+    for s in states {
+        let place = *s as usize;
+        if place < flags.len() {
+            flags[place] = true;
         }
     }
+}
 
+impl Few {
     /// Takes in a state, and flags it and those that its choices lead to.
     fn take(&mut self, model: &Model, s: u32) -> Result<(), AllocError>
         requires { s < states_of model.now }
     {
         self.states.push(s)?;
-        self.need_each(&[s]);
+        flag_each(&mut self.is_needed, &[s]);
         for c in 0..model.choices(s) {
-            self.need_each(model.row(s, c).targets);
+            flag_each(&mut self.is_needed, model.row(s, c).targets);
         }
         Ok(())
     }

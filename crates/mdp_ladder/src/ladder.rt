@@ -84,7 +84,12 @@ fn held<S: Search>(search: &S, cert: S::Cert) -> Option<S::Cert>
 fn holds_at_each<S: Search>(search: &S, cert: &S::Cert, states: &[u32]) -> bool
     requires { S.is_sized search.now cert.now }
 {
-    states.iter().all(|s| search.holds_at(cert, *s))
+    for s in states {
+        if !search.holds_at(cert, *s) {
+            return false;
+        }
+    }
+    true
 }
 
 /// The simplest fractions between the bounds that the search proposed, as exact values, where the rules say yes to them: first at a few states.

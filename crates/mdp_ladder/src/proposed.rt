@@ -16,13 +16,20 @@ pub fn fraction(value: i128, one: i128) -> Frac {
     }
 }
 
+/// Copies items to the places of others.
+fn copy_over<T: Copy>(items: &mut [T], from: &[T]) {
+    for place in 0..items.len().min(from.len()) {
+        items[place] = from[place];
+    }
+}
+
 /// A number for each state: that of its place, or `u32::MAX` where there is none.
 pub fn numbers(alloc: Global, states: u32, values: &[u32]) -> Result<Vec<u32>, AllocError>
     ensures each { IfOk result (λ list. length list.items ≡ states) }
 {
-    (0..states)
-        .map(|s| values.get(s as usize).copied().unwrap_or(u32::MAX))
-        .collect(alloc)
+    let mut list = vec![in alloc; u32::MAX; states as usize]?;
+    copy_over(&mut list, values);
+    Ok(list)
 }
 
 /// The fractions of values in units of 1 over `one`, one for each state; 0 where there is none.
@@ -34,9 +41,11 @@ pub fn fractions(
 ) -> Result<Vec<Frac>, AllocError>
     ensures each { IfOk result (λ list. length list.items ≡ states) }
 {
-    (0..states)
-        .map(|s| fraction(values.get(s as usize).copied().unwrap_or(0), one))
-        .collect(alloc)
+    let mut list = vec![in alloc; Frac::whole(0); states as usize]?;
+    for place in 0..list.len().min(values.len()) {
+        list[place] = fraction(values[place], one);
+    }
+    Ok(list)
 }
 
 /// A value for each state, or none: those given, and none where there is none.
@@ -47,7 +56,7 @@ pub fn listed(
 ) -> Result<Vec<Option<Frac>>, AllocError>
     ensures each { IfOk result (λ list. length list.items ≡ states) }
 {
-    (0..states)
-        .map(|s| values.get(s as usize).copied().unwrap_or(None))
-        .collect(alloc)
+    let mut list = vec![in alloc; None; states as usize]?;
+    copy_over(&mut list, values);
+    Ok(list)
 }

@@ -122,14 +122,13 @@ fn simplest_of_units(lower: i128, upper: i128, one: i128) -> Frac {
     }
 }
 
-/// The value of a state, 0 where there is none.
-fn value_of(values: &[i128], s: u32) -> i128 {
-    values.get(s as usize).copied().unwrap_or(0)
-}
-
-/// Whether a state is flagged.
-fn is_flagged(flags: &[bool], s: u32) -> bool {
-    flags.get(s as usize).copied().unwrap_or(false)
+/// The item at a place, another one outside.
+fn item_at<T: Copy>(items: &[T], place: usize, other: T) -> T {
+    if place < items.len() {
+        items[place]
+    } else {
+        other
+    }
 }
 
 /// The simplest fraction of each flagged state from its lower to its upper value, in units of 1 over `one`; 0 of the others.
@@ -143,15 +142,14 @@ pub fn simplest_values(
 ) -> Result<Vec<Frac>, AllocError>
     ensures { IfOk result (λ values. length values.items ≡ states) }
 {
-    (0..states)
-        .map(|s| {
-            if is_flagged(is_sought, s) {
-                simplest_of_units(value_of(lower, s), value_of(upper, s), one)
-            } else {
-                Frac::whole(0)
-            }
-        })
-        .collect(alloc)
+    let mut list = vec![in alloc; Frac::whole(0); states as usize]?;
+    for place in 0..list.len().min(is_sought.len()) {
+        if is_sought[place] {
+            let (least, greatest) = (item_at(lower, place, 0), item_at(upper, place, 0));
+            list[place] = simplest_of_units(least, greatest, one);
+        }
+    }
+    Ok(list)
 }
 
 /// The simplest fraction from a lower to an upper value, where both are there; else the lower one.
@@ -167,11 +165,6 @@ fn capped(value: Option<Frac>, upper: Option<Frac>) -> Option<Frac> {
     if upper.is_some() { value } else { None }
 }
 
-/// The reward of a state; none where it is infinite, or there is no such state.
-fn reward_of(rewards: &[Option<Frac>], s: u32) -> Option<Frac> {
-    rewards.get(s as usize).copied().unwrap_or(None)
-}
-
 /// The simplest fraction of each flagged state from its lower to its upper value; the lower one where one of them is missing, and none of the others.
 pub fn simplest_rewards(
     alloc: Global,
@@ -182,15 +175,14 @@ pub fn simplest_rewards(
 ) -> Result<Vec<Option<Frac>>, AllocError>
     ensures { IfOk result (λ values. length values.items ≡ states) }
 {
-    (0..states)
-        .map(|s| {
-            if is_flagged(is_sought, s) {
-                simplest_reward(reward_of(lower, s), reward_of(upper, s))
-            } else {
-                None
-            }
-        })
-        .collect(alloc)
+    let mut list = vec![in alloc; None; states as usize]?;
+    for place in 0..list.len().min(is_sought.len()) {
+        if is_sought[place] {
+            let (least, greatest) = (item_at(lower, place, None), item_at(upper, place, None));
+            list[place] = simplest_reward(least, greatest);
+        }
+    }
+    Ok(list)
 }
 
 /// The values as upper ones: missing where there is no upper value.
@@ -202,9 +194,11 @@ pub fn all_capped(
 ) -> Result<Vec<Option<Frac>>, AllocError>
     ensures { IfOk result (λ capped. length capped.items ≡ states) }
 {
-    (0..states)
-        .map(|s| capped(reward_of(values, s), reward_of(upper, s)))
-        .collect(alloc)
+    let mut list = vec![in alloc; None; states as usize]?;
+    for place in 0..list.len() {
+        list[place] = capped(item_at(values, place, None), item_at(upper, place, None));
+    }
+    Ok(list)
 }
 
 /// The simplest fraction that lies within so many units of a value in units of 1 over `one`; the value where a term is past 128 bits.
@@ -228,15 +222,13 @@ pub fn simplest_near_values(
     ensures { IfOk result (λ simple. length simple.items ≡ states) }
 {
     let room = room_of(digits);
-    (0..states)
-        .map(|s| {
-            if is_flagged(is_sought, s) {
-                simplest_near(value_of(values, s), room, one)
-            } else {
-                Frac::whole(0)
-            }
-        })
-        .collect(alloc)
+    let mut list = vec![in alloc; Frac::whole(0); states as usize]?;
+    for place in 0..list.len().min(is_sought.len()) {
+        if is_sought[place] {
+            list[place] = simplest_near(item_at(values, place, 0), room, one);
+        }
+    }
+    Ok(list)
 }
 
 /// How many units of 10^-`digits` are 10 to the power of minus half of the digits.

@@ -130,30 +130,24 @@ impl Search<'_, '_> {
 impl Attempt {
     /// The value of a state, if one was found.
     fn value_of(&self, s: u32) -> Option<Frac> {
-        let value = value_at(&self.solution.values, s)?;
-        Some(fraction(value, self.rows.one()))
+        match value_at(&self.solution.values, s) {
+            Some(value) => Some(fraction(value, self.rows.one())),
+            None => None,
+        }
     }
 
     /// The values of the states.
     fn values(&self, alloc: Global, states: u32) -> Result<Vec<Option<Frac>>, AllocError> {
-        (0..states).map(|s| self.value_of(s)).collect(alloc)
-    }
-
-    /// The choice of a row that was picked; the first where none was.
-    fn choice_of(&self, pick: Option<usize>) -> u32 {
-        match pick.and_then(|place| self.rows.row(place)) {
-            Some(row) => row.choice,
-            None => 0,
+        let mut values = vec![in alloc; None; states as usize]?;
+        for s in 0..states {
+            put(&mut values, s, self.value_of(s));
         }
+        Ok(values)
     }
 
     /// The choices of the nodes.
     fn choices(&self, alloc: Global) -> Result<Vec<u32>, AllocError> {
-        self.solution
-            .picks
-            .iter()
-            .map(|pick| self.choice_of(*pick))
-            .collect(alloc)
+        self.rows.choices_of(alloc, &self.solution.picks)
     }
 }
 

@@ -27,10 +27,18 @@ fn push_leaving(
             } else {
                 Frac::whole(0)
             };
-            rows.push_row(nodes, row, &reward)?;
+            rows.push_any_row(nodes, row, &reward)?;
         }
     }
     Ok(())
+}
+
+/// Appends a row of a state that stops with a value, if there is one.
+fn push_stop(rows: &mut Rows, s: u32, value: Option<i128>) -> Result<(), AllocError> {
+    match value {
+        Some(value) => rows.push_stop(s, 0, value),
+        None => Ok(()),
+    }
 }
 
 /// The rows of the choices that leave their nodes, with their rewards or without, and before those of a node one that stops with the value of its first
@@ -44,15 +52,9 @@ pub(crate) fn leaving_rows(
     scale: Scale,
 ) -> Result<Rows, AllocError> {
     let mut rows = Rows::empty(alloc, nodes.count(), scale)?;
-    let mut last = None;
     for s in nodes.order() {
-        let node = nodes.of(*s);
-        if last != Some(node) {
-            rows.push_node()?;
-            last = Some(node);
-            if let Some(value) = value_at(stops, *s) {
-                rows.push_stop(*s, 0, value)?;
-            }
+        if rows.go_to(nodes.of(*s))? {
+            push_stop(&mut rows, *s, value_at(stops, *s))?;
         }
         push_leaving(&mut rows, payoffs, nodes, *s, is_earning)?;
     }

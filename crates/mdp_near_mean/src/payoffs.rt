@@ -97,7 +97,7 @@ impl Payoffs<'_> {
         let model = self.model;
         if s < model.states() && c < model.choices(s) {
             let reward = self.reward(s, c);
-            rows.push_any_row(nodes, choice_row(model, s, c), &reward)?;
+            return rows.push_any_row(nodes, choice_row(model, s, c), &reward);
         }
         Ok(())
     }

@@ -1,12 +1,12 @@
 use crate::leaving::{leaving_rows, offset_rows};
 use crate::payoffs::Payoffs;
-use crate::values::{gain_in_unit, turn, width};
+use crate::values::{add_known, gain_in_unit, know_each, put_times, turn, width};
 use mdp_ladder::{MOST_DIGITS, fraction};
 use mdp_near::{Backward, ChoiceFlags, Gathered, end_components, parts_in, policy_of};
 use mdp_num::{Frac, Memory};
 use mdp_refinement::{
     Bound, Components, EndSearch, First, Nodes, Rows, Scale, Solution, Task, Value, WholeRow,
-    flag_at, number, number_at, power_of_ten, put, solve, value_at,
+    flag_at, item_at, number, number_at, power_of_ten, put, solve, value_at,
 };
 use mdp_rows::{Dir, Marks, Model};
 use std::alloc::{AllocError, Global};
@@ -72,35 +72,31 @@ fn task(bound: Bound) -> Task {
 
 /// Values of nodes, 0 for those that have rows.
 fn given_ends(alloc: Global, rows: &Rows, nodes: u32) -> Result<Vec<Value>, AllocError> {
-    let mut given = Vec::new(alloc);
+    let mut given = vec![in alloc; Value::none(); nodes as usize]?;
     for node in 0..nodes {
-        let is_open = !rows.rows_of(node).is_empty() || rows.has_wide(node);
-        given.push(if is_open {
-            Value::none()
-        } else {
-            Value::known(0)
-        })?;
+        if rows.rows_of(node).is_empty() && !rows.has_wide(node) {
+            put(&mut given, node, Value::known(0));
+        }
     }
     Ok(given)
 }
 
-/// The picks but for those of rows that stop, and which nodes have one of those.
-fn split_picks(
-    alloc: Global,
-    rows: &Rows,
-    picks: &[Option<usize>],
-) -> Result<(Vec<Option<usize>>, Vec<bool>), AllocError> {
-    let mut leaving = Vec::new(alloc);
-    let mut is_stopping = Vec::new(alloc);
-    for pick in picks {
-        let is_stop = match pick.and_then(|place| rows.row(place)) {
-            Some(row) => row.is_stop(),
-            None => false,
-        };
-        leaving.push(if is_stop { None } else { *pick })?;
-        is_stopping.push(is_stop)?;
+/// Whether a row that stops was picked.
+fn is_stop(rows: &Rows, pick: Option<usize>) -> bool {
+    match rows.picked(pick) {
+        Some(row) => row.is_stop(),
+        None => false,
     }
-    Ok((leaving, is_stopping))
+}
+
+/// Takes the picks of rows that stop away, and flags the nodes that had them.
+fn take_stops(rows: &Rows, picks: &mut [Option<usize>], is_stopping: &mut [bool]) {
+    for place in 0..picks.len().min(is_stopping.len()) {
+        if is_stop(rows, picks[place]) {
+            picks[place] = None;
+            is_stopping[place] = true;
+        }
+    }
 }
 
 /// Flags the states of rows.
@@ -124,22 +120,32 @@ fn left_states(
     Ok(is_left)
 }
 
+/// What a row earns over a gain, in the row's denominator times its unit. None past 128 bits.
+fn earned_over(row: &WholeRow, gain: i128) -> Option<i128> {
+    let steps = gain_in_unit(gain, row.unit(), Bound::Lower)?;
+    let over = row.denominator.checked_mul(steps)?;
+    row.reward.checked_sub(over)
+}
+
+/// Gives the first row of a node as reward what it earns over its gain. Whether that was possible, or the node has no row.
+fn earn_over_at(rows: &mut Rows, node: u32, gain: i128) -> bool {
+    let at = rows.range_of(node).0;
+    let reward = match rows.row(at) {
+        Some(row) if row.node == node => earned_over(row, gain),
+        _ => return true,
+    };
+    match reward {
+        Some(reward) => rows.set_reward(at, reward),
+        None => return false,
+    }
+    true
+}
+
 /// Gives each row as reward what it earns over the gain of its node. Whether that was possible.
 fn earn_over(rows: &mut Rows, gains: &[i128]) -> bool {
-    for (place, gain) in gains.iter().enumerate() {
-        let at = rows.range_of(number(place)).0;
-        let Some(row) = rows.row(at).copied() else {
-            continue;
-        };
-        if row.node as usize != place {
-            continue;
-        }
-        let reward = gain_in_unit(*gain, row.unit(), Bound::Lower)
-            .and_then(|steps| row.denominator.checked_mul(steps))
-            .and_then(|over| row.reward.checked_sub(over));
-        match reward {
-            Some(reward) => rows.set_reward(at, reward),
-            None => return false,
+    for place in 0..gains.len() {
+        if !earn_over_at(rows, number(place), gains[place]) {
+            return false;
         }
     }
     true
@@ -182,11 +188,14 @@ impl Search<'_, '_> {
 
     /// The value of each state's node, 0 where it isn't known.
     fn spread(self, alloc: Global, values: &[Value]) -> Result<Vec<i128>, AllocError> {
-        let nodes = self.nodes;
         let states = self.payoffs.model.states();
-        let mut spread = Vec::with_capacity(alloc, states as usize)?;
+        let mut spread = vec![in alloc; 0i128; states as usize]?;
         for s in 0..states {
-            spread.push(value_at(values, nodes.of(s)).unwrap_or(0))?;
+            put(
+                &mut spread,
+                s,
+                value_at(values, self.nodes.of(s)).unwrap_or(0),
+            );
         }
         Ok(spread)
     }
@@ -194,7 +203,12 @@ impl Search<'_, '_> {
     /// Whether a state, as a node of its own, has a row that was too wide: the places of its others don't follow from their choices then, and may be
     /// those of rows of states behind it.
     fn has_wide(self, alone: &Rows) -> bool {
-        (0..self.payoffs.model.states()).any(|s| alone.has_wide(s))
+        for s in 0..self.payoffs.model.states() {
+            if alone.has_wide(s) {
+                return true;
+            }
+        }
+        false
     }
 
     /// Gives the rows as rewards what their choices earn over the bias and the gains of their states. Whether that was possible.
@@ -222,9 +236,7 @@ impl Search<'_, '_> {
     fn bound(self, alloc: Global, gains: &[Value]) -> Result<Vec<i128>, AllocError> {
         let offsets = self.offsets(alloc, gains)?;
         let mut bound = self.spread(alloc, &offsets)?;
-        for (value, bias) in bound.iter_mut().zip(self.bias) {
-            *value = value.saturating_add(bias.units().unwrap_or(0));
-        }
+        add_known(&mut bound, self.bias);
         Ok(bound)
     }
 
@@ -236,16 +248,13 @@ impl Search<'_, '_> {
 
     /// Whether a state lies in an end component.
     fn is_in_end(self, s: u32) -> bool {
-        match self.parts.get(s as usize) {
-            Some(part) => part.is_some(),
-            None => false,
-        }
+        item_at(self.parts, s as usize, None).is_some()
     }
 
     /// Whether a row was picked of a state in an end component: others of it may have to be led there then.
     fn leaves_end(self, rows: &Rows, picks: &[Option<usize>]) -> bool {
         for pick in picks {
-            if let Some(row) = pick.and_then(|place| rows.row(place)) {
+            if let Some(row) = rows.picked(*pick) {
                 if self.is_in_end(row.state) {
                     return true;
                 }
@@ -284,11 +293,12 @@ impl Search<'_, '_> {
     /// The lower gains and their policy.
     fn lower(self, alloc: Global, stops: Vec<Value>) -> Result<Lower, Memory> {
         let rows = self.stopping_rows(alloc, stops)?;
-        let low = self.gains(alloc, &rows, Bound::Lower)?;
-        let (picks, is_stopping) = split_picks(alloc, &rows, &low.picks)?;
+        let mut low = self.gains(alloc, &rows, Bound::Lower)?;
+        let mut is_stopping = vec![in alloc; false; low.picks.len()]?;
+        take_stops(&rows, &mut low.picks, &mut is_stopping);
         Ok(Lower {
             gains: self.spread(alloc, &low.values)?,
-            choices: self.policy(alloc, &rows, &picks)?,
+            choices: self.policy(alloc, &rows, &low.picks)?,
             is_stopping,
         })
     }
@@ -325,10 +335,8 @@ impl Search<'_, '_> {
         if earn_over(&mut rows, &low.gains) {
             values = solve(alloc, &rows, &values, task(Bound::Lower), None)?.values;
         }
-        let mut biases = Vec::with_capacity(alloc, values.len())?;
-        for value in &values {
-            biases.push(value.units().unwrap_or(0))?;
-        }
+        let mut biases = vec![in alloc; 0i128; values.len()]?;
+        add_known(&mut biases, &values);
         Ok(biases)
     }
 
@@ -347,20 +355,6 @@ impl Search<'_, '_> {
             choices: low.choices,
         })
     }
-}
-
-/// The choices of the rows that stay in end components, the first one elsewhere.
-fn inner_policy(
-    alloc: Global,
-    all: &Rows,
-    picks: &[Option<usize>],
-) -> Result<Vec<u32>, AllocError> {
-    let mut policy = Vec::with_capacity(alloc, picks.len())?;
-    for pick in picks {
-        let row = pick.and_then(|place| all.row(place));
-        policy.push(row.map_or(0, |row| row.choice))?;
-    }
-    Ok(policy)
 }
 
 /// Of how many states there are, nodes are few that are at most one part.
@@ -409,10 +403,8 @@ impl<'a> Beginning<'a> {
         dir: Dir,
     ) -> Result<Beginning<'a>, AllocError> {
         let times = signed(one.checked_div(near.one).unwrap_or(0), dir);
-        let mut bias = Vec::with_capacity(alloc, near.bound.len())?;
-        for value in &near.bound {
-            bias.push(Value::known(value.checked_mul(times).unwrap_or(0)))?;
-        }
+        let mut bias = vec![in alloc; Value::none(); near.bound.len()]?;
+        put_times(&mut bias, &near.bound, times);
         Ok(Beginning {
             parts: mem::replace(&mut near.parts, Vec::new(alloc)),
             components: None,
@@ -449,11 +441,9 @@ fn searched_ends(
     first: First<'_>,
 ) -> Result<Ends, AllocError> {
     let found = search.gains(alloc, first)?;
-    let inner = inner_policy(alloc, search.rows(), &found.picks)?;
+    let inner = search.rows().choices_of(alloc, &found.picks)?;
     let mut bias = found.bias;
-    for value in bias.iter_mut() {
-        *value = Value::known(value.units().unwrap_or(0));
-    }
+    know_each(&mut bias);
     Ok(Ends {
         bias,
         upper: found.upper,
