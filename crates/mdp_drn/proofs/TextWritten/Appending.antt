@@ -37,3 +37,7 @@ pub piece-last : {E : Type 0} (r : Result (Unit {0}) E) (old now later piece mor
     → OnOk r (later ≡ old ++ text)
 piece-last (Ok done) old now later piece more text h k e = piece-then old now later piece more h k ∙ ap (λ xs. old ++ xs) e
 piece-last (Err e) old now later piece more text h k is = tt
+
+pub three-pieces : {E : Type 0} (r : Result (Unit {0}) E) (old now next later x y z text : List ℕ) → now ≡ old ++ x → next ≡ now ++ y → OnOk r (later ≡ next ++ z) → (x ++ y) ++ z ≡ text
+    → OnOk r (later ≡ old ++ text)
+three-pieces r old now next later x y z text h k l e = piece-last r old next later (x ++ y) z text (piece-then old now next x y h k) l e

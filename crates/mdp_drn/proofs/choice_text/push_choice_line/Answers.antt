@@ -2,29 +2,14 @@ use Rattle.std.proofs.Common.{◌≡◌, ℕ, List, ◌++◌, get_or, map, decim
 use Rattle.mdp_num.specs.Value.{spelling}
 use Rattle.mdp_spec.specs.Mdp.{choices_at, no_choice}
 use Rattle.mdp_drn.specs.Writing.{line, joined}
-use Rattle.mdp_drn.proofs.TextWritten.Appending.{front-more, piece-then, piece-last}
+use Rattle.mdp_drn.proofs.TextWritten.Appending.{three-pieces}
 use Rattle.mdp_drn.proofs.choice_text.push_choice_line.Goals as goal
 
 one-line : (front inside : List ℕ) → ((front ++ codes " [") ++ inside) ++ codes "]\n" ≡ line (front ++ ((codes " [" ++ inside) ++ codes "]"))
 one-line front inside = simp append_assoc refl
 
-pub returns-in_err-push_rewards-clause-front : goal.returns-in_err-push_rewards-clause-front
-returns-in_err-push_rewards-clause-front c =
-    front-more _ _ _ c.push_between.ensures.front c.push_rewards.ensures.front
-
-pub returns-clause-front : goal.returns-clause-front
-returns-clause-front c =
-    front-more _ _ _
-    (front-more _ _ _ c.push_between.ensures.front c.push_rewards.ensures.front) c.push_bytes.ensures.front
-
 pub returns-clause-text : goal.returns-clause-text
 returns-clause-text c =
-    let old = c.args.out.now.items in
-    let text0 : List ℕ = codes "\taction " ++ decimal c.args.c ++ codes " [" in
-    let fact1 =
-    piece-then old c.push_between.new.out.items c.push_rewards.new.out.items text0 (joined (codes ", ") (map spelling (get_or (choices_at c.args.model.now c.args.s) c.args.c no_choice).rewards))
-    c.in_ok-push_between.ensures.text c.in_ok-push_rewards.ensures.text in
-    let text1 : List ℕ = text0 ++ (joined (codes ", ") (map spelling (get_or (choices_at c.args.model.now c.args.s) c.args.c no_choice).rewards)) in
-    piece-last c.push_bytes.result old c.push_rewards.new.out.items c.push_bytes.new.out.items text1 (codes "]\n") _
-    fact1 c.push_bytes.ensures.text
+    three-pieces c.push_bytes.result c.args.out.now.items c.push_between.new.out.items c.push_rewards.new.out.items c.push_bytes.new.out.items
+    (codes "\taction " ++ decimal c.args.c ++ codes " [") (joined (codes ", ") (map spelling (get_or (choices_at c.args.model.now c.args.s) c.args.c no_choice).rewards)) (codes "]\n") _ c.in_ok-push_between.ensures.text c.in_ok-push_rewards.ensures.text c.push_bytes.ensures.text
     (one-line (codes "\taction " ++ decimal c.args.c) (joined (codes ", ") (map spelling (get_or (choices_at c.args.model.now c.args.s) c.args.c no_choice).rewards)))

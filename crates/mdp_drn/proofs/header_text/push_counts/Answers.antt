@@ -2,7 +2,7 @@ use Rattle.std.proofs.Common.{◌≡◌, ℕ, List, ◌++◌, decimal, codes, ap
 use Rattle.mdp_drn.specs.Writing.{line}
 use Rattle.mdp_drn.specs.Pieces.{count_text}
 use Rattle.mdp_drn.proofs.TextWritten.TextsLeft.{counts_are}
-use Rattle.mdp_drn.proofs.TextWritten.Appending.{front-more, piece-last}
+use Rattle.mdp_drn.proofs.TextWritten.Appending.{piece-last}
 use Rattle.mdp_drn.proofs.header_text.push_counts.Goals as goal
 
 lines-are : (n k states choices : ℕ) → n ≡ states → k ≡ choices
@@ -10,10 +10,6 @@ lines-are : (n k states choices : ℕ) → n ≡ states → k ≡ choices
     ≡ (count_text (codes "@nr_states") states ++ count_text (codes "@nr_choices") choices) ++ line (codes "@model")
 lines-are n k states choices p q =
     counts_are n k ∙ ap₂ (λ (x y : ℕ). (count_text (codes "@nr_states") x ++ count_text (codes "@nr_choices") y) ++ line (codes "@model")) p q
-
-pub returns-clause-front : goal.returns-clause-front
-returns-clause-front c =
-    front-more _ _ _ c.push_between.ensures.front c.push_between-2.ensures.front
 
 pub returns-clause-text : goal.returns-clause-text
 returns-clause-text c =

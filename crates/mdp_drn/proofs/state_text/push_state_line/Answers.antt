@@ -2,34 +2,12 @@ use Rattle.std.proofs.Common.{◌≡◌, ℕ, List, [], ◌∷◌, ◌++◌, dec
 use Rattle.mdp_spec.specs.Mdp.{state_at}
 use Rattle.mdp_drn.specs.Writing.{line, joined, labels_text}
 use Rattle.mdp_drn.specs.Pieces.{zeros_of}
-use Rattle.mdp_drn.proofs.TextWritten.Appending.{front-more, piece-then, piece-last}
+use Rattle.mdp_drn.proofs.TextWritten.Appending.{piece-then, piece-last}
 use Rattle.mdp_drn.proofs.state_text.push_state_line.Goals as goal
 
 one-line : (front inside labels : List ℕ)
     → ((((front ++ codes " [") ++ inside) ++ codes "]") ++ labels) ++ 10 ∷ [] ≡ line ((front ++ ((codes " [" ++ inside) ++ codes "]")) ++ labels)
 one-line front inside labels = simp append_assoc refl
-
-pub returns-in_err-push_zeros-clause-front : goal.returns-in_err-push_zeros-clause-front
-returns-in_err-push_zeros-clause-front c =
-    front-more _ _ _ c.push_between.ensures.front c.push_zeros.ensures.front
-
-pub returns-in_err-push_bytes-clause-front : goal.returns-in_err-push_bytes-clause-front
-returns-in_err-push_bytes-clause-front c =
-    front-more _ _ _
-    (front-more _ _ _ c.push_between.ensures.front c.push_zeros.ensures.front) c.push_bytes.ensures.front
-
-pub returns-in_err-push_labels-clause-front : goal.returns-in_err-push_labels-clause-front
-returns-in_err-push_labels-clause-front c =
-    front-more _ _ _
-    (front-more _ _ _
-    (front-more _ _ _ c.push_between.ensures.front c.push_zeros.ensures.front) c.push_bytes.ensures.front) c.push_labels.ensures.front
-
-pub returns-clause-front : goal.returns-clause-front
-returns-clause-front c =
-    front-more _ _ _
-    (front-more _ _ _
-    (front-more _ _ _
-    (front-more _ _ _ c.push_between.ensures.front c.push_zeros.ensures.front) c.push_bytes.ensures.front) c.push_labels.ensures.front) c.push_bytes-2.ensures.front
 
 pub returns-clause-text : goal.returns-clause-text
 returns-clause-text c =
