@@ -1,4 +1,5 @@
 -- What lines spell, and what the reader keeps from line to line.
+pub mod Answered
 pub mod Contents
 pub mod CountsAtEnd
 pub mod DraftCalls

@@ -8,15 +8,13 @@ use Rattle.mdp_drn.specs.declared.model_line.StateText.{StateText}
 use Rattle.mdp_drn.specs.declared.error.DrnError.{DrnError}
 use Rattle.mdp_drn.specs.declared.error.DrnError.TheVariants as error
 use Rattle.mdp_drn.specs.Lines.{is_line_feed}
-use Rattle.mdp_drn.specs.Body.{EntryRead, StateRead, kind_of, line_of}
+use Rattle.mdp_drn.specs.Body.{EntryRead, StateRead}
 use Rattle.mdp_drn.specs.Body as spec
-use Rattle.std.specs.Prelude.{◌≡◌, ℕ, List, length, map, Bool, false, ◌&&◌, ◌||◌, Option, Some, None, Result, Ok, Err, nat_lt, ◌==◌, if◌then◌else◌}
+use Rattle.std.specs.Prelude.{◌≡◌, ℕ, List, length, map, sum_by, Bool, true, false, ◌||◌, Option, Some, None, Result, Ok, Err, nat_lt, ◌==◌}
 use Rattle.std.specs.Option.{is_some}
 use Rattle.mdp_spec.specs.Mdp.{Mdp}
 use Rattle.mdp_rows.specs.Draft.{Draft, OpenState}
-use Rattle.mdp_drn.specs.declared.error.DrnKind.TheVariants.{Count}
-use Rattle.mdp_drn.specs.Outcome.{Refusal}
-use Rattle.mdp_drn.specs.Reading.{has_choices}
+use Rattle.mdp_drn.specs.declared.error.DrnKind.TheVariants.{RowSum, RowWide, Twice, NoChoice, TooMany, Target, Large, Count}
 
 abbrev pub view : Body → spec.Body
 view b = record { draft = b.builder; is_chain = b.is_chain; state_line = b.state_line; action_line = b.action_line }
@@ -44,17 +42,22 @@ pub record IsSameBeside (old new : Body) : Type 0 where
   pub state_line : new.state_line ≡ old.state_line
   pub action_line : new.action_line ≡ old.action_line
 
--- what a refusal of the builder is answered as
-abbrev pub error_of : spec.Body → ℕ → RowsError → DrnError
-error_of body line (rows.RowSum s c) = error.At body.action_line (kind_of (rows.RowSum s c))
-error_of body line (rows.RowWide s c) = error.At body.action_line (kind_of (rows.RowWide s c))
-error_of body line rows.Twice = error.At line (kind_of rows.Twice)
-error_of body line (rows.NoChoice s) = error.At body.state_line (kind_of (rows.NoChoice s))
-error_of body line rows.TooMany = error.At line (kind_of rows.TooMany)
-error_of body line rows.Target = error.At line (kind_of rows.Target)
-error_of body line rows.Large = error.At line (kind_of rows.Large)
-error_of body line rows.Count = error.At line (kind_of rows.Count)
-error_of body line rows.Memory = error.Memory
+-- what a refusal of the builder is answered as, by the lines of the last `state` and `action` and this line
+abbrev pub error_of : ℕ → ℕ → ℕ → RowsError → DrnError
+error_of state action line (rows.RowSum s c) = error.At action RowSum
+error_of state action line (rows.RowWide s c) = error.At action RowWide
+error_of state action line rows.Twice = error.At line Twice
+error_of state action line (rows.NoChoice s) = error.At state NoChoice
+error_of state action line rows.TooMany = error.At line TooMany
+error_of state action line rows.Target = error.At line Target
+error_of state action line rows.Large = error.At line Large
+error_of state action line rows.Count = error.At line Count
+error_of state action line rows.Memory = error.Memory
+
+-- what an answer of the builder is answered as
+abbrev pub answer_of : ℕ → ℕ → ℕ → Result (Unit {0}) RowsError → Result (Unit {0}) DrnError
+answer_of state action line (Ok done) = Ok done
+answer_of state action line (Err e) = Err (error_of state action line e)
 
 abbrev pub state_in : StateText → StateRead
 state_in s = record { rewards = s.rewards.items; labels = map (λ label. label.now) s.labels.items }
@@ -66,10 +69,7 @@ entry_in x = record { target = x.0; value = x.1 }
 abbrev pub IsOneLine : List ℕ → Type 0
 IsOneLine text = All (λ b. is_line_feed b ≡ false) text
 
--- the model of a draft with nothing open, where as many states and choices are there as were announced
-abbrev pub counted : ℕ → Option ℕ → Draft → Result Mdp Refusal
-counted line choices closed = if has_choices closed choices && (length closed.closed == closed.announced) then Ok (record {
-  names = closed.names;
-  labels = closed.labels;
-  states = closed.closed;
-}) else Err (record { kind = Count; line = line })
+-- the model has as many choices as were announced, where a number was
+abbrev pub as_announced : Option ℕ → Mdp → Bool
+as_announced None m = true
+as_announced (Some n) m = sum_by (λ x. length x.choices) m.states == n

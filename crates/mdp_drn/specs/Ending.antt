@@ -6,5 +6,8 @@ use Rattle.mdp_drn.specs.Outcome.{◌>>=◌, Refusal}
 use Rattle.mdp_drn.specs.Reading.{Document, at_line, at_end}
 
 -- behind a document and the bytes that came behind the last line feed: they are a line unless there are none
+abbrev pub with_last : RowRule → Document → List ℕ → Result Document Refusal
+with_last rule document tail = if nat_lt 0 (length tail) then at_line rule document tail else Ok document
+
 abbrev pub ended : RowRule → Document → List ℕ → Result Mdp Refusal
-ended rule document tail = (if nat_lt 0 (length tail) then at_line rule document tail else Ok document) >>= at_end
+ended rule document tail = with_last rule document tail >>= at_end

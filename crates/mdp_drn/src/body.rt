@@ -1,13 +1,12 @@
-ghost use Rattle.std.specs.Prelude.{◌≡◌, length, map, None, OnOk, IsTrue};
+ghost use Rattle.std.specs.Prelude.{◌≡◌, length, map, None, OnOk, IsTrue, Ok, Err, if◌then◌else◌};
 ghost use Rattle.std.specs.List.{All};
 ghost use Rattle.mdp_num.specs.Meaning.{IsWithinLimit};
 ghost use Rattle.mdp_rows.specs.Draft.{all_closed, choice_closed, state_opened, choice_opened, after_entry, after_label, IsChoiceClosed, has_choice, has_state};
 ghost use Rattle.mdp_rows.specs.Name.{IsName};
 ghost use Rattle.mdp_drn.specs.Body.{judged, with_labels};
-ghost use Rattle.mdp_drn.specs.BodyView.{view, IsBody, IsSameBeside, error_of};
+ghost use Rattle.mdp_drn.specs.BodyView.{view, IsBody, IsSameBeside, error_of, answer_of, as_announced};
 ghost use Rattle.mdp_drn.specs.Feeding.{Answers, Gives};
 ghost use Rattle.mdp_drn.specs.Reading.{at_end_of, InModel};
-ghost use Rattle.mdp_drn.specs.BodyView.{counted};
 
 use crate::error::{DrnError, DrnKind};
 use mdp_num::Frac;
@@ -28,21 +27,54 @@ pub(crate) struct Body {
     pub(crate) action_line: u64,
 }
 
+/// A refusal of the builder, as it is answered: a row's names the line of its `action`, a state without a choice the line of the state, all others
+/// this line.
+fn refusal(error: RowsError, line: u64, state_line: u64, action_line: u64) -> DrnError
+    ensures { result ≡ error_of state_line action_line line error }
+{
+    let (line, kind) = match error {
+        RowsError::RowSum { .. } => (action_line, DrnKind::RowSum),
+        RowsError::RowWide { .. } => (action_line, DrnKind::RowWide),
+        RowsError::NoChoice { .. } => (state_line, DrnKind::NoChoice),
+        RowsError::Twice => (line, DrnKind::Twice),
+        RowsError::TooMany => (line, DrnKind::TooMany),
+        RowsError::Target => (line, DrnKind::Target),
+        RowsError::Large => (line, DrnKind::Large),
+        RowsError::Count => (line, DrnKind::Count),
+        RowsError::Memory => return DrnError::Memory,
+    };
+    DrnError::At { line, kind }
+}
+
+/// Whether the model has as many choices as were announced, where a number was.
+fn has_choices(model: &Model, choices: Option<u32>) -> bool
+    ensures { result ≡ as_announced choices model.now }
+{
+    match choices {
+        Some(announced) => model.all_choices() == announced,
+        None => true,
+    }
+}
+
+/// The model, where it has as many choices as were announced.
+fn with_choices(model: Model, line: u64, choices: Option<u32>) -> Result<Model, DrnError>
+    ensures { result ≡ (if as_announced choices model then Ok model else Err (DrnError.At line DrnKind.Count)) }
+{
+    if has_choices(&model, choices) {
+        Ok(model)
+    } else {
+        Err(DrnKind::Count.at(line))
+    }
+}
+
 impl Body {
-    /// A refusal of the builder, as it is answered.
-    fn refusal(&self, line: u64, error: RowsError) -> DrnError
-        ensures { result ≡ error_of (view self.now) line error }
+    /// What the builder's answer to a line is answered as.
+    fn answer(&self, line: u64, outcome: Result<(), RowsError>) -> Result<(), DrnError>
+        ensures { result ≡ answer_of self.now.state_line self.now.action_line line outcome }
     {
-        match error {
-            RowsError::RowSum { .. } => DrnKind::RowSum.at(self.action_line),
-            RowsError::RowWide { .. } => DrnKind::RowWide.at(self.action_line),
-            RowsError::NoChoice { .. } => DrnKind::NoChoice.at(self.state_line),
-            RowsError::Twice => DrnKind::Twice.at(line),
-            RowsError::TooMany => DrnKind::TooMany.at(line),
-            RowsError::Target => DrnKind::Target.at(line),
-            RowsError::Large => DrnKind::Large.at(line),
-            RowsError::Count => DrnKind::Count.at(line),
-            RowsError::Memory => DrnError::Memory,
+        match outcome {
+            Ok(()) => Ok(()),
+            Err(error) => Err(refusal(error, line, self.state_line, self.action_line)),
         }
     }
 
@@ -54,10 +86,8 @@ impl Body {
         ensures body { OnOk result (IsBody self.new) }
         ensures none { OnOk result (self.new.builder.state ≡ None) }
     {
-        match self.builder.close_state() {
-            Ok(()) => Ok(()),
-            Err(error) => Err(self.refusal(line, error)),
-        }
+        let outcome = self.builder.close_state();
+        self.answer(line, outcome)
     }
 
     /// Closes the open choice, where there is one.
@@ -68,10 +98,8 @@ impl Body {
         ensures body { OnOk result (IsBody self.new) }
         ensures none { OnOk result (IsChoiceClosed self.new.builder.state) }
     {
-        match self.builder.close_choice() {
-            Ok(()) => Ok(()),
-            Err(error) => Err(self.refusal(line, error)),
-        }
+        let outcome = self.builder.close_choice();
+        self.answer(line, outcome)
     }
 
     /// Opens the next state, with its own rewards.
@@ -84,13 +112,9 @@ impl Body {
         ensures body { OnOk result (IsBody self.new) }
         ensures state { OnOk result (IsTrue (has_state self.new.builder)) }
     {
-        match self.builder.state(rewards) {
-            Ok(()) => {
-                self.has_action = false;
-                Ok(())
-            }
-            Err(error) => Err(self.refusal(line, error)),
-        }
+        self.has_action = false;
+        let outcome = self.builder.state(rewards);
+        self.answer(line, outcome)
     }
 
     /// Opens a choice of the open state, with its own rewards.
@@ -103,13 +127,9 @@ impl Body {
         ensures beside { IsSameBeside self.old self.new }
         ensures body { OnOk result (IsBody self.new) }
     {
-        match self.builder.choice(rewards) {
-            Ok(()) => {
-                self.has_action = true;
-                Ok(())
-            }
-            Err(error) => Err(self.refusal(line, error)),
-        }
+        self.has_action = true;
+        let outcome = self.builder.choice(rewards);
+        self.answer(line, outcome)
     }
 
     /// Gives the open choice a target and its value.
@@ -121,10 +141,8 @@ impl Body {
         ensures beside { IsSameBeside self.old self.new }
         ensures body { OnOk result (IsBody self.new) }
     {
-        match self.builder.entry(target, value) {
-            Ok(()) => Ok(()),
-            Err(error) => Err(self.refusal(line, error)),
-        }
+        let outcome = self.builder.entry(target, value);
+        self.answer(line, outcome)
     }
 
     fn give_label(&mut self, line: u64, name: &[u8]) -> Result<(), DrnError>
@@ -136,10 +154,8 @@ impl Body {
         ensures body { OnOk result (IsBody self.new) }
         ensures state { OnOk result (IsTrue (has_state self.new.builder)) }
     {
-        match self.builder.label(name) {
-            Ok(()) => Ok(()),
-            Err(error) => Err(self.refusal(line, error)),
-        }
+        let outcome = self.builder.label(name);
+        self.answer(line, outcome)
     }
 
     /// Gives the open state each label.
@@ -162,33 +178,15 @@ impl Body {
         requires { IsBody self }
         ensures { Gives (λ model said. model ≡ said) result (at_end_of line (InModel choices (view self))) }
     {
-        let mut body = self;
-        body.close_state(line)?;
-        body.count_choices(line, choices)
-    }
-
-    /// The model, where it has as many states and choices as were announced.
-    fn count_choices(self, line: u64, choices: Option<u32>) -> Result<Model, DrnError>
-        requires body { IsBody self }
-        requires none { self.builder.state ≡ None }
-        ensures { Gives (λ model said. model ≡ said) result (counted line choices self.builder) }
-    {
-        let model = match self.builder.finish() {
-            Ok(model) => model,
-            Err(RowsError::Memory) => return Err(DrnError::Memory),
-            Err(_) => {
-                return Err(DrnError::At {
-                    line,
-                    kind: DrnKind::Count,
-                });
-            }
-        };
-        match choices {
-            Some(announced) if announced != model.all_choices() => Err(DrnError::At {
-                line,
-                kind: DrnKind::Count,
-            }),
-            _ => Ok(model),
+        let Body {
+            builder,
+            state_line,
+            action_line,
+            ..
+        } = self;
+        match builder.finish() {
+            Ok(model) => with_choices(model, line, choices),
+            Err(error) => Err(refusal(error, line, state_line, action_line)),
         }
     }
 }

@@ -1,30 +1,21 @@
-ghost use Rattle.std.specs.Prelude.{◌≡◌, ◌≤◌, ◌==◌, length, not};
-ghost use Rattle.std.specs.List.{list_any, prefix_len, suffix_len};
-ghost use Rattle.mdp_drn.specs.Body.{bracket_at, bracket_behind, is_close_bracket, is_open_bracket};
+ghost use Rattle.std.specs.Prelude.{◌≡◌, ◌≤◌, length, not};
+ghost use Rattle.std.specs.List.{suffix_len};
+ghost use Rattle.mdp_drn.specs.Body.{bracket_at, bracket_behind, is_open_bracket};
 ghost use Rattle.mdp_drn.specs.Parsing.{told, both_now};
 
 use crate::error::DrnKind;
-
-/// How many bytes stand before the first `]`.
-fn close_place(bytes: &[u8]) -> usize
-    ensures place { result ≡ prefix_len (λ c. not (is_close_bracket c)) bytes.now }
-    ensures within { result ≤ length bytes.now }
-{
-    bytes.iter().take_while(|b| **b != b']').count()
-}
+use crate::line::count_before;
 
 /// How many bytes stand behind the last `[`.
 fn behind_open(bytes: &[u8]) -> usize
     ensures count { result ≡ suffix_len (λ c. not (is_open_bracket c)) bytes.now }
     ensures within { result ≤ length bytes.now }
 {
-    bytes.iter().rev().take_while(|b| **b != b'[').count()
-}
-
-fn has_open(bytes: &[u8]) -> bool
-    ensures { result ≡ list_any is_open_bracket bytes.now }
-{
-    bytes.iter().any(|b| *b == b'[')
+    let mut start = bytes.len();
+    while start > 0 && bytes[start - 1] != b'[' {
+        start -= 1;
+    }
+    bytes.len() - start
 }
 
 /// The text in a bracket that ends at its first `]`, and the bytes behind it; no text where no bracket comes first.
@@ -34,7 +25,7 @@ pub(crate) fn first_bracket(bytes: &[u8]) -> Result<(&[u8], &[u8]), DrnKind>
     match bytes {
         [] => Ok((bytes, bytes)),
         [b'[', inside @ ..] => {
-            let (inside, behind) = inside.split_at(close_place(inside));
+            let (inside, behind) = inside.split_at(count_before(inside, b']'));
             match behind {
                 [] => Err(DrnKind::Reward),
                 [_, rest @ ..] => Ok((inside, rest)),
@@ -50,7 +41,7 @@ pub(crate) fn last_bracket(rest: &[u8]) -> Result<&[u8], DrnKind>
 {
     match rest {
         [.., b']'] => {
-            if !has_open(rest) {
+            if !rest.contains(&b'[') {
                 return Err(DrnKind::Shape);
             }
             let inside = &rest[rest.len() - behind_open(rest)..];

@@ -6,7 +6,7 @@ ghost use Rattle.mdp_spec.specs.Unit.{reward_of};
 ghost use Rattle.mdp_drn.specs.Writing.{joined, line, entry_text, row_text, choices_text};
 ghost use Rattle.mdp_drn.specs.Pieces.{separator_text, choice_line_text, choice_text};
 
-use crate::push::{push_fraction, push_number, push_separator};
+use crate::push::{push_between, push_bytes, push_fraction, push_separator};
 use mdp_num::Frac;
 use mdp_rows::{Model, Row};
 use std::alloc::AllocError;
@@ -16,11 +16,9 @@ fn push_entry(target: u32, prob: &Frac, out: &mut Vec<u8>) -> Result<(), AllocEr
     ensures text { OnOk result (out.new.items ≡ out.old.items ++ line (entry_text (record { target = target; prob = prob.now }))) }
     ensures front { take (length out.old.items) out.new.items ≡ out.old.items }
 {
-    out.extend_from_slice(b"\t\t")?;
-    push_number(target, out)?;
-    out.extend_from_slice(b" : ")?;
+    push_between(b"\t\t", target, b" : ", out)?;
     push_fraction(prob, out)?;
-    out.extend_from_slice(b"\n")
+    push_bytes(b"\n", out)
 }
 
 /// Appends the lines of a row.
@@ -67,11 +65,9 @@ fn push_choice_line(model: &Model, s: u32, c: u32, out: &mut Vec<u8>) -> Result<
     ensures text { OnOk result (out.new.items ≡ out.old.items ++ choice_line_text c (slice_index_or (choices_at model.now s) c no_choice)) }
     ensures front { take (length out.old.items) out.new.items ≡ out.old.items }
 {
-    out.extend_from_slice(b"\taction ")?;
-    push_number(c, out)?;
-    out.extend_from_slice(b" [")?;
+    push_between(b"\taction ", c, b" [", out)?;
     push_rewards(model, s, c, out)?;
-    out.extend_from_slice(b"]\n")
+    push_bytes(b"]\n", out)
 }
 
 /// Appends the lines of choice `c` at state `s`.

@@ -3,7 +3,7 @@ ghost use Rattle.mdp_drn.specs.Header.{names_or_one, or_else};
 ghost use Rattle.mdp_drn.specs.Header as header_spec;
 ghost use Rattle.mdp_drn.specs.HeaderView as header_view;
 ghost use Rattle.mdp_drn.specs.BodyView.{IsOneLine};
-ghost use Rattle.mdp_drn.specs.Ending.{ended};
+ghost use Rattle.mdp_drn.specs.Ending.{ended, with_last};
 ghost use Rattle.mdp_drn.specs.Lines.{is_comment};
 ghost use Rattle.mdp_drn.specs.Labels.{begins_blank};
 ghost use Rattle.mdp_drn.specs.Reading.{named, at_line, at_end, begun, nothing_read, kept_line};
@@ -169,6 +169,19 @@ impl Document {
         Ok(())
     }
 
+    /// Takes a last line without a line feed, unless it is empty.
+    fn take_last(&mut self, alloc: Global, tail: &[u8]) -> Result<(), DrnError>
+        requires part { IsPart self.old.part }
+        requires plain { IsOneLine tail.now }
+        ensures taken { Answers result (document_in self.new) (with_last self.old.rule (document_in self.old) tail.now) }
+        ensures part { OnOk result (IsPart self.new.part) }
+    {
+        if tail.is_empty() {
+            return Ok(());
+        }
+        self.take_line(alloc, tail)
+    }
+
     /// Judges a last line without a line feed, unless it is empty, and then the end.
     pub(crate) fn end(self, alloc: Global, tail: &[u8]) -> Result<Model, DrnError>
         requires part { IsPart self.part }
@@ -176,10 +189,10 @@ impl Document {
         ensures { Gives (λ model said. model ≡ said) result (ended self.rule (document_in self) tail.now) }
     {
         let mut document = self;
-        if !tail.is_empty() {
-            document.take_line(alloc, tail)?;
+        match document.take_last(alloc, tail) {
+            Ok(()) => document.finish(),
+            Err(refused) => Err(refused),
         }
-        document.finish()
     }
 
     /// Judges the end.

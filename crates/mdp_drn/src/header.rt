@@ -8,11 +8,12 @@ ghost use Rattle.mdp_drn.specs.Lines.{is_blank};
 ghost use Rattle.mdp_drn.specs.HeaderView.{view, view_next, pair, is_model};
 ghost use Rattle.mdp_drn.specs.Parsing.{Says, told};
 
-use crate::digits::{are_digits, number_of};
+use crate::digits::number_of;
 use crate::error::DrnKind;
-use crate::line::{is_blank, trim_start};
+use crate::line::{has_either, trim_start};
 use crate::line_error::LineError;
 use crate::names::read_names;
+use mdp_num::are_digits;
 use mdp_rows::{MAX_CHOICES, MAX_STATES};
 use std::alloc::Global;
 
@@ -61,16 +62,10 @@ pub(crate) struct Header {
     pub(crate) choices: Option<u32>,
 }
 
-fn has_blank(text: &[u8]) -> bool
-    ensures { result ≡ list_any is_blank text.now }
-{
-    text.iter().any(|b| is_blank(*b))
-}
-
 fn is_word(text: &[u8]) -> bool
     ensures { result ≡ is_word text.now }
 {
-    !text.is_empty() && !has_blank(text)
+    !text.is_empty() && !has_either(text, b' ', b'\t')
 }
 
 /// The type that the word names.

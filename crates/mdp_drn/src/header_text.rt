@@ -1,9 +1,9 @@
 ghost use Rattle.std.specs.Prelude.{◌≡◌, ◌<◌, ◌++◌, ◌&&◌, ◌==◌, [], length, take, codes, slice_index_or, OnOk};
 ghost use Rattle.std.specs.Str.{bytes_eq};
 ghost use Rattle.mdp_drn.specs.Writing.{joined, names_text, header_text};
-ghost use Rattle.mdp_drn.specs.Pieces.{separator_text, count_text, first_lines, count_lines};
+ghost use Rattle.mdp_drn.specs.Pieces.{separator_text, first_lines, count_lines};
 
-use crate::push::{push_number, push_separator};
+use crate::push::{push_between, push_bytes, push_separator};
 use mdp_rows::Model;
 use std::alloc::AllocError;
 
@@ -21,7 +21,7 @@ fn push_name(model: &Model, m: u32, out: &mut Vec<u8>) -> Result<(), AllocError>
     ensures front { take (length out.old.items) out.new.items ≡ out.old.items }
 {
     push_separator(m, b" ", out)?;
-    out.extend_from_slice(model.name(m))
+    push_bytes(model.name(m), out)
 }
 
 /// Appends the reward names with a blank between two.
@@ -51,20 +51,9 @@ fn push_first_lines(model: &Model, out: &mut Vec<u8>) -> Result<(), AllocError>
     ensures text { OnOk result (out.new.items ≡ out.old.items ++ first_lines model.now) }
     ensures front { take (length out.old.items) out.new.items ≡ out.old.items }
 {
-    out.extend_from_slice(b"@type: MDP\n@parameters\n\n@reward_models\n")?;
+    push_bytes(b"@type: MDP\n@parameters\n\n@reward_models\n", out)?;
     push_names(model, out)?;
-    out.extend_from_slice(b"\n")
-}
-
-/// Appends an entry of the header and its number, each on a line.
-fn push_count(entry: &[u8], count: u32, out: &mut Vec<u8>) -> Result<(), AllocError>
-    ensures text { OnOk result (out.new.items ≡ out.old.items ++ count_text entry.now count) }
-    ensures front { take (length out.old.items) out.new.items ≡ out.old.items }
-{
-    out.extend_from_slice(entry)?;
-    out.extend_from_slice(b"\n")?;
-    push_number(count, out)?;
-    out.extend_from_slice(b"\n")
+    push_bytes(b"\n", out)
 }
 
 /// Appends the numbers of states and of choices, and `@model`.
@@ -72,9 +61,8 @@ fn push_counts(model: &Model, out: &mut Vec<u8>) -> Result<(), AllocError>
     ensures text { OnOk result (out.new.items ≡ out.old.items ++ count_lines model.now) }
     ensures front { take (length out.old.items) out.new.items ≡ out.old.items }
 {
-    push_count(b"@nr_states", model.states(), out)?;
-    push_count(b"@nr_choices", model.all_choices(), out)?;
-    out.extend_from_slice(b"@model\n")
+    push_between(b"@nr_states\n", model.states(), b"\n", out)?;
+    push_between(b"@nr_choices\n", model.all_choices(), b"\n@model\n", out)
 }
 
 /// Appends the header.

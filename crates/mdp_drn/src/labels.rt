@@ -1,5 +1,5 @@
 ghost use Rattle.std.specs.Prelude.{◌≡◌, IfOk, map};
-ghost use Rattle.std.specs.List.{All, list_any, prefix_len};
+ghost use Rattle.std.specs.List.{prefix_len};
 ghost use Rattle.mdp_drn.specs.Lines.{is_line_feed, is_blank};
 ghost use Rattle.mdp_drn.specs.Labels.{is_quote, is_sized, quoted, bare, label_at, labels_in, before_first, from_first};
 ghost use Rattle.mdp_drn.specs.Parsing.{Says, told, both_now, first_label};
@@ -7,7 +7,7 @@ ghost use Rattle.mdp_rows.specs.Name.{IsName};
 ghost use Rattle.std.specs.Prelude.{◌∷◌, ◌≤◌, ◌<◌, length, not, false};
 
 use crate::error::DrnKind;
-use crate::line::{begins_blank, is_blank, trim_start};
+use crate::line::{begins_blank, count_before, is_blank, trim_start};
 use crate::line_error::LineError;
 use std::alloc::Global;
 
@@ -18,33 +18,24 @@ fn is_sized(name: &[u8]) -> bool
     !name.is_empty() && name.len() <= 255
 }
 
-fn has_quote(text: &[u8]) -> bool
-    ensures { result ≡ list_any is_quote text.now }
-{
-    text.iter().any(|b| *b == b'"')
-}
-
-/// How many bytes stand before the first quote.
-fn quote_place(bytes: &[u8]) -> usize
-    ensures place { result ≡ prefix_len (λ c. not (is_quote c)) bytes.now }
-    ensures within { result ≤ length bytes.now }
-{
-    bytes.iter().take_while(|b| **b != b'"').count()
-}
-
 /// How many bytes stand before the first blank.
 fn blank_place(bytes: &[u8]) -> usize
     ensures place { result ≡ prefix_len (λ c. not (is_blank c)) bytes.now }
     ensures within { result ≤ length bytes.now }
 {
-    bytes.iter().take_while(|b| !is_blank(**b)).count()
+    for (place, byte) in bytes.iter().enumerate() {
+        if is_blank(*byte) {
+            return place;
+        }
+    }
+    bytes.len()
 }
 
 /// A label behind its opening quote, and the bytes behind the closing one.
 fn quoted(bytes: &[u8]) -> Result<(&[u8], &[u8]), DrnKind>
     ensures { told both_now result ≡ quoted bytes.now }
 {
-    let (name, behind) = bytes.split_at(quote_place(bytes));
+    let (name, behind) = bytes.split_at(count_before(bytes, b'"'));
     match behind {
         [] => Err(DrnKind::Label),
         [_, rest @ ..] => {
@@ -62,7 +53,7 @@ fn bare(bytes: &[u8]) -> Result<(&[u8], &[u8]), DrnKind>
     ensures { told both_now result ≡ bare bytes.now }
 {
     let (name, behind) = bytes.split_at(blank_place(bytes));
-    if is_sized(name) && !has_quote(name) {
+    if is_sized(name) && !name.contains(&b'"') {
         Ok((name, behind))
     } else {
         Err(DrnKind::Label)

@@ -1,5 +1,5 @@
-ghost use Rattle.std.specs.Prelude.{◌≡◌, ◌≤◌, length};
-ghost use Rattle.std.specs.List.{prefix_len, suffix_len};
+ghost use Rattle.std.specs.Prelude.{◌≡◌, ◌≤◌, ◌==◌, ◌||◌, length, not};
+ghost use Rattle.std.specs.List.{list_any, prefix_len, suffix_len};
 ghost use Rattle.mdp_drn.specs.Lines.{content, is_blank, is_comment, without_blanks_before, without_blanks_behind};
 ghost use Rattle.mdp_drn.specs.Labels.{begins_blank};
 ghost use Rattle.mdp_drn.specs.Values.{trimmed};
@@ -21,18 +21,47 @@ pub(crate) fn begins_blank(bytes: &[u8]) -> bool
     }
 }
 
+/// How many bytes stand before the first that is this one.
+pub(crate) fn count_before(bytes: &[u8], stop: u8) -> usize
+    ensures place { result ≡ prefix_len (λ c. not (c == stop)) bytes.now }
+    ensures within { result ≤ length bytes.now }
+{
+    for (place, byte) in bytes.iter().enumerate() {
+        if *byte == stop {
+            return place;
+        }
+    }
+    bytes.len()
+}
+
+/// Whether one of two bytes is among these.
+pub(crate) fn has_either(bytes: &[u8], one: u8, other: u8) -> bool
+    ensures { result ≡ list_any (λ c. (c == one) || (c == other)) bytes.now }
+{
+    bytes.contains(&one) || bytes.contains(&other)
+}
+
 fn blanks_before(bytes: &[u8]) -> usize
     ensures count { result ≡ prefix_len is_blank bytes.now }
     ensures within { result ≤ length bytes.now }
 {
-    bytes.iter().take_while(|b| is_blank(**b)).count()
+    for (place, byte) in bytes.iter().enumerate() {
+        if !is_blank(*byte) {
+            return place;
+        }
+    }
+    bytes.len()
 }
 
 fn blanks_behind(bytes: &[u8]) -> usize
     ensures count { result ≡ suffix_len is_blank bytes.now }
     ensures within { result ≤ length bytes.now }
 {
-    bytes.iter().rev().take_while(|b| is_blank(**b)).count()
+    let mut end = bytes.len();
+    while end > 0 && is_blank(bytes[end - 1]) {
+        end -= 1;
+    }
+    bytes.len() - end
 }
 
 /// Without the blanks at the front.

@@ -11,14 +11,14 @@ ghost use Rattle.mdp_drn.specs.Feeding.{Answers};
 
 use crate::body::Body;
 use crate::brackets::{first_bracket, last_bracket};
-use crate::digits::{has_digits, number_of, split_digits};
+use crate::digits::{has_digits, number_of};
 use crate::error::{DrnError, DrnKind};
 use crate::kept_values::KeptValues;
 use crate::labels::read_labels;
 use crate::line::{begins_blank, trim_start};
 use crate::line_error::LineError;
 use crate::values::read_rewards;
-use mdp_num::Frac;
+use mdp_num::{Frac, split_digits};
 use std::alloc::Global;
 
 /// What a `state` line says behind the number.

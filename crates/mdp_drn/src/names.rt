@@ -6,45 +6,41 @@ ghost use Rattle.mdp_drn.specs.Header.{is_bad_byte, is_bad_name, names_in, words
 ghost use Rattle.mdp_drn.specs.Parsing.{Says};
 
 use crate::error::DrnKind;
-use crate::line::is_blank;
+use crate::line::{has_either, is_blank};
 use crate::line_error::LineError;
 use std::alloc::{AllocError, Global};
 
 /// The most reward models.
 const MAX_NAMES: usize = 16;
 
-fn has_bad_byte(name: &[u8]) -> bool
-    ensures { result ≡ list_any is_bad_byte name.now }
-{
-    name.iter().any(|b| *b == b'"' || *b == b'\r')
-}
-
 /// Whether no reward model can have this name.
 fn is_bad_name(name: &[u8]) -> bool
     ensures { result ≡ is_bad_name name.now }
 {
-    name.len() > 255 || has_bad_byte(name)
+    name.len() > 255 || has_either(name, b'"', b'\r')
 }
 
-fn has_bad_name(names: &[&[u8]]) -> bool
-    ensures { result ≡ list_any is_bad_name (map (λ name. name.now) names.now) }
-{
-    names.iter().any(|name| is_bad_name(name))
-}
-
+/// Whether the name is among these.
 fn contains(names: &[&[u8]], name: &[u8]) -> bool
     ensures { result ≡ list_any (bytes_eq name.now) (map (λ other. other.now) names.now) }
 {
-    names.iter().any(|other| name == *other)
+    let mut rest = names;
+    while let [other, others @ ..] = rest {
+        if name == *other {
+            return true;
+        }
+        rest = others;
+    }
+    false
 }
 
-/// Whether no name comes twice.
-fn are_different(names: &[&[u8]]) -> bool
-    ensures { result ≡ are_different (map (λ name. name.now) names.now) }
+/// Whether a reward model can have each of the names, and none comes twice.
+fn are_proper(names: &[&[u8]]) -> bool
+    ensures { result ≡ not (list_any is_bad_name (map (λ name. name.now) names.now) || not (are_different (map (λ name. name.now) names.now))) }
 {
     let mut rest = names;
     while let [name, others @ ..] = rest {
-        if contains(others, name) {
+        if is_bad_name(name) || contains(others, name) {
             return false;
         }
         rest = others;
@@ -77,7 +73,7 @@ pub(crate) fn read_names(alloc: Global, text: &[u8]) -> Result<Vec<Vec<u8>>, Lin
     ensures { Says (λ names. map (λ name. name.items) names.items) result (names_in (words_of text.now)) }
 {
     let words = split_words(alloc, text)?;
-    if has_bad_name(&words) || !are_different(&words) {
+    if !are_proper(&words) {
         return Err(LineError::Kind(DrnKind::Header));
     }
     if words.len() > MAX_NAMES {

@@ -6,13 +6,36 @@ use itoa::Buffer;
 use mdp_num::{Frac, Memory};
 use std::alloc::AllocError;
 
+/// Appends the bytes.
+pub fn push_bytes(bytes: &[u8], out: &mut Vec<u8>) -> Result<(), AllocError>
+    ensures text { OnOk result (out.new.items ≡ out.old.items ++ bytes.now) }
+    ensures front { take (length out.old.items) out.new.items ≡ out.old.items }
+{
+    out.extend_from_slice(bytes)
+}
+
 /// Appends a number in decimal. After `Err` a part of it may stand behind what was there; so with each function of this file.
-pub(crate) fn push_number(number: u32, out: &mut Vec<u8>) -> Result<(), AllocError>
+pub fn push_number(number: u32, out: &mut Vec<u8>) -> Result<(), AllocError>
     ensures text { OnOk result (out.new.items ≡ out.old.items ++ decimal number) }
     ensures front { take (length out.old.items) out.new.items ≡ out.old.items }
 {
     let mut buffer = Buffer::new();
     out.extend_from_slice(buffer.format(number).as_bytes())
+}
+
+/// Appends a number between two pieces of text.
+pub fn push_between(
+    before: &[u8],
+    number: u32,
+    behind: &[u8],
+    out: &mut Vec<u8>,
+) -> Result<(), AllocError>
+    ensures text { OnOk result (out.new.items ≡ out.old.items ++ (before.now ++ decimal number ++ behind.now)) }
+    ensures front { take (length out.old.items) out.new.items ≡ out.old.items }
+{
+    push_bytes(before, out)?;
+    push_number(number, out)?;
+    push_bytes(behind, out)
 }
 
 /// Appends the canonical spelling of a fraction.

@@ -1,10 +1,10 @@
 ghost use Rattle.std.specs.Prelude.{◌≡◌, ◌<◌, ◌++◌, length, take, codes, OnOk};
 ghost use Rattle.mdp_spec.specs.Mdp.{states_of, state_at};
-ghost use Rattle.mdp_drn.specs.Writing.{joined, bracket_text, label_text, labels_text, states_text};
+ghost use Rattle.mdp_drn.specs.Writing.{joined, label_text, labels_text, states_text};
 ghost use Rattle.mdp_drn.specs.Pieces.{separator_text, zeros_of, state_line_text, state_text};
 
 use crate::choice_text::push_choices;
-use crate::push::{push_number, push_separator};
+use crate::push::{push_between, push_bytes, push_separator};
 use mdp_rows::Model;
 use std::alloc::AllocError;
 
@@ -14,7 +14,7 @@ fn push_zero(m: u32, out: &mut Vec<u8>) -> Result<(), AllocError>
     ensures front { take (length out.old.items) out.new.items ≡ out.old.items }
 {
     push_separator(m, b", ", out)?;
-    out.extend_from_slice(b"0")
+    push_bytes(b"0", out)
 }
 
 /// Appends a reward 0 for each reward name, with a comma and a blank between two.
@@ -28,24 +28,14 @@ fn push_zeros(model: &Model, out: &mut Vec<u8>) -> Result<(), AllocError>
     Ok(())
 }
 
-/// Appends a blank and a state's own rewards in brackets.
-fn push_bracket(model: &Model, out: &mut Vec<u8>) -> Result<(), AllocError>
-    ensures text { OnOk result (out.new.items ≡ out.old.items ++ bracket_text (zeros_of model.now)) }
-    ensures front { take (length out.old.items) out.new.items ≡ out.old.items }
-{
-    out.extend_from_slice(b" [")?;
-    push_zeros(model, out)?;
-    out.extend_from_slice(b"]")
-}
-
 /// Appends a blank and a label in quotes.
 fn push_quoted(name: &[u8], out: &mut Vec<u8>) -> Result<(), AllocError>
     ensures text { OnOk result (out.new.items ≡ out.old.items ++ label_text name.now) }
     ensures front { take (length out.old.items) out.new.items ≡ out.old.items }
 {
-    out.extend_from_slice(b" \"")?;
-    out.extend_from_slice(name)?;
-    out.extend_from_slice(b"\"")
+    push_bytes(b" \"", out)?;
+    push_bytes(name, out)?;
+    push_bytes(b"\"", out)
 }
 
 /// Appends the labels of state `s`, in the model's order.
@@ -68,11 +58,11 @@ fn push_state_line(model: &Model, s: u32, out: &mut Vec<u8>) -> Result<(), Alloc
     ensures text { OnOk result (out.new.items ≡ out.old.items ++ state_line_text model.now s (state_at model.now s)) }
     ensures front { take (length out.old.items) out.new.items ≡ out.old.items }
 {
-    out.extend_from_slice(b"state ")?;
-    push_number(s, out)?;
-    push_bracket(model, out)?;
+    push_between(b"state ", s, b" [", out)?;
+    push_zeros(model, out)?;
+    push_bytes(b"]", out)?;
     push_labels(model, s, out)?;
-    out.extend_from_slice(b"\n")
+    push_bytes(b"\n", out)
 }
 
 /// Appends the lines of state `s` and of its choices.

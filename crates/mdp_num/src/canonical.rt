@@ -26,7 +26,10 @@ fn denominator(bytes: &[u8]) -> Option<u128>
 {
     match bytes {
         [] => Some(1),
-        [b'/', digits @ ..] => term(digits).filter(|den| *den > 1),
+        [b'/', digits @ ..] => match term(digits) {
+            Some(den) if den > 1 => Some(den),
+            _ => None,
+        },
         _ => None,
     }
 }

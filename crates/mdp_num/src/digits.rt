@@ -10,7 +10,12 @@ const SHORT: u128 = 1_000_000_000_000_000_000;
 fn digits_len(bytes: &[u8]) -> usize
     ensures { result ≡ prefix_len is_ascii_digit bytes.now }
 {
-    bytes.iter().take_while(|b| b.is_ascii_digit()).count()
+    for (place, byte) in bytes.iter().enumerate() {
+        if !byte.is_ascii_digit() {
+            return place;
+        }
+    }
+    bytes.len()
 }
 
 /// Whether the bytes are digits, one or more, and nothing else.
@@ -51,7 +56,7 @@ fn long_after(n: u128, digits: &[u8], cap: u128) -> u128
     number
 }
 
-/// The same, gathered in 64 bits as far as the number fits them.
+/// The number that the digits write behind those of n, or the cap where it is greater; gathered in 64 bits as far as it fits them.
 pub fn capped_after(n: u128, digits: &[u8], cap: u128) -> u128
     requires { n ≤ cap }
     ensures { result ≡ min (number_after n digits.now) cap }

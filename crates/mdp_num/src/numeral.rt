@@ -17,7 +17,11 @@ const LIMIT: u128 = 1_000_000_000_000_000_000_000_000_000_000_000_000;
 fn count_zeros(digits: &[u8]) -> usize
     ensures { result ≡ zeros_behind digits.now }
 {
-    digits.iter().rev().take_while(|b| **b == b'0').count()
+    let mut end = digits.len();
+    while end > 0 && digits[end - 1] == b'0' {
+        end -= 1;
+    }
+    digits.len() - end
 }
 
 /// The digits without the zeros at the end, in two parts as they came.

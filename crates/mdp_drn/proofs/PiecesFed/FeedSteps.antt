@@ -83,16 +83,6 @@ module _ (rule : RowRule) (d : Document) (tail : List ℕ) where
   pub end-standing : (refused : Option DrnError) (xs : List ℕ) → refused ≡ None → Stood refused xs → outcome rule xs ≡ ended rule d tail
   end-standing refused xs none at = end-reading rule xs d tail (subst (λ (r : Option DrnError). Stood r xs) none at)
 
-  pub ended-line : 0 < length tail → ended rule d tail ≡ (at_line rule d tail >>= at_end)
-  ended-line some =
-      let test : ltb 0 (length tail) ≡ true = grind (arith, nat_tests) in
-      ap (λ (b : Bool). cond b (at_line rule d tail) (Ok d) >>= at_end) test
-
-  pub ended-bare : length tail ≡ 0 → ended rule d tail ≡ at_end d
-  ended-bare empty =
-      let test : ltb 0 (length tail) ≡ false = grind (arith, nat_tests) in
-      ap (λ (b : Bool). cond b (at_line rule d tail) (Ok d) >>= at_end) test
-
-  pub ended-fails : (e : DrnError) → 0 < length tail → Fails e (at_line rule d tail) → Fails e (ended rule d tail)
-  ended-fails error.Memory some said = tt
-  ended-fails (error.At line kind) some said = ended-line some ∙ ap (λ (r : Result Document Refusal). r >>= at_end) said
+pub fails_then : (r : Result Document Refusal) (e : DrnError) → Fails e r → Fails e (r >>= at_end)
+fails_then r error.Memory said = tt
+fails_then r (error.At line kind) said = ap (λ (x : Result Document Refusal). x >>= at_end) said

@@ -29,17 +29,29 @@ use Rattle.mdp_drn.proofs.ReadingLaws.HeaderEnds.{ends-at_model}
 
 -- ---- what was answered with Ok
 
+abbrev pub done : {A E : Type 0} → A → Result A E
+done x = Ok x
+
+abbrev pub refused : {A E : Type 0} → E → Result A E
+refused k = Err k
+
+pub one-done : {A E : Type 0} (x y : A) → done {E = E} x ≡ done y → x ≡ y
+one-done x y h = cc
+
+pub not-refused : {A E : Type 0} (k : E) (y : A) → refused {A = A} k ≡ Ok y → ⊥
+not-refused k y h = absurd cc
+
 pub read-by : {A B E : Type 0} (r : Result A E) (f : A → Result B E) (y : B) → (r >>= f) ≡ Ok y → (x : A) × (r ≡ Ok x) × (f x ≡ Ok y)
 read-by (Ok x) f y e = (x, refl, e)
-read-by (Err k) f y e = absurd cc
+read-by (Err k) f y e = absurd (not-refused k y e)
 
 pub judged-is : {A : Type 0} (b : Body) (line : ℕ) (r : Result A RowsError) (x : A) → judged b line r ≡ Ok x → r ≡ Ok x
-judged-is b line (Ok y) x h = let e : y ≡ x = cc in ap (λ z. Ok z) e
-judged-is b line (Err e) x h = absurd cc
+judged-is b line (Ok y) x h = ap (λ z. Ok z) (one-done y x h)
+judged-is b line (Err e) x h = absurd (not-refused _ x h)
 
 pub line-is : {A : Type 0} (line : ℕ) (r : Result A DrnKind) (x : A) → at_line_of line r ≡ Ok x → r ≡ Ok x
-line-is line (Ok y) x h = let e : y ≡ x = cc in ap (λ z. Ok z) e
-line-is line (Err k) x h = absurd cc
+line-is line (Ok y) x h = ap (λ z. Ok z) (one-done y x h)
+line-is line (Err k) x h = absurd (not-refused _ x h)
 
 -- ---- a line of the model
 
@@ -59,7 +71,7 @@ spelled-on d digits rest x h =
     ∙ ap (λ (r : Result StateRead DrnKind). elim r [ Ok s ↦ s.labels | Err e ↦ labels.0 ]) labels.2
 
 drafted : (b e : Body) → (let r : Result Body Refusal = Ok b in r) ≡ Ok e → e.draft.labels ≡ b.draft.labels
-drafted b e h = let k : b ≡ e = cc in sym (ap (λ (x : Body). x.draft.labels) k)
+drafted b e h = sym (ap (λ (x : Body). x.draft.labels) (one-done b e h))
 
 module _ (b e : Body) (line : ℕ) where
   state-labels : (behind : List ℕ) → state_line b line behind ≡ Ok e
@@ -129,9 +141,6 @@ record Goes (part : Part) (text : List ℕ) (after : Part) : Type 0 where
   is_open : IsOpen after
   labels : (texts : List (List ℕ)) → due part (text ∷ texts) ≡ due after texts
 
-same-part : (p q : Part) → (let r : Result Part Refusal = Ok p in r) ≡ Ok q → p ≡ q
-same-part p q h = cc
-
 begun-goes : (rule : RowRule) (text : List ℕ) (header after : Header) (next last : Next) (b : Bool) → bytes_eq text (codes "@model") ≡ b → is_model last ≡ b
     → Goes (InHeader header next) text (begun rule after last)
 begun-goes rule text header after next last true is ends =
@@ -147,7 +156,7 @@ header-goes rule line text header next after is_open h =
     let read = read-by (at_line_of line (header_line next header text)) _ after h in
     let is = line-is line (header_line next header text) read.0 read.1 in
     let ends = ends-at_model next header text is_open read.0.0 read.0.1 is in
-    subst (Goes (InHeader header next) text) (same-part (begun rule read.0.0 read.0.1) after read.2)
+    subst (Goes (InHeader header next) text) (one-done (begun rule read.0.0 read.0.1) after read.2)
     (begun-goes rule text header read.0.0 next read.0.1 (bytes_eq text (codes "@model")) refl ends)
 
 none-on : (text : List ℕ) → eqb (length text) 0 ≡ true → labels_on text ≡ []
@@ -164,11 +173,11 @@ model-goes rule line text choices b after h = by (eqb (length text) 0) refl h
     by : (empty : Bool) → eqb (length text) 0 ≡ empty
         → cond empty (Ok (InModel choices b)) (model_line b line text >>= λ read. Ok (InModel choices read)) ≡ Ok after → Goes (InModel choices b) text after
     by true is h =
-        subst (Goes (InModel choices b) text) (same-part (InModel choices b) after h)
+        subst (Goes (InModel choices b) text) (one-done (InModel choices b) after h)
         (record { is_open = tt; labels = λ texts. more b.draft.labels texts ∙ ap (λ (names : List (List ℕ)). seen (seen b.draft.labels names) (labels_of texts)) (none-on text is) })
     by false is h =
         let read = read-by (model_line b line text) _ after h in
-        subst (Goes (InModel choices b) text) (same-part (InModel choices read.0) after read.2)
+        subst (Goes (InModel choices b) text) (one-done (InModel choices read.0) after read.2)
         (record { is_open = tt; labels = λ texts. more b.draft.labels texts ∙ ap (λ (known : List (List ℕ)). seen known (labels_of texts)) (sym (line-labels b read.0 line text read.1)) })
 
 kept-goes : (rule : RowRule) (line : ℕ) (text : List ℕ) (part after : Part) → IsOpen part → kept_line rule line text part ≡ Ok after → Goes part text after
@@ -188,11 +197,11 @@ line-leads rule d e line is_open h = by (ltb longest_line (length line)) h
     n = named (d.lines + 1)
 
     parts : (p : Part) → (let r : Result Document Refusal = Ok (record { lines = named (d.lines + 1); part = p }) in r) ≡ Ok e → p ≡ e.part
-    parts p h = let k : record { lines = named (d.lines + 1); part = p } ≡ e = cc in ap (λ (x : Document). x.part) k
+    parts p h = ap (λ (x : Document). x.part) (one-done _ e h)
 
     comment : (b : Bool) → is_comment (content line) ≡ b → (p : Part) → cond b (Ok d.part) (kept_line rule (named (d.lines + 1)) (content line) d.part) ≡ Ok p → Leads d.part line p
     comment true is p h =
-        subst (Leads d.part line) (same-part d.part p h)
+        subst (Leads d.part line) (one-done d.part p h)
         (record { is_open = is_open; labels = λ lines. ap (λ (b : Bool). due d.part (cond (not b) (content line ∷ contents_of lines) (contents_of lines))) is })
     comment false is p h =
         let g = kept-goes rule (named (d.lines + 1)) (content line) d.part p is_open h in
@@ -200,13 +209,13 @@ line-leads rule d e line is_open h = by (ltb longest_line (length line)) h
 
     by : (long : Bool) → cond long (Err (record { kind = kind.LongLine; line = named (d.lines + 1) }))
         (judged_line rule (named (d.lines + 1)) (content line) d.part >>= λ p. Ok (record { lines = named (d.lines + 1); part = p })) ≡ Ok e → Leads d.part line e.part
-    by true h = absurd cc
+    by true h = absurd (not-refused _ e h)
     by false h =
         let read = read-by (judged_line rule (named (d.lines + 1)) (content line) d.part) _ e h in
         subst (Leads d.part line) (parts read.0 read.2) (comment (is_comment (content line)) refl read.0 read.1)
 
 lines-lead : (rule : RowRule) (lines : List (List ℕ)) (d e : Document) → IsOpen d.part → after_lines rule d lines ≡ Ok e → due d.part (contents_of lines) ≡ due e.part []
-lines-lead rule [] d e is_open h = let k : d ≡ e = cc in ap (λ (x : Document). due x.part []) k
+lines-lead rule [] d e is_open h = ap (λ (x : Document). due x.part []) (one-done d e h)
 lines-lead rule (line ∷ lines) d e is_open h =
     let first = read-by (at_line rule d line) _ e h in
     let l = line-leads rule d first.0 line is_open first.1 in
@@ -218,11 +227,11 @@ finished-labels : (d : Draft) (m : Mdp) → finished d ≡ Ok m → m.labels ≡
 finished-labels d m h = by (eqb (length d.closed) d.announced) h
   where
     by : (b : Bool) → cond b (Ok (record { names = d.names; labels = d.labels; states = d.closed })) (Err rows.Count) ≡ Ok m → m.labels ≡ d.labels
-    by true h = let k : record { names = d.names; labels = d.labels; states = d.closed } ≡ m = cc in sym (ap (λ (x : Mdp). x.labels) k)
-    by false h = absurd cc
+    by true h = sym (ap (λ (x : Mdp). x.labels) (one-done _ m h))
+    by false h = absurd (not-refused _ m h)
 
 end-labels : (line : ℕ) (part : Part) (m : Mdp) → at_end_of line part ≡ Ok m → m.labels ≡ due part []
-end-labels line (InHeader header next) m h = absurd cc
+end-labels line (InHeader header next) m h = absurd (not-refused _ m h)
 end-labels line (InModel choices b) m h =
     let closed = read-by (judged b line (all_closed b.draft)) _ m h in
     let counted = read-by (at_line_of line (refuse_if kind.Count (not (has_choices closed.0 choices)))) _ m closed.2 in

@@ -38,7 +38,7 @@ use Rattle.mdp_drn.proofs.LinesRead.Contents.{content_plain, content_front}
 use Rattle.mdp_drn.proofs.LinesRead.HeaderKeeps.{header_keeps}
 use Rattle.mdp_drn.proofs.LinesRead.LabelNames.{label_names, behind_plain}
 use Rattle.mdp_drn.proofs.LinesRead.RewardsFrom.{count-rewards}
-use Rattle.mdp_drn.proofs.ReadingLaws.LabelOrder.{read-by, judged-is, line-is}
+use Rattle.mdp_drn.proofs.ReadingLaws.LabelOrder.{one-done, not-refused, read-by, judged-is, line-is}
 
 -- ---- lines
 
@@ -134,9 +134,9 @@ rewards-count models inside rewards h = by (eqb (length (trimmed inside)) 0) (eq
 
     by : (empty same : Bool) → eqb (length texts) models ≡ same → cond empty (Ok (replicate models (of_int (pos 0)))) (cond same (each_reward texts) (Err kind.Reward)) ≡ Ok rewards
         → length rewards ≡ models
-    by true same is h = let e : replicate models (of_int (pos 0)) ≡ rewards = cc in ap length (sym e) ∙ length-replicate models (of_int (pos 0))
+    by true same is h = ap length (sym (one-done (replicate models (of_int (pos 0))) rewards h)) ∙ length-replicate models (of_int (pos 0))
     by false true is h = count-rewards texts rewards h ∙ eqb-true (length texts) models is
-    by false false is h = absurd cc
+    by false false is h = absurd (not-refused _ rewards h)
 
 record SaysState (models : ℕ) (x : StateRead) : Type 0 where
   rewards : length x.rewards ≡ models
@@ -167,27 +167,26 @@ action_read-count is_chain d rest x h =
     let inside = read-by (bracket_behind rest) _ x under.2 in
     let rewards = read-by (rewards_in (length d.names) inside.0) _ x inside.2 in
     let one = read-by (refuse_if kind.Choices (is_chain && has_action d)) _ x rewards.2 in
-    let is : rewards.0 ≡ x = let k = one.2 in cc in
-    ap length (sym is) ∙ rewards-count (length d.names) inside.0 rewards.0 rewards.1
+    ap length (sym (one-done rewards.0 x one.2)) ∙ rewards-count (length d.names) inside.0 rewards.0 rewards.1
 
 numeral-within : (text : List ℕ) (v : ℚ) → numeral_of text ≡ Ok v → IsWithinLimit v
 unfolding numeral_of
 numeral-within text v h = by (terms_of (parts_of text)) (terms-all_within (parts_of text) (terms_of (parts_of text)) refl) h
   where
     by : (r : Result (ℕ × ℕ) NumeralError) → IfOk r AreWithinLimit → numeral.value_of r ≡ Ok v → IsWithinLimit v
-    by (Ok p) is h = subst IsWithinLimit (let e : ratio (pos p.0) p.1 ≡ v = cc in e) (value-within p is)
-    by (Err e) is h = absurd cc
+    by (Ok p) is h = subst IsWithinLimit (one-done (ratio (pos p.0) p.1) v h) (value-within p is)
+    by (Err e) is h = absurd (not-refused e v h)
 
 value-limited : (text : List ℕ) (v : ℚ) → value_of text ≡ Ok v → IsWithinLimit v
 unfolding value_of
 value-limited text v h = by (begins_with (codes "-") text) h
   where
     plain : (r : Result ℚ NumeralError) → r ≡ numeral_of text → from_numeral r ≡ Ok v → IsWithinLimit v
-    plain (Ok x) is h = numeral-within text v (sym is ∙ ap (λ (y : ℚ). Ok y) (let e : x ≡ v = cc in e))
-    plain (Err e) is h = absurd cc
+    plain (Ok x) is h = numeral-within text v (sym is ∙ ap (λ (y : ℚ). Ok y) (one-done x v h))
+    plain (Err e) is h = absurd (not-refused _ v h)
 
     by : (b : Bool) → cond b (Err kind.Negative) (from_numeral (numeral_of text)) ≡ Ok v → IsWithinLimit v
-    by true h = absurd cc
+    by true h = absurd (not-refused _ v h)
     by false h = plain (numeral_of text) refl h
 
 entry_read-within : (d : Draft) (text : List ℕ) (x : EntryRead) → entry_read d text ≡ Ok x → IsWithinLimit x.value
@@ -199,19 +198,19 @@ entry_read-within d text x h =
     let inside = read-by (refuse_if kind.Target (leb d.announced (number (front_digits text)))) _ x under.2 in
     let once = read-by (refuse_if kind.Twice (has_open_target d (number (front_digits text)))) _ x inside.2 in
     let number_read = read-by (value_of value.0) _ x once.2 in
-    let is : (let y : EntryRead = record { target = number (front_digits text); value = number_read.0 } in y) ≡ x = let k = number_read.2 in cc in
-    subst (λ (y : EntryRead). IsWithinLimit y.value) is (value-limited value.0 number_read.0 number_read.1)
+    subst (λ (y : EntryRead). IsWithinLimit y.value)
+    (one-done (let y : EntryRead = record { target = number (front_digits text); value = number_read.0 } in y) x number_read.2) (value-limited value.0 number_read.0 number_read.1)
 
 -- ---- a line of the model
 
 with_labels-sound : (names : List (List ℕ)) (d e : Draft) → All IsName names → IsSound d → with_labels names d ≡ Ok e → IsSound e
-with_labels-sound [] d e all sound h = subst IsSound (let k : d ≡ e = cc in k) sound
+with_labels-sound [] d e all sound h = subst IsSound (one-done d e h) sound
 with_labels-sound (name ∷ names) d e all sound h =
     let given = bound (after_label d name) (with_labels names) e h in
     with_labels-sound names given.0 e (All-tail IsName name names all) (after_label-sound d given.0 name sound (All-head IsName name names all) given.1) given.2
 
 drafted-sound : (b e : Body) → (let r : Result Body Refusal = Ok b in r) ≡ Ok e → IsSound b.draft → IsSound e.draft
-drafted-sound b e h sound = subst (λ (x : Body). IsSound x.draft) (let k : b ≡ e = cc in k) sound
+drafted-sound b e h sound = subst (λ (x : Body). IsSound x.draft) (one-done b e h) sound
 
 module _ (b e : Body) (line : ℕ) (sound : IsSound b.draft) where
   state-sound : (behind : List ℕ) → IsOneLine behind → state_line b line behind ≡ Ok e → IsSound e.draft
@@ -261,45 +260,42 @@ module _ (b e : Body) (line : ℕ) (sound : IsSound b.draft) where
 
 -- ---- line after line
 
-same-part : (p q : Part) → (let r : Result Part Refusal = Ok p in r) ≡ Ok q → p ≡ q
-same-part p q h = cc
-
 -- a line that is no comment, without blanks before it
 kept-sound : (rule : RowRule) (line : ℕ) (text : List ℕ) (part after : Part) → IsOneLine text → begins_blank text ≡ false → is_comment text ≡ false → IsSoundPart part
     → kept_line rule line text part ≡ Ok after → IsSoundPart after
 kept-sound rule line text (InHeader header next) after one blank comment is h =
     let read = read-by (at_line_of line (header_line next header text)) _ after h in
-    subst IsSoundPart (same-part (begun rule read.0.0 read.0.1) after read.2)
+    subst IsSoundPart (one-done (begun rule read.0.0 read.0.1) after read.2)
     (begun-sound rule read.0.0 read.0.1
     (header_keeps next header text is one blank comment read.0.0 read.0.1 (line-is line (header_line next header text) read.0 read.1)))
 kept-sound rule line text (InModel choices b) after one blank comment is h = by (eqb (length text) 0) h
   where
     by : (empty : Bool) → cond empty (Ok (InModel choices b)) (model_line b line text >>= λ read. Ok (InModel choices read)) ≡ Ok after → IsSoundPart after
-    by true h = subst IsSoundPart (same-part (InModel choices b) after h) is
+    by true h = subst IsSoundPart (one-done (InModel choices b) after h) is
     by false h =
         let read = read-by (model_line b line text) _ after h in
-        subst IsSoundPart (same-part (InModel choices read.0) after read.2) (line-sound b read.0 line is text one read.1)
+        subst IsSoundPart (one-done (InModel choices read.0) after read.2) (line-sound b read.0 line is text one read.1)
 
 line-keeps : (rule : RowRule) (d e : Document) (line : List ℕ) → IsOneLine line → IsSoundPart d.part → at_line rule d line ≡ Ok e → IsSoundPart e.part
 unfolding at_line
 line-keeps rule d e line one is h = by (ltb longest_line (length line)) h
   where
     parts : (p : Part) → (let r : Result Document Refusal = Ok (record { lines = named (d.lines + 1); part = p }) in r) ≡ Ok e → p ≡ e.part
-    parts p h = let k : record { lines = named (d.lines + 1); part = p } ≡ e = cc in ap (λ (x : Document). x.part) k
+    parts p h = ap (λ (x : Document). x.part) (one-done _ e h)
 
     comment : (b : Bool) → is_comment (content line) ≡ b → (p : Part) → cond b (Ok d.part) (kept_line rule (named (d.lines + 1)) (content line) d.part) ≡ Ok p → IsSoundPart p
-    comment true known p h = subst IsSoundPart (same-part d.part p h) is
+    comment true known p h = subst IsSoundPart (one-done d.part p h) is
     comment false known p h = kept-sound rule (named (d.lines + 1)) (content line) d.part p (content_plain line one) (content_front line) known is h
 
     by : (long : Bool) → cond long (Err (record { kind = kind.LongLine; line = named (d.lines + 1) }))
         (judged_line rule (named (d.lines + 1)) (content line) d.part >>= λ p. Ok (record { lines = named (d.lines + 1); part = p })) ≡ Ok e → IsSoundPart e.part
-    by true h = absurd cc
+    by true h = absurd (not-refused _ e h)
     by false h =
         let read = read-by (judged_line rule (named (d.lines + 1)) (content line) d.part) _ e h in
         subst IsSoundPart (parts read.0 read.2) (comment (is_comment (content line)) refl read.0 read.1)
 
 lines-keep : (rule : RowRule) (lines : List (List ℕ)) (d e : Document) → All IsOneLine lines → IsSoundPart d.part → after_lines rule d lines ≡ Ok e → IsSoundPart e.part
-lines-keep rule [] d e plain is h = subst (λ (x : Document). IsSoundPart x.part) (let k : d ≡ e = cc in k) is
+lines-keep rule [] d e plain is h = subst (λ (x : Document). IsSoundPart x.part) (one-done d e h) is
 lines-keep rule (line ∷ lines) d e plain is h =
     let first = read-by (at_line rule d line) _ e h in
     lines-keep rule lines first.0 e (All-tail IsOneLine line lines plain) (line-keeps rule d first.0 line (All-head IsOneLine line lines plain) is first.1) first.2
@@ -307,7 +303,7 @@ lines-keep rule (line ∷ lines) d e plain is h =
 -- ---- the end
 
 end-model : (line : ℕ) (part : Part) (m : Mdp) → IsSoundPart part → at_end_of line part ≡ Ok m → IsModel m
-end-model line (InHeader header next) m is h = absurd cc
+end-model line (InHeader header next) m is h = absurd (not-refused _ m h)
 end-model line (InModel choices b) m is h =
     let closed = read-by (judged b line (all_closed b.draft)) _ m h in
     let counted = read-by (at_line_of line (refuse_if kind.Count (not (has_choices closed.0 choices)))) _ m closed.2 in

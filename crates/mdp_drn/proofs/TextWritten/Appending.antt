@@ -1,5 +1,5 @@
 -- What a loop keeps that appends a text piece by piece.
-use Rattle.std.proofs.Common.{◌≡◌, ℕ, ◌≤◌, min, List, [], ◌++◌, length, take, refl, sym, ap, ◌∙◌, append_assoc, append-nil, arith}
+use Rattle.std.proofs.Common.{◌≡◌, ℕ, ◌≤◌, min, List, [], ◌++◌, length, take, Result, Ok, Err, OnOk, refl, sym, ap, ◌∙◌, append_assoc, append-nil, arith}
 use Rattle.std.proofs.Math.Seq.{take-length}
 use Rattle.std.proofs.lemmas.List.{take-take, length-take}
 
@@ -26,3 +26,18 @@ appending-more old now later piece rest more whole a r l f = record {
 
 pub appending-done : (old now rest whole : List ℕ) → Appending old now rest whole → rest ≡ [] → now ≡ old ++ whole
 appending-done old now rest whole a r = sym (append-nil now) ∙ ap (λ xs. now ++ xs) (sym r) ∙ a.left
+
+-- ---- one piece behind another
+
+pub piece-then : (old now later piece more : List ℕ) → now ≡ old ++ piece → later ≡ now ++ more → later ≡ old ++ (piece ++ more)
+piece-then old now later piece more h k = k ∙ ap (λ xs. xs ++ more) h ∙ append_assoc old piece more
+
+-- the last piece, which may fail
+pub piece-last : {E : Type 0} (r : Result (Unit {0}) E) (old now later piece more text : List ℕ) → now ≡ old ++ piece → OnOk r (later ≡ now ++ more) → piece ++ more ≡ text
+    → OnOk r (later ≡ old ++ text)
+piece-last (Ok done) old now later piece more text h k e = piece-then old now later piece more h k ∙ ap (λ xs. old ++ xs) e
+piece-last (Err e) old now later piece more text h k is = tt
+
+pub three-pieces : {E : Type 0} (r : Result (Unit {0}) E) (old now next later x y z text : List ℕ) → now ≡ old ++ x → next ≡ now ++ y → OnOk r (later ≡ next ++ z) → (x ++ y) ++ z ≡ text
+    → OnOk r (later ≡ old ++ text)
+three-pieces r old now next later x y z text h k l e = piece-last r old next later (x ++ y) z text (piece-then old now next x y h k) l e

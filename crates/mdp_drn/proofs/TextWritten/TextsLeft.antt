@@ -1,14 +1,15 @@
 -- What is left of a text from one place of a list on, one place more and at the end.
-use Rattle.std.proofs.Common.{rules, ◌≡◌, ℕ, zero, suc, ◌+◌, ◌<◌, List, [], ◌∷◌, ◌++◌, length, get_or, drop, refl, sym, ap, subst, arith, ◌∙◌}
-use Rattle.std.proofs.Common.{append_assoc, append-nil, add-one, drop-cons, map, codes, pos}
+use Rattle.std.proofs.Common.{rules, ◌≡◌, ℕ, zero, suc, ◌+◌, ◌<◌, ◌≤◌, List, [], ◌∷◌, ◌++◌, length, get_or, drop, refl, sym, ap, subst, arith, ◌∙◌}
+use Rattle.std.proofs.Common.{append_assoc, append-nil, add-one, drop-cons, map, decimal, codes, pos}
 use Rattle.std.proofs.Math.ListN.{get_or-map}
-use Rattle.std.proofs.lemmas.List.{length-map}
+use Rattle.std.proofs.lemmas.List.{length-map, drop_all}
 use Rattle.mdp_math.specs.Rational.{ℚ, of_int}
 use Rattle.mdp_num.specs.Value.{spelling}
-use Rattle.mdp_spec.specs.Mdp.{Mdp, states_of, state_at, choices_at, no_choice, no_state}
+use Rattle.mdp_spec.specs.Row.{entries}
+use Rattle.mdp_spec.specs.Mdp.{Choice, Mdp, states_of, state_at, choices_at, no_choice, no_state}
 use Rattle.mdp_rows.specs.Limits.{IsStateWithin, IsModel}
-use Rattle.mdp_drn.specs.Writing.{joined, label_text, labels_text}
-use Rattle.mdp_drn.specs.Pieces.{separator_text, separated, zeros_of}
+use Rattle.mdp_drn.specs.Writing.{line, entry_text, joined, label_text, labels_text, row_text, choices_text, states_text}
+use Rattle.mdp_drn.specs.Pieces.{separator_text, separated, zeros_of, count_text, choice_text, state_text}
 use Rattle.mdp_drn.proofs.TextWritten.Models.{Each, AreBelow, AreLabelsBelow, sight-below}
 
 -- ---- texts with a separator
@@ -33,6 +34,9 @@ pub separated-more : (separator : List ℕ) (texts : List (List ℕ)) (i : ℕ) 
     → separated separator i (drop i texts) ≡ (separator_text separator i ++ get_or texts i d) ++ separated separator (i + 1) (drop (i + 1) texts)
 separated-more separator texts i d h = rw (add-one, drop-cons texts i d h) refl
 
+pub separated-end : (separator : List ℕ) (texts : List (List ℕ)) (i : ℕ) → length texts ≤ i → separated separator i (drop i texts) ≡ []
+separated-end separator texts i le = rw (drop_all i texts le) refl
+
 -- ---- rewards
 
 -- a choice has a reward for each reward name
@@ -45,6 +49,12 @@ pub rewards-more : (rewards : List ℚ) (i : ℕ) → i < length rewards
 rewards-more rewards i h =
     separated-more (codes ", ") (map spelling rewards) i (spelling (of_int (pos 0))) (rw (length-map rewards spelling) h)
     ∙ ap (λ text. (separator_text (codes ", ") i ++ text) ++ separated (codes ", ") (i + 1) (drop (i + 1) (map spelling rewards))) (get_or-map spelling rewards i (of_int (pos 0)))
+
+pub rewards-end : (rewards : List ℚ) (i : ℕ) → length rewards ≤ i → separated (codes ", ") i (drop i (map spelling rewards)) ≡ []
+rewards-end rewards i le = separated-end (codes ", ") (map spelling rewards) i (rw (length-map rewards spelling) le)
+
+pub zeros-end : (m : Mdp) (i : ℕ) → length m.names ≤ i → separated (codes ", ") i (drop i (zeros_of m)) ≡ []
+zeros-end m i le = let zero : List ℕ → List ℕ = λ name. 48 ∷ [] in separated-end (codes ", ") (zeros_of m) i (rw (length-map m.names zero) le)
 
 pub zeros-more : (m : Mdp) (i : ℕ) → i < length m.names
     → separated (codes ", ") i (drop i (zeros_of m)) ≡ (separator_text (codes ", ") i ++ 48 ∷ []) ++ separated (codes ", ") (i + 1) (drop (i + 1) (zeros_of m))
@@ -59,6 +69,9 @@ pub labels-more : (labels : List (List ℕ)) (places given : List ℕ) (name : L
     → labels_text labels (drop i places) ≡ label_text name ++ labels_text labels (drop (i + 1) places)
 labels-more labels places given name i same h is = rw (is, ← same, add-one, drop-cons given i 0 h) refl
 
+pub labels-end : (labels : List (List ℕ)) (places given : List ℕ) (i : ℕ) → given ≡ places → length given ≤ i → labels_text labels (drop i places) ≡ []
+labels-end labels places given i same le = rw (← same, drop_all i given le) refl
+
 each-at : {A : Type 0} (P : A → Type 0) (xs : List A) (d : A) (i : ℕ) → i < length xs → Each P xs → P (get_or xs i d)
 each-at P [] d i lt h = absurd (omega (arith, lt))
 each-at P (x ∷ xs) d zero lt h = h.0
@@ -69,3 +82,34 @@ pub label-known : (m : Mdp) → IsModel m → (s : ℕ) → s < states_of m → 
 label-known m h s lt places same i l =
     let below : AreBelow (length m.labels) (state_at m s).labels = each-at (AreLabelsBelow (length m.labels)) m.states no_state s lt (sight-below 0 (length m.labels) m.states h.sight).1 in
     each-at (λ k. k < length m.labels) places 0 i l (subst (AreBelow (length m.labels)) (sym same) below)
+
+-- ---- rows, choices and states
+
+pub row-more : (targets : List ℕ) (probs : List ℚ) (i : ℕ) (t : ℕ) (p : ℚ) → i < length targets → length probs ≡ length targets
+    → row_text (entries (drop i targets) (drop i probs))
+    ≡ line (entry_text (record { target = get_or targets i t; prob = get_or probs i p })) ++ row_text (entries (drop (i + 1) targets) (drop (i + 1) probs))
+row-more targets probs i t p lt same = rw (add-one, drop-cons targets i t lt, drop-cons probs i p (let l : i < length probs = omega arith in l)) refl
+
+pub row-end : (targets : List ℕ) (probs : List ℚ) (i : ℕ) → length targets ≤ i → row_text (entries (drop i targets) (drop i probs)) ≡ []
+row-end targets probs i le = rw (drop_all i targets le) refl
+
+pub choices-more : (choices : List Choice) (c : ℕ) → c < length choices
+    → choices_text c (drop c choices) ≡ choice_text c (get_or choices c no_choice) ++ choices_text (c + 1) (drop (c + 1) choices)
+choices-more choices c lt = rw (add-one, drop-cons choices c no_choice lt) refl
+
+pub choices-end : (choices : List Choice) (c : ℕ) → length choices ≤ c → choices_text c (drop c choices) ≡ []
+choices-end choices c le = rw (drop_all c choices le) refl
+
+pub states-more : (m : Mdp) (s : ℕ) → s < states_of m → states_text m s (drop s m.states) ≡ state_text m s (state_at m s) ++ states_text m (s + 1) (drop (s + 1) m.states)
+states-more m s lt = rw (add-one, drop-cons m.states s no_state lt) refl
+
+pub states-end : (m : Mdp) (s : ℕ) → states_of m ≤ s → states_text m s (drop s m.states) ≡ []
+states-end m s le = rw (drop_all s m.states le) refl
+
+-- ---- the numbers of states and of choices
+
+pub counts_are : (states choices : ℕ) → ((codes "@nr_states\n" ++ decimal states) ++ codes "\n") ++ ((codes "@nr_choices\n" ++ decimal choices) ++ codes "\n@model\n")
+    ≡ (count_text (codes "@nr_states") states ++ count_text (codes "@nr_choices") choices) ++ line (codes "@model")
+counts_are states choices =
+    ap (λ (x : List ℕ). codes "@nr_states\n" ++ (line (decimal states) ++ (codes "@nr_choices\n" ++ x))) (sym (append_assoc (decimal choices) (codes "\n") (codes "@model\n")))
+    ∙ ap (λ (x : List ℕ). codes "@nr_states\n" ++ x) (sym (append_assoc (line (decimal states)) (codes "@nr_choices\n" ++ line (decimal choices)) (codes "@model\n")))

@@ -1,7 +1,7 @@
 use Rattle.std.proofs.Common.{arith, codes}
 use Rattle.mdp_drn.specs.Pieces.{zeros_of}
-use Rattle.mdp_drn.proofs.TextWritten.Appending.{appending-more, appending-start}
-use Rattle.mdp_drn.proofs.TextWritten.TextsLeft.{separated-all, zeros-more}
+use Rattle.mdp_drn.proofs.TextWritten.Appending.{appending-done, appending-more, appending-start}
+use Rattle.mdp_drn.proofs.TextWritten.TextsLeft.{separated-all, zeros-end, zeros-more}
 use Rattle.mdp_drn.proofs.state_text.push_zeros.Goals as goal
 
 pub loop-m-init : goal.loop-m-init
@@ -10,3 +10,7 @@ loop-m-init c = rw (← separated-all (codes ", ") (zeros_of c.args.model.now)) 
 pub loop-m-preserved : goal.loop-m-preserved
 loop-m-preserved c =
     appending-more _ _ _ _ _ _ _ c.loop-m.invariant (zeros-more c.args.model.now c.loop-m.m (omega arith)) c.in_ok-push_zero.ensures.text c.push_zero.ensures.front
+
+pub returns-clause-text : goal.returns-clause-text
+returns-clause-text c =
+    appending-done _ _ _ _ c.loop-m.invariant (zeros-end c.args.model.now c.loop-m.m (omega arith))
