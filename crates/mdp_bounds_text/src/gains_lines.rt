@@ -7,7 +7,8 @@ use crate::gains_entry::GainsEntry;
 use mdp_cert::{Column, Entry, Lists, column_of};
 use mdp_claims::MeanBoundsCert;
 use mdp_num::{Frac, Memory, read_canonical};
-use mdp_text::{Part, cut_word, only_word, push_parts, whole_of};
+use mdp_text::Part::{Bytes, Fraction, Whole};
+use mdp_text::{cut_word, only_word, push_parts, whole_of};
 use std::alloc::{AllocError, Global};
 
 /// The line of a state for the claim `DIR mean`: two gains, a bound, a bias and a choice.
@@ -36,15 +37,15 @@ impl Entry for GainsEntry {
         push_parts(
             out,
             &[
-                Part::Fraction(self.lower),
-                Part::Bytes(b" "),
-                Part::Fraction(self.upper),
-                Part::Bytes(b" "),
-                Part::Fraction(self.bound),
-                Part::Bytes(b" "),
-                Part::Fraction(self.bias),
-                Part::Bytes(b" "),
-                Part::Whole(u64::from(self.choice)),
+                Fraction(self.lower),
+                Bytes(b" "),
+                Fraction(self.upper),
+                Bytes(b" "),
+                Fraction(self.bound),
+                Bytes(b" "),
+                Fraction(self.bias),
+                Bytes(b" "),
+                Whole(u64::from(self.choice)),
             ],
         )
     }

@@ -13,14 +13,15 @@ use crate::init::BoundsInit;
 use crate::ranked_lines::{LentReach, LentReward};
 use mdp_cert::{Version, push_claim, push_spread, push_to_end, push_value};
 use mdp_num::{Frac, Memory};
-use mdp_text::{Part, or_cut_back, push_number, push_parts, push_start};
+use mdp_text::Part::Bytes;
+use mdp_text::{or_cut_back, push_number, push_parts, push_start};
 
 /// Appends the line of the version.
 fn push_version(out: &mut Vec<u8>) -> Result<(), Memory>
     ensures text { OnOk result (out.new.items ≡ out.old.items ++ line version_text) }
     ensures front { Keeps out.old.items out.new.items }
 {
-    push_parts(out, &[Part::Bytes(b"mdp-bounds 1\n")])
+    push_parts(out, &[Bytes(b"mdp-bounds 1\n")])
 }
 
 /// Appends the line of a given initial state with its lower and its upper value.
@@ -36,7 +37,7 @@ fn push_between(
     push_start(out, state)?;
     push_value(out, lower)?;
     push_value(out, upper)?;
-    push_parts(out, &[Part::Bytes(b"\n")])
+    push_parts(out, &[Bytes(b"\n")])
 }
 
 /// Appends the line of the initial state.
@@ -45,7 +46,7 @@ fn push_init(out: &mut Vec<u8>, init: &BoundsInit) -> Result<(), Memory>
     ensures front { Keeps out.old.items out.new.items }
 {
     match init {
-        BoundsInit::Missing => push_parts(out, &[Part::Bytes(b"init -\n")]),
+        BoundsInit::Missing => push_parts(out, &[Bytes(b"init -\n")]),
         BoundsInit::Between(state, lower, upper) => push_between(out, *state, lower, upper),
     }
 }

@@ -9,9 +9,9 @@ use crate::listed::{Line, Lines};
 use crate::mark::{mark_at, mark_word};
 use mdp_claims::FloorCert;
 use mdp_num::{Frac, Memory};
+use mdp_text::Part::{Bytes, Fraction, Whole};
 use mdp_text::{
-    CertKind, Part, Refusal, cut_word, frac_at, only_word, push_parts, refuse_if, whole_at,
-    words_behind,
+    CertKind, Refusal, cut_word, frac_at, only_word, push_parts, refuse_if, whole_at, words_behind,
 };
 use std::alloc::{AllocError, Global};
 
@@ -61,14 +61,14 @@ impl Line for FloorLine {
         push_parts(
             out,
             &[
-                Part::Bytes(b"keep "),
-                Part::Whole(u64::from(self.state)),
-                Part::Bytes(b" "),
-                Part::Fraction(self.value),
-                Part::Bytes(b" "),
-                Part::Whole(u64::from(self.rank)),
-                Part::Bytes(b" "),
-                Part::Bytes(mark_word(self.wide)),
+                Bytes(b"keep "),
+                Whole(u64::from(self.state)),
+                Bytes(b" "),
+                Fraction(self.value),
+                Bytes(b" "),
+                Whole(u64::from(self.rank)),
+                Bytes(b" "),
+                Bytes(mark_word(self.wide)),
             ],
         )
     }

@@ -10,9 +10,10 @@ use crate::listed::{Line, Lines};
 use crate::mark::{mark_at, mark_word};
 use mdp_claims::{Flow, FlowCert};
 use mdp_num::Memory;
+use mdp_text::Part::{Bytes, Fraction, Whole};
 use mdp_text::{
-    CertKind, Part, Refusal, begins_with, cut_word, frac_at, only_word, push_parts, refuse_if,
-    whole_at, words_behind,
+    CertKind, Refusal, begins_with, cut_word, frac_at, only_word, push_parts, refuse_if, whole_at,
+    words_behind,
 };
 use std::alloc::{AllocError, Global};
 
@@ -147,10 +148,10 @@ fn push_keep(out: &mut Vec<u8>, state: u32, wide: bool) -> Result<(), Memory>
     push_parts(
         out,
         &[
-            Part::Bytes(b"keep "),
-            Part::Whole(u64::from(state)),
-            Part::Bytes(b" "),
-            Part::Bytes(mark_word(wide)),
+            Bytes(b"keep "),
+            Whole(u64::from(state)),
+            Bytes(b" "),
+            Bytes(mark_word(wide)),
         ],
     )
 }
@@ -163,12 +164,12 @@ fn push_flow(out: &mut Vec<u8>, flow: &Flow) -> Result<(), Memory>
     push_parts(
         out,
         &[
-            Part::Bytes(b"flow "),
-            Part::Whole(u64::from(flow.state)),
-            Part::Bytes(b" "),
-            Part::Whole(u64::from(flow.choice)),
-            Part::Bytes(b" "),
-            Part::Fraction(flow.amount),
+            Bytes(b"flow "),
+            Whole(u64::from(flow.state)),
+            Bytes(b" "),
+            Whole(u64::from(flow.choice)),
+            Bytes(b" "),
+            Fraction(flow.amount),
         ],
     )
 }

@@ -8,7 +8,8 @@ use crate::entries::{Entry, Lists};
 use crate::mean_entry::MeanEntry;
 use mdp_claims::MeanCert;
 use mdp_num::{Frac, Memory, read_canonical};
-use mdp_text::{Part, Refusal, cut_word, frac_at, only_word, push_parts, whole_of, words_behind};
+use mdp_text::Part::{Bytes, Fraction, Whole};
+use mdp_text::{Refusal, cut_word, frac_at, only_word, push_parts, whole_of, words_behind};
 use std::alloc::{AllocError, Global};
 
 /// The line of a state for the claim `DIR mean`: a gain, a bound, a bias and a choice.
@@ -35,13 +36,13 @@ impl Entry for MeanEntry {
         push_parts(
             out,
             &[
-                Part::Fraction(self.gain),
-                Part::Bytes(b" "),
-                Part::Fraction(self.bound),
-                Part::Bytes(b" "),
-                Part::Fraction(self.bias),
-                Part::Bytes(b" "),
-                Part::Whole(u64::from(self.choice)),
+                Fraction(self.gain),
+                Bytes(b" "),
+                Fraction(self.bound),
+                Bytes(b" "),
+                Fraction(self.bias),
+                Bytes(b" "),
+                Whole(u64::from(self.choice)),
             ],
         )
     }

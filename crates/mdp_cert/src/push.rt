@@ -10,7 +10,8 @@ use crate::claim::Claim;
 use crate::claim_line::{mean_front, reach_front, reward_front, witness_front};
 use crate::entries::Entry;
 use mdp_num::{Frac, Memory};
-use mdp_text::{Part, push_parts};
+use mdp_text::Part::{Bytes, Fraction, Whole};
+use mdp_text::push_parts;
 
 /// Appends what stands before the words of the line of the states from the first to the last.
 fn push_states(out: &mut Vec<u8>, first: u32, last: u32) -> Result<(), Memory>
@@ -21,21 +22,17 @@ fn push_states(out: &mut Vec<u8>, first: u32, last: u32) -> Result<(), Memory>
     if first == last {
         return push_parts(
             out,
-            &[
-                Part::Bytes(b"state "),
-                Part::Whole(u64::from(first)),
-                Part::Bytes(b" "),
-            ],
+            &[Bytes(b"state "), Whole(u64::from(first)), Bytes(b" ")],
         );
     }
     push_parts(
         out,
         &[
-            Part::Bytes(b"run "),
-            Part::Whole(u64::from(first)),
-            Part::Bytes(b" "),
-            Part::Whole(u64::from(last)),
-            Part::Bytes(b" "),
+            Bytes(b"run "),
+            Whole(u64::from(first)),
+            Bytes(b" "),
+            Whole(u64::from(last)),
+            Bytes(b" "),
         ],
     )
 }
@@ -54,7 +51,7 @@ pub(crate) fn push_run<E: Entry>(
 {
     push_states(out, first, last)?;
     entry.push_words(out)?;
-    push_parts(out, &[Part::Bytes(b"\n")])
+    push_parts(out, &[Bytes(b"\n")])
 }
 
 /// Appends a line of this front and a name in quotes; the front ends with the first quote.
@@ -62,10 +59,7 @@ fn push_quoted<'a>(out: &mut Vec<u8>, front: &'a [u8], name: &'a [u8]) -> Result
     ensures text { OnOk result (out.new.items ≡ out.old.items ++ line (front.now ++ (name.now ++ 34 ∷ []))) }
     ensures front { Keeps out.old.items out.new.items }
 {
-    push_parts(
-        out,
-        &[Part::Bytes(front), Part::Bytes(name), Part::Bytes(b"\"\n")],
-    )
+    push_parts(out, &[Bytes(front), Bytes(name), Bytes(b"\"\n")])
 }
 
 /// Appends a line of this front and two names in quotes; the front ends with the first quote.
@@ -81,11 +75,11 @@ fn push_two_quoted<'a>(
     push_parts(
         out,
         &[
-            Part::Bytes(front),
-            Part::Bytes(name),
-            Part::Bytes(b"\" \""),
-            Part::Bytes(label),
-            Part::Bytes(b"\"\n"),
+            Bytes(front),
+            Bytes(name),
+            Bytes(b"\" \""),
+            Bytes(label),
+            Bytes(b"\"\n"),
         ],
     )
 }
@@ -103,11 +97,11 @@ fn push_threshold<'a>(
     push_parts(
         out,
         &[
-            Part::Bytes(front),
-            Part::Bytes(name),
-            Part::Bytes(b"\" "),
-            Part::Fraction(*threshold),
-            Part::Bytes(b"\n"),
+            Bytes(front),
+            Bytes(name),
+            Bytes(b"\" "),
+            Fraction(*threshold),
+            Bytes(b"\n"),
         ],
     )
 }
@@ -137,12 +131,5 @@ pub fn push_spread(out: &mut Vec<u8>, spread: &Frac) -> Result<(), Memory>
     ensures text { OnOk result (out.new.items ≡ out.old.items ++ line (spread_text spread.now)) }
     ensures front { Keeps out.old.items out.new.items }
 {
-    push_parts(
-        out,
-        &[
-            Part::Bytes(b"spread "),
-            Part::Fraction(*spread),
-            Part::Bytes(b"\n"),
-        ],
-    )
+    push_parts(out, &[Bytes(b"spread "), Fraction(*spread), Bytes(b"\n")])
 }

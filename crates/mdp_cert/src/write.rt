@@ -15,7 +15,8 @@ use crate::listed::push_listed;
 use crate::push::{push_claim, push_run, push_spread};
 use crate::version::Version;
 use mdp_num::Memory;
-use mdp_text::{Part, or_cut_back, push_end, push_init, push_number, push_parts};
+use mdp_text::Part::Bytes;
+use mdp_text::{or_cut_back, push_end, push_init, push_number, push_parts};
 
 /// Appends the line of the version.
 fn push_version(out: &mut Vec<u8>, version: Version) -> Result<(), Memory>
@@ -26,7 +27,7 @@ fn push_version(out: &mut Vec<u8>, version: Version) -> Result<(), Memory>
         Version::One => b"mdp-certificate 1\n",
         Version::Two => b"mdp-certificate 2\n",
     };
-    push_parts(out, &[Part::Bytes(version)])
+    push_parts(out, &[Bytes(version)])
 }
 
 /// Appends the lines of claim, states and init.

@@ -10,7 +10,7 @@ use mdp_discount_text::{ClaimLine, claim_at, remainder_at};
 use mdp_num::Frac;
 use mdp_text::{
     CertError, CertKind, Refusal, cut_word, next_line, only_word, or_refused, refuse_if, reward_of,
-    states_at, whole_at, words_behind,
+    states_from, whole_at, words_behind,
 };
 use std::alloc::Global;
 
@@ -78,8 +78,7 @@ pub(crate) fn head_from(alloc: Global, bytes: &[u8]) -> Result<(Head, &[u8]), Ce
 {
     let (text, rest) = next_line(2, bytes)?;
     let claim = claim_at(alloc, 2, text)?;
-    let (text, rest) = next_line(3, rest)?;
-    let states = states_at(3, text)?;
+    let (states, rest) = states_from(3, rest)?;
     let (text, rest) = next_line(4, rest)?;
     let init = init_at(states, 4, text)?;
     let (text, rest) = next_line(5, rest)?;

@@ -1,8 +1,10 @@
-ghost use Rattle.std.specs.Prelude.{◌≡◌, ◌++◌, OnOk};
-ghost use Rattle.mdp_text.specs.Answer.{Keeps};
+ghost use Rattle.std.specs.Prelude.{◌≡◌};
+ghost use Rattle.mdp_text.specs.Parts.{part_text};
 ghost use Rattle.mdp_discount_bounds_text.specs.Entries.{lower_parse, lower_text};
 
-use mdp_num::{Frac, Memory, read_canonical};
+use mdp_num::{Frac, read_canonical};
+use mdp_text::Part;
+use mdp_text::Part::{Bytes, Fraction};
 
 /// The lower value that a word spells: a fraction, or `-inf`, where it is missing.
 pub(crate) fn lower_of(word: &[u8]) -> Option<Option<Frac>>
@@ -14,16 +16,12 @@ pub(crate) fn lower_of(word: &[u8]) -> Option<Option<Frac>>
     Some(Some(read_canonical(word)?))
 }
 
-/// Appends the word of a lower value.
-pub(crate) fn push_lower(out: &mut Vec<u8>, value: &Option<Frac>) -> Result<(), Memory>
-    ensures text { OnOk result (out.new.items ≡ out.old.items ++ lower_text value.now) }
-    ensures front { Keeps out.old.items out.new.items }
+/// A lower value as it is written.
+pub(crate) fn lower_part(value: &Option<Frac>) -> Part<'static>
+    ensures { part_text result ≡ lower_text value.now }
 {
     match value {
-        Some(number) => number.push_text(out),
-        None => {
-            out.extend_from_slice(b"-inf")?;
-            Ok(())
-        }
+        Some(value) => Fraction(*value),
+        None => Bytes(b"-inf"),
     }
 }

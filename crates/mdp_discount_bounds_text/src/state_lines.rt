@@ -2,11 +2,11 @@ ghost use Rattle.std.specs.Prelude.{◌≡◌, IfOk, map};
 ghost use Rattle.mdp_discount_bounds_text.specs.Entries.{between_columns, entries_of};
 
 use crate::entry::BoundsEntry;
-use crate::lower::{lower_of, push_lower};
-use mdp_cert::{Entry, Lists, Value, push_value};
+use crate::lower::{lower_of, lower_part};
+use mdp_cert::{Column, Entry, Lists, Value, column_of, push_value};
 use mdp_discount_bounds::DiscountBounds;
 use mdp_num::{Frac, Memory};
-use mdp_text::{cut_word, only_word, push_word, reward_of, whole_of};
+use mdp_text::{cut_word, only_word, push_parts, push_word, reward_of, whole_of};
 use std::alloc::{AllocError, Global};
 
 /// The line of a state: two values and a choice.
@@ -28,7 +28,7 @@ impl Entry for BoundsEntry {
     }
 
     fn push_words(&self, out: &mut Vec<u8>) -> Result<(), Memory> {
-        push_lower(out, &self.lower)?;
+        push_parts(out, &[lower_part(&self.lower)])?;
         push_value(out, &self.upper)?;
         push_word(out, u64::from(self.choice))
     }
@@ -61,25 +61,43 @@ impl Lists for LentBounds<'_> {
     }
 }
 
-/// The lower values of these entries.
-fn lower_values(alloc: Global, entries: &[BoundsEntry]) -> Result<Vec<Option<Frac>>, AllocError>
-    ensures { IfOk result (λ v. v.items ≡ map (λ x. x.lower) entries.now) }
-{
-    entries.iter().map(|entry| entry.lower).collect(alloc)
+/// The column of lower values.
+struct Lower;
+
+impl Column<BoundsEntry> for Lower {
+    type Item = Option<Frac>;
+
+    ghost field = { λ x. x.lower };
+
+    fn of(entry: &BoundsEntry) -> Option<Frac> {
+        entry.lower
+    }
 }
 
-/// The upper values of these entries.
-fn upper_values(alloc: Global, entries: &[BoundsEntry]) -> Result<Vec<Option<Frac>>, AllocError>
-    ensures { IfOk result (λ v. v.items ≡ map (λ x. x.upper) entries.now) }
-{
-    entries.iter().map(|entry| entry.upper).collect(alloc)
+/// The column of upper values.
+struct Upper;
+
+impl Column<BoundsEntry> for Upper {
+    type Item = Option<Frac>;
+
+    ghost field = { λ x. x.upper };
+
+    fn of(entry: &BoundsEntry) -> Option<Frac> {
+        entry.upper
+    }
 }
 
-/// The choices of these entries.
-fn choices_of(alloc: Global, entries: &[BoundsEntry]) -> Result<Vec<u32>, AllocError>
-    ensures { IfOk result (λ v. v.items ≡ map (λ x. x.choice) entries.now) }
-{
-    entries.iter().map(|entry| entry.choice).collect(alloc)
+/// The column of choices.
+struct Choice;
+
+impl Column<BoundsEntry> for Choice {
+    type Item = u32;
+
+    ghost field = { λ x. x.choice };
+
+    fn of(entry: &BoundsEntry) -> u32 {
+        entry.choice
+    }
 }
 
 /// The two values and the choices of these entries, with this remainder.
@@ -94,9 +112,9 @@ pub(crate) fn bounds_of(
     ensures remainder { IfOk result (λ b. b.remainder ≡ remainder) }
 {
     Ok(DiscountBounds {
-        lower: lower_values(alloc, entries)?,
-        upper: upper_values(alloc, entries)?,
-        choices: choices_of(alloc, entries)?,
+        lower: column_of::<Lower, _>(alloc, entries)?,
+        upper: column_of::<Upper, _>(alloc, entries)?,
+        choices: column_of::<Choice, _>(alloc, entries)?,
         remainder,
     })
 }

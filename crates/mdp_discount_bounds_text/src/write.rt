@@ -7,30 +7,21 @@ ghost use Rattle.mdp_discount_bounds.specs.Plain.{plain};
 ghost use Rattle.mdp_discount_bounds_text.specs.Entries.{lower_text, between_columns, entries_of};
 ghost use Rattle.mdp_discount_bounds_text.specs.Spelling.{version_text, init_text, head_text, text_of};
 
-use crate::lower::push_lower;
+use crate::lower::lower_part;
 use crate::state_lines::LentBounds;
 use mdp_cert::{Version, push_to_end, push_value};
 use mdp_discount_bounds::{DiscountBoundsCert, InitialBounds};
 use mdp_discount_text::{push_claim, push_remainder};
-use mdp_num::{Frac, Memory};
-use mdp_text::{or_cut_back, push_number, push_start};
+use mdp_num::Memory;
+use mdp_text::Part::Bytes;
+use mdp_text::{or_cut_back, push_number, push_parts, push_start};
 
 /// Appends the line of the version.
 fn push_version(out: &mut Vec<u8>) -> Result<(), Memory>
     ensures text { OnOk result (out.new.items ≡ out.old.items ++ line version_text) }
     ensures front { Keeps out.old.items out.new.items }
 {
-    out.extend_from_slice(b"mdp-bounds 1\n")?;
-    Ok(())
-}
-
-/// Appends a blank and a lower value.
-fn push_lower_word(out: &mut Vec<u8>, value: &Option<Frac>) -> Result<(), Memory>
-    ensures text { OnOk result (out.new.items ≡ out.old.items ++ (32 ∷ lower_text value.now)) }
-    ensures front { Keeps out.old.items out.new.items }
-{
-    out.extend_from_slice(b" ")?;
-    push_lower(out, value)
+    push_parts(out, &[Bytes(b"mdp-bounds 1\n")])
 }
 
 /// Appends the line of a given initial state with its lower and its upper value.
@@ -39,10 +30,9 @@ fn push_between(out: &mut Vec<u8>, init: &InitialBounds) -> Result<(), Memory>
     ensures front { Keeps out.old.items out.new.items }
 {
     push_start(out, init.state)?;
-    push_lower_word(out, &init.lower)?;
+    push_parts(out, &[Bytes(b" "), lower_part(&init.lower)])?;
     push_value(out, &init.upper)?;
-    out.extend_from_slice(b"\n")?;
-    Ok(())
+    push_parts(out, &[Bytes(b"\n")])
 }
 
 /// Appends the line of the initial state.
@@ -52,10 +42,7 @@ fn push_init(out: &mut Vec<u8>, init: &Option<InitialBounds>) -> Result<(), Memo
 {
     match init {
         Some(init) => push_between(out, init),
-        None => {
-            out.extend_from_slice(b"init -\n")?;
-            Ok(())
-        }
+        None => push_parts(out, &[Bytes(b"init -\n")]),
     }
 }
 

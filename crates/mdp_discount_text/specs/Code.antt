@@ -3,8 +3,12 @@ use Rattle.mdp_text.specs.declared.init.Init.{Init}
 use Rattle.mdp_discount_text.specs.Text.{Claim, DiscountHead}
 use Rattle.mdp_discount_text.specs.Text as read
 use Rattle.mdp_discount_text.specs.declared.claim_line.ClaimLine.{ClaimLine}
+use Rattle.mdp_discount_text.specs.declared.claim_line.ClaimWords.{ClaimWords}
 use Rattle.mdp_discount_text.specs.declared.head_lines.Head.{Head}
 use Rattle.mdp_discount_text.specs.declared.state_lines.Columns.{Columns}
+
+abbrev pub said_claim : ClaimWords → Claim
+said_claim c = record { dir = c.dir; name = c.name.now; factor = c.factor }
 
 abbrev pub plain_claim : ClaimLine → Claim
 plain_claim c = record { dir = c.dir; name = c.name.items; factor = c.factor }

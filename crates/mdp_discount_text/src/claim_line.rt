@@ -1,13 +1,13 @@
-ghost use Rattle.std.specs.Prelude.{◌≡◌, Ok, Some, None, IfOk, MatchResult, MatchOption};
+ghost use Rattle.std.specs.Prelude.{◌≡◌, Ok, Some, None, MatchResult, MatchOption};
 ghost use Rattle.std.specs.Option.{option_map};
 ghost use Rattle.mdp_text.specs.Answer.{Refuses};
 ghost use Rattle.mdp_discount_text.specs.Text.{is_factor, factor_of, claim_front, claim_names, claim_to, claim_of, claim_at};
-ghost use Rattle.mdp_discount_text.specs.Code.{plain_claim};
+ghost use Rattle.mdp_discount_text.specs.Code.{said_claim, plain_claim};
 
 use mdp_num::{Frac, read_canonical};
 use mdp_rows::Dir;
 use mdp_text::{CertError, CertKind, name_and_rest};
-use std::alloc::{AllocError, Global};
+use std::alloc::Global;
 
 /// What the line of the claim says.
 #[derive(Drop)]
@@ -15,6 +15,14 @@ pub struct ClaimLine {
     pub dir: Dir,
     pub name: Vec<u8>,
     pub factor: Frac,
+}
+
+/// The same, with the name lent from the text.
+#[derive(Drop)]
+struct ClaimWords<'a> {
+    dir: Dir,
+    name: &'a [u8],
+    factor: Frac,
 }
 
 /// Whether a fraction is a discount factor: at least 0 and below 1.
@@ -61,28 +69,23 @@ fn claim_names(dir: Dir, text: &[u8]) -> Option<(&[u8], &[u8])>
 
 /// The claim of this direction in this line, where it has one.
 #[tactic(auto, unfolding(crate::specs::Text::claim_to))]
-fn claim_to(alloc: Global, dir: Dir, text: &[u8]) -> Result<Option<ClaimLine>, AllocError>
-    ensures { IfOk result (λ c. option_map plain_claim c ≡ claim_to dir text.now) }
+fn claim_to(dir: Dir, text: &[u8]) -> Option<ClaimWords<'_>>
+    ensures { option_map said_claim result ≡ claim_to dir text.now }
 {
-    let Some((name, word)) = claim_names(dir, text) else {
-        return Ok(None);
-    };
-    let Some(factor) = factor_of(word) else {
-        return Ok(None);
-    };
-    let name = Vec::from_slice(alloc, name)?;
-    Ok(Some(ClaimLine { dir, name, factor }))
+    let (name, word) = claim_names(dir, text)?;
+    let factor = factor_of(word)?;
+    Some(ClaimWords { dir, name, factor })
 }
 
 /// The claim of this line, where it has one.
 #[tactic(auto, unfolding(crate::specs::Text::claim_of))]
-fn claim_of(alloc: Global, text: &[u8]) -> Result<Option<ClaimLine>, AllocError>
-    ensures { IfOk result (λ c. option_map plain_claim c ≡ claim_of text.now) }
+fn claim_of(text: &[u8]) -> Option<ClaimWords<'_>>
+    ensures { option_map said_claim result ≡ claim_of text.now }
 {
-    if let Some(claim) = claim_to(alloc, Dir::Max, text)? {
-        return Ok(Some(claim));
+    if let Some(claim) = claim_to(Dir::Max, text) {
+        return Some(claim);
     }
-    claim_to(alloc, Dir::Min, text)
+    claim_to(Dir::Min, text)
 }
 
 /// The claim of this line.
@@ -90,8 +93,12 @@ fn claim_of(alloc: Global, text: &[u8]) -> Result<Option<ClaimLine>, AllocError>
 pub fn claim_at(alloc: Global, line: u64, text: &[u8]) -> Result<ClaimLine, CertError>
     ensures { MatchResult result (λ c. claim_at line text.now ≡ Ok (plain_claim c)) (λ e. Refuses e (claim_at line text.now)) }
 {
-    match claim_of(alloc, text)? {
-        Some(claim) => Ok(claim),
+    match claim_of(text) {
+        Some(said) => Ok(ClaimLine {
+            dir: said.dir,
+            name: Vec::from_slice(alloc, said.name)?,
+            factor: said.factor,
+        }),
         None => Err(CertError::At {
             line,
             kind: CertKind::Claim,

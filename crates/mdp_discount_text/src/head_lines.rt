@@ -8,7 +8,7 @@ ghost use Rattle.mdp_discount_text.specs.Code.{plain_head};
 use crate::claim_line::{ClaimLine, claim_at};
 use mdp_num::Frac;
 use mdp_text::{
-    CertError, Init, Refusal, frac_at, next_line, only_word, states_at, valued_at, words_behind,
+    CertError, Init, Refusal, frac_at, next_line, only_word, states_from, valued_at, words_behind,
 };
 use std::alloc::Global;
 
@@ -37,8 +37,7 @@ pub(crate) fn head_from(alloc: Global, bytes: &[u8]) -> Result<(Head, &[u8]), Ce
 {
     let (text, rest) = next_line(2, bytes)?;
     let claim = claim_at(alloc, 2, text)?;
-    let (text, rest) = next_line(3, rest)?;
-    let states = states_at(3, text)?;
+    let (states, rest) = states_from(3, rest)?;
     let (text, rest) = next_line(4, rest)?;
     let init = valued_at(false, states, 4, text)?;
     let (text, rest) = next_line(5, rest)?;

@@ -7,15 +7,15 @@ ghost use Rattle.mdp_discount_text.specs.Text.{claim_front};
 use crate::claim_line::claim_front;
 use mdp_num::{Frac, Memory};
 use mdp_rows::Dir;
-use mdp_text::{push_fraction, push_fraction_end, push_whole, push_word};
+use mdp_text::Part::{Bytes, Fraction, Whole};
+use mdp_text::push_parts;
 
 /// Appends the line of the version.
 pub(crate) fn push_version(out: &mut Vec<u8>) -> Result<(), Memory>
     ensures text { OnOk result (out.new.items ≡ out.old.items ++ line version_text) }
     ensures front { Keeps out.old.items out.new.items }
 {
-    out.extend_from_slice(b"mdp-discount 1\n")?;
-    Ok(())
+    push_parts(out, &[Bytes(b"mdp-discount 1\n")])
 }
 
 /// Appends the line of the claim.
@@ -23,10 +23,16 @@ pub fn push_claim(out: &mut Vec<u8>, dir: Dir, name: &[u8], factor: &Frac) -> Re
     ensures text { OnOk result (out.new.items ≡ out.old.items ++ line (claim_text dir name.now factor.now)) }
     ensures front { Keeps out.old.items out.new.items }
 {
-    out.extend_from_slice(claim_front(dir))?;
-    out.extend_from_slice(name)?;
-    out.extend_from_slice(b"\"")?;
-    push_fraction_end(out, factor)
+    push_parts(
+        out,
+        &[
+            Bytes(claim_front(dir)),
+            Bytes(name),
+            Bytes(b"\" "),
+            Fraction(*factor),
+            Bytes(b"\n"),
+        ],
+    )
 }
 
 /// Appends the line of the remainder.
@@ -34,8 +40,10 @@ pub fn push_remainder(out: &mut Vec<u8>, remainder: &Frac) -> Result<(), Memory>
     ensures text { OnOk result (out.new.items ≡ out.old.items ++ line (remainder_text remainder.now)) }
     ensures front { Keeps out.old.items out.new.items }
 {
-    out.extend_from_slice(b"remainder")?;
-    push_fraction_end(out, remainder)
+    push_parts(
+        out,
+        &[Bytes(b"remainder "), Fraction(*remainder), Bytes(b"\n")],
+    )
 }
 
 /// Appends the line of a state.
@@ -43,12 +51,18 @@ fn push_state(out: &mut Vec<u8>, state: u64, value: &Frac, choice: u32) -> Resul
     ensures text { OnOk result (out.new.items ≡ out.old.items ++ line (state_text state value.now choice)) }
     ensures front { Keeps out.old.items out.new.items }
 {
-    out.extend_from_slice(b"state ")?;
-    push_whole(out, state)?;
-    push_fraction(out, value)?;
-    push_word(out, u64::from(choice))?;
-    out.extend_from_slice(b"\n")?;
-    Ok(())
+    push_parts(
+        out,
+        &[
+            Bytes(b"state "),
+            Whole(state),
+            Bytes(b" "),
+            Fraction(*value),
+            Bytes(b" "),
+            Whole(u64::from(choice)),
+            Bytes(b"\n"),
+        ],
+    )
 }
 
 /// Appends the lines of the states.

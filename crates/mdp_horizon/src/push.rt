@@ -8,16 +8,15 @@ ghost use Rattle.mdp_horizon.specs.Answer.{lists, plain};
 use crate::bounded::Bounded;
 use mdp_num::Memory;
 use mdp_rows::{Dir, Model};
-use mdp_text::{
-    Part, init_with, push_end, push_init, push_number, push_parts, push_values, push_word,
-};
+use mdp_text::Part::{Bytes, Whole};
+use mdp_text::{init_with, push_end, push_init, push_number, push_parts, push_values, push_word};
 
 /// Appends the line of the version.
 pub(crate) fn push_version(out: &mut Vec<u8>) -> Result<(), Memory>
     ensures text { OnOk result (out.new.items ≡ out.old.items ++ line version_text) }
     ensures front { Keeps out.old.items out.new.items }
 {
-    push_parts(out, &[Part::Bytes(b"mdp-horizon 1\n")])
+    push_parts(out, &[Bytes(b"mdp-horizon 1\n")])
 }
 
 /// The words before the labels of a bounded until.
@@ -44,13 +43,13 @@ pub(crate) fn push_until<'a>(
     push_parts(
         out,
         &[
-            Part::Bytes(until_words(dir)),
-            Part::Bytes(stay),
-            Part::Bytes(b"\" \""),
-            Part::Bytes(label),
-            Part::Bytes(b"\" "),
-            Part::Whole(steps),
-            Part::Bytes(b"\n"),
+            Bytes(until_words(dir)),
+            Bytes(stay),
+            Bytes(b"\" \""),
+            Bytes(label),
+            Bytes(b"\" "),
+            Whole(steps),
+            Bytes(b"\n"),
         ],
     )
 }
@@ -73,11 +72,11 @@ pub(crate) fn push_total(out: &mut Vec<u8>, dir: Dir, name: &[u8], steps: u64) -
     push_parts(
         out,
         &[
-            Part::Bytes(total_words(dir)),
-            Part::Bytes(name),
-            Part::Bytes(b"\" "),
-            Part::Whole(steps),
-            Part::Bytes(b"\n"),
+            Bytes(total_words(dir)),
+            Bytes(name),
+            Bytes(b"\" "),
+            Whole(steps),
+            Bytes(b"\n"),
         ],
     )
 }
@@ -98,9 +97,9 @@ fn push_step(out: &mut Vec<u8>, left: u64, choices: &[u32]) -> Result<(), Memory
     ensures text { OnOk result (out.new.items ≡ out.old.items ++ line (step_text left choices.now)) }
     ensures front { Keeps out.old.items out.new.items }
 {
-    push_parts(out, &[Part::Bytes(b"step "), Part::Whole(left)])?;
+    push_parts(out, &[Bytes(b"step "), Whole(left)])?;
     push_choices(out, choices)?;
-    push_parts(out, &[Part::Bytes(b"\n")])
+    push_parts(out, &[Bytes(b"\n")])
 }
 
 /// Appends the lines of the steps, the first step first.

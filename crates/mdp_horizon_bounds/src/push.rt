@@ -9,6 +9,7 @@ ghost use Rattle.mdp_horizon_bounds.specs.Spelling.{version_text, claim_text, ob
 use crate::claim::Claim;
 use mdp_num::{Frac, Memory};
 use mdp_rows::{Dir, Model};
+use mdp_text::Part::{Bytes, Fraction, Whole};
 use mdp_text::{Part, push_parts};
 
 /// Appends the line of the version.
@@ -16,7 +17,7 @@ pub(crate) fn push_version(out: &mut Vec<u8>) -> Result<(), Memory>
     ensures text { OnOk result (out.new.items ≡ out.old.items ++ line version_text) }
     ensures front { Keeps out.old.items out.new.items }
 {
-    push_parts(out, &[Part::Bytes(b"mdp-horizon-bounds 1\n")])
+    push_parts(out, &[Bytes(b"mdp-horizon-bounds 1\n")])
 }
 
 /// The word of a direction, with the blanks around it.
@@ -38,21 +39,14 @@ fn push_objective(out: &mut Vec<u8>, claim: Claim<'_>) -> Result<(), Memory>
         Claim::Until(stay, label) => push_parts(
             out,
             &[
-                Part::Bytes(b"until \""),
-                Part::Bytes(stay),
-                Part::Bytes(b"\" \""),
-                Part::Bytes(label),
-                Part::Bytes(b"\""),
+                Bytes(b"until \""),
+                Bytes(stay),
+                Bytes(b"\" \""),
+                Bytes(label),
+                Bytes(b"\""),
             ],
         ),
-        Claim::Total(name) => push_parts(
-            out,
-            &[
-                Part::Bytes(b"total \""),
-                Part::Bytes(name),
-                Part::Bytes(b"\""),
-            ],
-        ),
+        Claim::Total(name) => push_parts(out, &[Bytes(b"total \""), Bytes(name), Bytes(b"\"")]),
     }
 }
 
@@ -66,12 +60,9 @@ pub(crate) fn push_claim(
     ensures text { OnOk result (out.new.items ≡ out.old.items ++ line (claim_text dir (plain_claim claim.entry) steps)) }
     ensures front { Keeps out.old.items out.new.items }
 {
-    push_parts(out, &[Part::Bytes(front_of(dir))])?;
+    push_parts(out, &[Bytes(front_of(dir))])?;
     push_objective(out, claim)?;
-    push_parts(
-        out,
-        &[Part::Bytes(b" "), Part::Whole(steps), Part::Bytes(b"\n")],
-    )
+    push_parts(out, &[Bytes(b" "), Whole(steps), Bytes(b"\n")])
 }
 
 /// A lower value, `-inf` where it is missing.
@@ -79,8 +70,8 @@ fn lower_part(value: &Option<Frac>) -> Part<'static>
     ensures { part_text result ≡ lower_text value.now }
 {
     match value {
-        Some(value) => Part::Fraction(*value),
-        None => Part::Bytes(b"-inf"),
+        Some(value) => Fraction(*value),
+        None => Bytes(b"-inf"),
     }
 }
 
@@ -89,8 +80,8 @@ fn upper_part(value: &Option<Frac>) -> Part<'static>
     ensures { part_text result ≡ upper_text value.now }
 {
     match value {
-        Some(value) => Part::Fraction(*value),
-        None => Part::Bytes(b"inf"),
+        Some(value) => Fraction(*value),
+        None => Bytes(b"inf"),
     }
 }
 
@@ -108,13 +99,13 @@ fn push_values(
     push_parts(
         out,
         &[
-            Part::Bytes(front),
-            Part::Whole(state),
-            Part::Bytes(b" "),
+            Bytes(front),
+            Whole(state),
+            Bytes(b" "),
             lower_part(lower),
-            Part::Bytes(b" "),
+            Bytes(b" "),
             upper_part(upper),
-            Part::Bytes(b"\n"),
+            Bytes(b"\n"),
         ],
     )
 }
@@ -150,7 +141,7 @@ pub(crate) fn push_init(
             let high = upper[state as usize];
             push_start(out, u64::from(state), &low, &high)
         }
-        None => push_parts(out, &[Part::Bytes(b"init -\n")]),
+        None => push_parts(out, &[Bytes(b"init -\n")]),
     }
 }
 

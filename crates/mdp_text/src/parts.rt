@@ -3,6 +3,7 @@ ghost use Rattle.mdp_text.specs.Answer.{Keeps};
 ghost use Rattle.mdp_text.specs.Parts.{part_text, parts_text};
 
 use crate::part::Part;
+use crate::part::Part::{Bytes, Fraction, Whole};
 use crate::push::or_cut_back;
 use itoa::Buffer;
 use mdp_num::Memory;
@@ -13,15 +14,15 @@ fn push_part(out: &mut Vec<u8>, part: &Part<'_>) -> Result<(), Memory>
     ensures front { OnErr result (Keeps out.old.items out.new.items) }
 {
     match part {
-        Part::Bytes(bytes) => {
+        Bytes(bytes) => {
             out.extend_from_slice(bytes)?;
             Ok(())
         }
-        Part::Whole(number) => {
+        Whole(number) => {
             out.extend_from_slice(Buffer::new().format(*number).as_bytes())?;
             Ok(())
         }
-        Part::Fraction(value) => value.push_text(out),
+        Fraction(value) => value.push_text(out),
     }
 }
 

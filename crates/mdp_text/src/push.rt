@@ -5,7 +5,7 @@ ghost use Rattle.mdp_text.specs.Answer.{Keeps};
 ghost use Rattle.mdp_text.specs.Spelling.{line, ◌␣◌, states_text, init_text, value_text, value_lines, end_text};
 
 use crate::init::Init;
-use crate::part::Part;
+use crate::part::Part::{Bytes, Fraction, Whole};
 use crate::parts::push_parts;
 use mdp_num::{Frac, Memory};
 
@@ -31,7 +31,7 @@ pub fn push_whole(out: &mut Vec<u8>, number: u64) -> Result<(), Memory>
     ensures front { Keeps out.old.items out.new.items }
     ensures unchanged { OnErr result (out.new.items ≡ out.old.items) }
 {
-    push_parts(out, &[Part::Whole(number)])
+    push_parts(out, &[Whole(number)])
 }
 
 /// Appends a blank and the whole number.
@@ -40,7 +40,7 @@ pub fn push_word(out: &mut Vec<u8>, number: u64) -> Result<(), Memory>
     ensures front { Keeps out.old.items out.new.items }
     ensures unchanged { OnErr result (out.new.items ≡ out.old.items) }
 {
-    push_parts(out, &[Part::Bytes(b" "), Part::Whole(number)])
+    push_parts(out, &[Bytes(b" "), Whole(number)])
 }
 
 /// Appends a blank and the fraction.
@@ -49,7 +49,7 @@ pub fn push_fraction(out: &mut Vec<u8>, value: &Frac) -> Result<(), Memory>
     ensures front { Keeps out.old.items out.new.items }
     ensures unchanged { OnErr result (out.new.items ≡ out.old.items) }
 {
-    push_parts(out, &[Part::Bytes(b" "), Part::Fraction(*value)])
+    push_parts(out, &[Bytes(b" "), Fraction(*value)])
 }
 
 /// Appends a blank, the fraction and the line's end.
@@ -58,14 +58,7 @@ pub fn push_fraction_end(out: &mut Vec<u8>, value: &Frac) -> Result<(), Memory>
     ensures front { Keeps out.old.items out.new.items }
     ensures unchanged { OnErr result (out.new.items ≡ out.old.items) }
 {
-    push_parts(
-        out,
-        &[
-            Part::Bytes(b" "),
-            Part::Fraction(*value),
-            Part::Bytes(b"\n"),
-        ],
-    )
+    push_parts(out, &[Bytes(b" "), Fraction(*value), Bytes(b"\n")])
 }
 
 /// Appends the line of the number of states.
@@ -74,14 +67,7 @@ pub fn push_number(out: &mut Vec<u8>, states: u64) -> Result<(), Memory>
     ensures front { Keeps out.old.items out.new.items }
     ensures unchanged { OnErr result (out.new.items ≡ out.old.items) }
 {
-    push_parts(
-        out,
-        &[
-            Part::Bytes(b"states "),
-            Part::Whole(states),
-            Part::Bytes(b"\n"),
-        ],
-    )
+    push_parts(out, &[Bytes(b"states "), Whole(states), Bytes(b"\n")])
 }
 
 /// Appends the word `init` and the initial state: a line's front, or all but the end of a line without a value. After `Memory` the text begins as before.
@@ -98,14 +84,7 @@ fn push_ended(out: &mut Vec<u8>, state: u32, end: &[u8]) -> Result<(), Memory>
     ensures front { Keeps out.old.items out.new.items }
     ensures unchanged { OnErr result (out.new.items ≡ out.old.items) }
 {
-    push_parts(
-        out,
-        &[
-            Part::Bytes(b"init "),
-            Part::Whole(u64::from(state)),
-            Part::Bytes(end),
-        ],
-    )
+    push_parts(out, &[Bytes(b"init "), Whole(u64::from(state)), Bytes(end)])
 }
 
 /// Appends the line of the initial state and its value.
@@ -117,11 +96,11 @@ fn push_finite(out: &mut Vec<u8>, state: u32, value: &Frac) -> Result<(), Memory
     push_parts(
         out,
         &[
-            Part::Bytes(b"init "),
-            Part::Whole(u64::from(state)),
-            Part::Bytes(b" "),
-            Part::Fraction(*value),
-            Part::Bytes(b"\n"),
+            Bytes(b"init "),
+            Whole(u64::from(state)),
+            Bytes(b" "),
+            Fraction(*value),
+            Bytes(b"\n"),
         ],
     )
 }
@@ -133,7 +112,7 @@ pub fn push_init(out: &mut Vec<u8>, init: &Init) -> Result<(), Memory>
     ensures unchanged { OnErr result (out.new.items ≡ out.old.items) }
 {
     match init {
-        Init::Missing => push_parts(out, &[Part::Bytes(b"init -\n")]),
+        Init::Missing => push_parts(out, &[Bytes(b"init -\n")]),
         Init::Finite(state, value) => push_finite(out, *state, value),
         Init::Infinite(state) => push_ended(out, *state, b" inf\n"),
         Init::Start(state) => push_ended(out, *state, b"\n"),
@@ -148,11 +127,11 @@ fn push_value(out: &mut Vec<u8>, state: u64, value: &Frac) -> Result<(), Memory>
     push_parts(
         out,
         &[
-            Part::Bytes(b"state "),
-            Part::Whole(state),
-            Part::Bytes(b" "),
-            Part::Fraction(*value),
-            Part::Bytes(b"\n"),
+            Bytes(b"state "),
+            Whole(state),
+            Bytes(b" "),
+            Fraction(*value),
+            Bytes(b"\n"),
         ],
     )
 }
@@ -185,5 +164,5 @@ pub fn push_end(out: &mut Vec<u8>) -> Result<(), Memory>
     ensures front { Keeps out.old.items out.new.items }
     ensures unchanged { OnErr result (out.new.items ≡ out.old.items) }
 {
-    push_parts(out, &[Part::Bytes(b"end\n")])
+    push_parts(out, &[Bytes(b"end\n")])
 }
