@@ -39,7 +39,10 @@ pub(crate) fn model_of(alloc: Global, signs: &str) -> Option<Model> {
     if push_signs(signs, &mut text).is_err() {
         return None;
     }
-    read(alloc, text.as_bytes(), RowRule::Exact).ok()
+    match read(alloc, text.as_bytes(), RowRule::Exact) {
+        Ok(model) => Some(model),
+        Err(_) => None,
+    }
 }
 
 /// The states with this label.
