@@ -5,169 +5,238 @@ use crate::models::{marked, model_of};
 use mdp_graph::{Pass, may_avoid, may_reach, must_meet, rounds_outside, sure_all, sure_some};
 use mdp_num::Memory;
 use mdp_rows::{Marks, Model, Pred, Preds, preds_of};
-use std::alloc::{AllocError, Global};
-use std::test::Fail;
-
-/// State 0 goes to 1 and 2, which stay; 2 is the goal.
-const SPLITS: &str = "| 1:1/2 2:1/2;| 1:1;*| 2:1";
+use std::alloc::Global;
 
 /// State 0 goes to 1 and 2, or may also come back; 1 is the goal.
-const FORK: &str = "| 1:1/2 2:1/2| 0:1/2 1:1/4 2:1/4;*| 1:1;| 2:1";
+const FORK: &str = "3#0| 1:1/2 2:1/2| 0:1/2 1:1/4 2:1/4;1*| 1:1;2| 2:1";
 
-/// Appends the rank and the choice of each state, or `-` where the state isn't marked and both are 0.
-fn push_pass(name: &str, pass: &Pass, states: u32, out: &mut String) -> Result<(), AllocError>
+/// The number that a digit says.
+fn digit_of(sign: u8) -> u32 {
+    u32::from(sign.saturating_sub(b'0'))
+}
+
+/// Whether state `s` is marked, with the rank and the choice that a word says, or isn't marked, and both are 0, where the word is `-`.
+fn gives_at(pass: &Pass, s: u32, word: &str) -> bool
+    requires { s < length pass.now.marks }
+{
+    let (is_marked, rank, choice) = match word.as_bytes() {
+        [rank, b'/', choice] => (true, digit_of(*rank), digit_of(*choice)),
+        _ => (word != "-", 0, 0),
+    };
+    pass.marks.at(s) == is_marked
+        && pass.ranks.get(s as usize) == Some(&rank)
+        && pass.choices.get(s as usize) == Some(&choice)
+}
+
+/// Whether a pass gives each state what the words say, one for each.
+fn gives(pass: &Pass, states: u32, due: &str) -> bool
     requires { length pass.now.marks ≡ states }
 {
-    out.push_str(name)?;
+    let mut words = due.split(' ');
     for s in 0..states {
-        let rank = pass.ranks.get(s as usize).copied();
-        let choice = pass.choices.get(s as usize).copied();
-        match (pass.marks.at(s), rank, choice) {
-            (false, Some(0), Some(0)) => out.push_str(" -")?,
-            (true, Some(rank), Some(choice)) => write!(out, " {rank}/{choice}")?,
-            _ => out.push_str(" ?")?,
+        let Some(word) = words.next() else {
+            return false;
+        };
+        if !gives_at(pass, s, word) {
+            return false;
         }
     }
-    Ok(())
+    words.next().is_none()
 }
 
-/// What `may_reach` finds.
-fn push_may(
-    alloc: Global,
-    model: &Model,
-    goals: &Marks,
-    blocked: &Marks,
-    out: &mut String,
-) -> Result<(), Fail>
-    requires goals { length goals.now ≡ states_of model.now }
-    requires blocked { length blocked.now ≡ states_of model.now }
+/// Whether `may_reach` gives what the words say.
+fn may_gives(alloc: Global, model: &Model, goals: &Marks, due: &str) -> bool
+    requires { length goals.now ≡ states_of model.now }
 {
-    let Ok(pass) = may_reach(alloc, model, goals, blocked) else {
-        return Err(Fail::from("memory"));
+    let Ok(blocked) = marked(alloc, model, "blocked") else {
+        return false;
     };
-    push_pass("may", &pass, model.states(), out)?;
-    Ok(())
+    let Ok(pass) = may_reach(alloc, model, goals, &blocked) else {
+        return false;
+    };
+    gives(&pass, model.states(), due)
 }
 
-/// What `must_meet` finds.
-fn push_must(alloc: Global, model: &Model, goals: &Marks, out: &mut String) -> Result<(), Fail>
+/// Whether `must_meet` gives what the words say.
+fn must_gives(alloc: Global, model: &Model, goals: &Marks, due: &str) -> bool
     requires { length goals.now ≡ states_of model.now }
 {
     let Ok(pass) = must_meet(alloc, model, goals) else {
-        return Err(Fail::from("memory"));
+        return false;
     };
-    push_pass(", must", &pass, model.states(), out)?;
-    Ok(())
+    gives(&pass, model.states(), due)
 }
 
-/// What `may_avoid` finds.
-fn push_avoid(alloc: Global, model: &Model, goals: &Marks, out: &mut String) -> Result<(), Fail>
+/// Whether `may_avoid` gives what the words say.
+fn avoid_gives(alloc: Global, model: &Model, goals: &Marks, due: &str) -> bool
     requires { length goals.now ≡ states_of model.now }
 {
     let Ok(pass) = may_avoid(alloc, model, goals) else {
-        return Err(Fail::from("memory"));
+        return false;
     };
-    push_pass(", avoid", &pass, model.states(), out)?;
-    Ok(())
+    gives(&pass, model.states(), due)
 }
 
-/// What `sure_some` finds.
-fn push_some(alloc: Global, model: &Model, goals: &Marks, out: &mut String) -> Result<(), Fail>
+/// Whether `sure_some` gives what the words say.
+fn some_gives(alloc: Global, model: &Model, goals: &Marks, due: &str) -> bool
     requires { length goals.now ≡ states_of model.now }
 {
     let Ok(pass) = sure_some(alloc, model, goals) else {
-        return Err(Fail::from("memory"));
+        return false;
     };
-    push_pass(", some", &pass, model.states(), out)?;
-    Ok(())
+    gives(&pass, model.states(), due)
 }
 
-/// What `sure_all` finds.
-fn push_all(alloc: Global, model: &Model, goals: &Marks, out: &mut String) -> Result<(), Fail>
+/// Whether `sure_all` gives what the words say.
+fn all_gives(alloc: Global, model: &Model, goals: &Marks, due: &str) -> bool
     requires { length goals.now ≡ states_of model.now }
 {
     let Ok(pass) = sure_all(alloc, model, goals) else {
-        return Err(Fail::from("memory"));
+        return false;
     };
-    push_pass(", all", &pass, model.states(), out)?;
-    Ok(())
+    gives(&pass, model.states(), due)
 }
 
-/// The rounds of `rounds_outside`.
-fn push_rounds(alloc: Global, model: &Model, goals: &Marks, out: &mut String) -> Result<(), Fail>
+/// Whether `rounds_outside` gives these rounds.
+fn rounds_are(alloc: Global, model: &Model, goals: &Marks, due: &[u32]) -> bool
     requires { length goals.now ≡ states_of model.now }
 {
     let Ok(rounds) = rounds_outside(alloc, model, goals) else {
-        return Err(Fail::from("memory"));
+        return false;
     };
-    out.push_str(", rounds")?;
-    for round in &rounds {
-        write!(out, " {round}")?;
-    }
-    Ok(())
+    rounds.as_slice() == due
 }
 
-/// What each pass finds on a model.
-fn found_in(alloc: Global, text: &str) -> Result<String, Fail> {
-    let model = model_of(alloc, text)?;
-    let Ok(goals) = marked(alloc, &model, "goal") else {
-        return Err(Fail::from("memory"));
+/// What is due of each pass on a model.
+#[derive(Clone, Copy)]
+struct Due<'a> {
+    may: &'a str,
+    must: &'a str,
+    avoid: &'a str,
+    some: &'a str,
+    all: &'a str,
+    rounds: &'a [u32],
+}
+
+/// Whether each pass finds what is due.
+fn finds_in(alloc: Global, model: &Model, due: &Due<'_>) -> bool {
+    let Ok(goals) = marked(alloc, model, "goal") else {
+        return false;
     };
-    let Ok(blocked) = marked(alloc, &model, "blocked") else {
-        return Err(Fail::from("memory"));
+    may_gives(alloc, model, &goals, due.may)
+        && must_gives(alloc, model, &goals, due.must)
+        && avoid_gives(alloc, model, &goals, due.avoid)
+        && some_gives(alloc, model, &goals, due.some)
+        && all_gives(alloc, model, &goals, due.all)
+        && rounds_are(alloc, model, &goals, due.rounds)
+}
+
+/// Whether each pass finds what is due in the model of a short text.
+fn finds(alloc: Global, signs: &str, due: &Due<'_>) -> bool {
+    let Some(model) = model_of(alloc, signs) else {
+        return false;
     };
-    let mut found = String::new(alloc);
-    push_may(alloc, &model, &goals, &blocked, &mut found)?;
-    push_must(alloc, &model, &goals, &mut found)?;
-    push_avoid(alloc, &model, &goals, &mut found)?;
-    push_some(alloc, &model, &goals, &mut found)?;
-    push_all(alloc, &model, &goals, &mut found)?;
-    push_rounds(alloc, &model, &goals, &mut found)?;
-    Ok(found)
+    finds_in(alloc, &model, due)
+}
+
+/// State 0 goes to 1 and 2, which stay; 2 is the goal.
+fn splits(alloc: Global) -> bool {
+    let due = Due {
+        may: "1/0 - 0/0",
+        must: "1/0 - 0/0",
+        avoid: "- 0/0 -",
+        some: "- - 0/0",
+        all: "- - 0/0",
+        rounds: &[2, 1, 0],
+    };
+    finds(alloc, "3#0| 1:1/2 2:1/2;1| 1:1;2*| 2:1", &due)
+}
+
+/// The same without a goal.
+fn has_no_goal(alloc: Global) -> bool {
+    let due = Due {
+        may: "- - -",
+        must: "- - -",
+        avoid: "0/0 0/0 0/0",
+        some: "- - -",
+        all: "- - -",
+        rounds: &[1, 1, 1],
+    };
+    finds(alloc, "3#0| 1:1/2 2:1/2;1| 1:1;2| 2:1", &due)
+}
+
+/// The first choice misses the goal, the second leads to it.
+fn chooses(alloc: Global) -> bool {
+    let due = Due {
+        may: "1/1 - 0/0",
+        must: "- - 0/0",
+        avoid: "0/0 0/0 -",
+        some: "1/1 - 0/0",
+        all: "- - 0/0",
+        rounds: &[0, 1, 0],
+    };
+    finds(alloc, "3#0| 1:1| 2:1;1| 1:1;2*| 2:1", &due)
+}
+
+/// A choice that stays.
+fn stays(alloc: Global) -> bool {
+    let due = Due {
+        may: "1/1 0/0",
+        must: "- 0/0",
+        avoid: "0/0 -",
+        some: "1/1 0/0",
+        all: "- 0/0",
+        rounds: &[0, 0],
+    };
+    finds(alloc, "2#0| 0:1| 1:1;1*| 1:1", &due)
+}
+
+/// A goal that is left again.
+fn leaves_goal(alloc: Global) -> bool {
+    let due = Due {
+        may: "1/0 0/0 -",
+        must: "1/0 0/0 -",
+        avoid: "- - 0/0",
+        some: "1/0 0/0 -",
+        all: "1/0 0/0 -",
+        rounds: &[0, 0, 1],
+    };
+    finds(alloc, "3#0| 1:1;1*| 2:1;2| 2:1", &due)
+}
+
+/// A second choice that may come back, and a trap.
+fn forks(alloc: Global) -> bool {
+    let due = Due {
+        may: "1/0 0/0 -",
+        must: "1/0 0/0 -",
+        avoid: "- - 0/0",
+        some: "- 0/0 -",
+        all: "- 0/0 -",
+        rounds: &[2, 0, 1],
+    };
+    finds(alloc, FORK, &due)
+}
+
+/// The way over state 1 is blocked, and so is the goal, which is one all the same.
+fn is_blocked(alloc: Global) -> bool {
+    let due = Due {
+        may: "2/1 - 1/0 0/0",
+        must: "2/0 1/0 1/0 0/0",
+        avoid: "- - - -",
+        some: "2/0 1/0 1/0 0/0",
+        all: "2/0 1/0 1/0 0/0",
+        rounds: &[0, 0, 0, 0],
+    };
+    finds(alloc, "4#0| 1:1| 2:1;1!| 3:1;2| 3:1;3*!| 3:1", &due)
 }
 
 /// Models of few states, and what each pass finds on them by hand.
 #[test]
-fn finds_sets_of_states(rt: HostRuntime) -> Result<(), Fail> {
-    for (model, found) in [
-        (
-            SPLITS,
-            "may 1/0 - 0/0, must 1/0 - 0/0, avoid - 0/0 -, some - - 0/0, all - - 0/0, rounds 2 1 0",
-        ),
-        // the same without a goal
-        (
-            "| 1:1/2 2:1/2;| 1:1;| 2:1",
-            "may - - -, must - - -, avoid 0/0 0/0 0/0, some - - -, all - - -, rounds 1 1 1",
-        ),
-        // the first choice misses the goal, the second leads to it
-        (
-            "| 1:1| 2:1;| 1:1;*| 2:1",
-            "may 1/1 - 0/0, must - - 0/0, avoid 0/0 0/0 -, some 1/1 - 0/0, all - - 0/0, rounds 0 1 0",
-        ),
-        // a choice that stays
-        (
-            "| 0:1| 1:1;*| 1:1",
-            "may 1/1 0/0, must - 0/0, avoid 0/0 -, some 1/1 0/0, all - 0/0, rounds 0 0",
-        ),
-        // a goal that is left again
-        (
-            "| 1:1;*| 2:1;| 2:1",
-            "may 1/0 0/0 -, must 1/0 0/0 -, avoid - - 0/0, some 1/0 0/0 -, all 1/0 0/0 -, rounds 0 0 1",
-        ),
-        // a second choice that may come back, and a trap
-        (
-            FORK,
-            "may 1/0 0/0 -, must 1/0 0/0 -, avoid - - 0/0, some - 0/0 -, all - 0/0 -, rounds 2 0 1",
-        ),
-        // the way over state 1 is blocked, and so is the goal, which is one all the same
-        (
-            "| 1:1| 2:1;!| 3:1;| 3:1;*!| 3:1",
-            "may 2/1 - 1/0 0/0, must 2/0 1/0 1/0 0/0, avoid - - - -, some 2/0 1/0 1/0 0/0, all 2/0 1/0 1/0 0/0, rounds 0 0 0 0",
-        ),
-    ] {
-        assert_eq!(rt; found_in(rt.alloc(), model)?.as_str(), found, "{model}");
-    }
-    Ok(())
+fn finds_sets_of_states(rt: HostRuntime) {
+    let alloc = rt.alloc();
+    assert!(rt; splits(alloc) && has_no_goal(alloc));
+    assert!(rt; chooses(alloc) && stays(alloc));
+    assert!(rt; leaves_goal(alloc) && forks(alloc) && is_blocked(alloc));
 }
 
 /// The choices that lead to each state: one list for each.
@@ -178,30 +247,38 @@ fn predecessors(alloc: Global, model: &Model) -> Result<Preds, Memory>
     preds_of(alloc, model)
 }
 
-/// The choices that lead to state `t`.
-fn push_leading(preds: &Preds, t: u32, out: &mut String) -> Result<(), AllocError>
-    requires { t < length preds.now }
-{
-    for Pred { state, choice } in preds.of(t) {
-        write!(out, "{state}/{choice} to {t}, ")?;
+/// Whether these are the choices, in this order.
+fn are(preds: &[Pred], due: &[(u32, u32)]) -> bool {
+    for (pred, (state, choice)) in preds.iter().zip(due) {
+        if pred.state != *state || pred.choice != *choice {
+            return false;
+        }
     }
-    Ok(())
+    preds.len() == due.len()
+}
+
+/// Whether the predecessors of a model of three states are these.
+fn leads(alloc: Global, model: &Model) -> bool
+    requires { states_of model.now ≡ 3 }
+{
+    let Ok(preds) = predecessors(alloc, model) else {
+        return false;
+    };
+    are(preds.of(0), &[(0, 1)])
+        && are(preds.of(1), &[(0, 0), (0, 1), (1, 0)])
+        && are(preds.of(2), &[(0, 0), (0, 1), (2, 0)])
+}
+
+/// Whether the predecessors of the fork are listed.
+fn fork_leads(alloc: Global) -> bool {
+    let Some(model) = model_of(alloc, FORK) else {
+        return false;
+    };
+    model.states() == 3 && leads(alloc, &model)
 }
 
 /// The predecessors of each state, ascending.
 #[test]
-fn lists_predecessors(rt: HostRuntime) -> Result<(), Fail> {
-    let model = model_of(rt.alloc(), FORK)?;
-    let Ok(preds) = predecessors(rt.alloc(), &model) else {
-        return Err(Fail::from("memory"));
-    };
-    let mut found = String::new(rt.alloc());
-    for t in 0..model.states() {
-        push_leading(&preds, t, &mut found)?;
-    }
-    assert_eq!(rt;
-        found.as_str(),
-        "0/1 to 0, 0/0 to 1, 0/1 to 1, 1/0 to 1, 0/0 to 2, 0/1 to 2, 2/0 to 2, "
-    );
-    Ok(())
+fn lists_predecessors(rt: HostRuntime) {
+    assert!(rt; fork_leads(rt.alloc()));
 }

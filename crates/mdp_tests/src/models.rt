@@ -1,4 +1,4 @@
-//! Models of texts, for the tests.
+//! Models of short texts, for the tests.
 
 ghost use Rattle.std.specs.Prelude.{◌≡◌, length, IfOk};
 ghost use Rattle.mdp_spec.specs.Mdp.{states_of};
@@ -7,34 +7,42 @@ use mdp_drn::read;
 use mdp_num::Memory;
 use mdp_rows::{Marks, Model, RowRule};
 use std::alloc::{AllocError, Global};
-use std::test::Fail;
 
-/// Appends what a sign stands for. `state` is the number of the last state.
-fn push_sign(sign: char, state: &mut u32, out: &mut String) -> Result<(), AllocError> {
+/// Appends what a sign stands for.
+fn push_sign(sign: char, text: &mut String) -> Result<(), AllocError> {
     match sign {
-        ';' => {
-            *state = state.saturating_add(1);
-            write!(out, "\nstate {state}")
-        }
-        '*' => out.push_str(" goal"),
-        '!' => out.push_str(" blocked"),
-        '|' => out.push_str("\naction"),
-        '[' => out.push_str(" ["),
-        ' ' => out.push_str("\n"),
-        other => out.push(other),
+        '#' => text.push_str("\n@model\nstate "),
+        ';' => text.push_str("\nstate "),
+        '*' => text.push_str(" goal"),
+        '!' => text.push_str(" blocked"),
+        '|' => text.push_str("\naction"),
+        '[' => text.push_str(" ["),
+        ' ' => text.push_str("\n"),
+        other => text.push(other),
     }
 }
 
-/// The model of a short text. `;` stands between states; a state begins with `*` if it is a goal and with `!` if it is blocked; `|` begins a choice, behind
-/// which its reward may stand in brackets, and a blank begins each entry.
-pub(crate) fn model_of(alloc: Global, text: &str) -> Result<Model, Fail> {
-    let mut whole = String::from_str(alloc, "@type: MDP\n@nr_states\n")?;
-    write!(whole, "{}\n@model\nstate 0", text.split(';').count())?;
-    let mut state = 0;
-    for sign in text.chars() {
-        push_sign(sign, &mut state, &mut whole)?;
+/// Appends what each sign stands for.
+fn push_signs(signs: &str, text: &mut String) -> Result<(), AllocError> {
+    for sign in signs.chars() {
+        push_sign(sign, text)?;
     }
-    Ok(read(alloc, whole.as_bytes(), RowRule::Exact)?)
+    Ok(())
+}
+
+/// The model of a short text. It begins with the number of states and `#`. `;` stands between states; a state is its number, `*` if it is a goal and `!`
+/// if it is blocked; `|` begins a choice, behind which its reward may stand in brackets, and a blank begins each entry.
+pub(crate) fn model_of(alloc: Global, signs: &str) -> Option<Model> {
+    let Ok(mut text) = String::from_str(alloc, "@type: MDP\n@nr_states\n") else {
+        return None;
+    };
+    if push_signs(signs, &mut text).is_err() {
+        return None;
+    }
+    match read(alloc, text.as_bytes(), RowRule::Exact) {
+        Ok(model) => Some(model),
+        Err(_) => None,
+    }
 }
 
 /// The states with this label.

@@ -3,20 +3,12 @@ use mdp_edge::{
     read_all, write_all,
 };
 use std::alloc::{AllocError, Global};
-use std::io::{ErrorKind, Read, Write};
+use std::fs;
+use std::fs::File;
 use std::test::Fail;
-use std::{fs, io};
 
 /// A text of 45 bytes.
 const TEXT: &[u8] = b"mdp-certificate 1\nclaim max reach \"goal\"\nend\n";
-
-fn store(alloc: Global, len: usize) -> Result<Vec<u8>, AllocError> {
-    let mut bytes = Vec::new(alloc);
-    for _ in 0..len {
-        bytes.push(0)?;
-    }
-    Ok(bytes)
-}
 
 fn source(
     alloc: Global,
@@ -24,130 +16,113 @@ fn source(
     chunk: usize,
     fails: &[u64],
 ) -> Result<ListSource, AllocError> {
-    let chunk = chunk.max(1);
-    Ok(ListSource::new(bytes.to_vec(alloc)?, chunk, fails.to_vec(alloc)?))
+    let bytes = bytes.to_vec(alloc)?;
+    Ok(ListSource::new(bytes, chunk.max(1), fails.to_vec(alloc)?))
+}
+
+/// Whether these bytes are read to the end of a source.
+fn gives<S: Source>(alloc: Global, source: &mut S, limit: usize, due: &[u8]) -> bool {
+    let Ok(bytes) = read_all(alloc, source, limit) else {
+        return false;
+    };
+    bytes.as_slice() == due
+}
+
+/// A source of as many bytes as the limit.
+fn reads_four(alloc: Global, chunk: usize) -> bool {
+    let Ok(mut four) = source(alloc, b"abcd", chunk, &[]) else {
+        return false;
+    };
+    gives(alloc, &mut four, 4, b"abcd")
+}
+
+/// A source of one byte more.
+fn refuses_five(alloc: Global, chunk: usize) -> bool {
+    let Ok(mut five) = source(alloc, b"abcde", chunk, &[]) else {
+        return false;
+    };
+    matches!(read_all(alloc, &mut five, 4), Err(InError::Long))
+}
+
+/// A source that fails at its second call.
+fn reads_behind_a_fault(alloc: Global) -> bool {
+    let Ok(mut failing) = source(alloc, b"abcd", 2, &[1]) else {
+        return false;
+    };
+    matches!(read_all(alloc, &mut failing, 4), Err(InError::ReadFault))
+        && gives(alloc, &mut failing, 4, b"cd")
+}
+
+/// A source that never fails.
+fn reads_surely(alloc: Global) -> bool {
+    let Ok(text) = TEXT.to_vec(alloc) else {
+        return false;
+    };
+    gives(alloc, &mut SureSource::new(text), 100, TEXT)
 }
 
 /// What `read_all` gives within the limit, at each chunk.
 #[test]
-fn reads_to_the_end(rt: HostRuntime) -> Result<(), Fail> {
+fn reads_to_the_end(rt: HostRuntime) {
     for chunk in [1, 2, 3, 9] {
-        let mut five = source(rt.alloc(), b"abcde", chunk, &[])?;
-        assert!(rt; matches!(read_all(rt.alloc(), &mut five, 4), Err(InError::Long)));
-        let mut four = source(rt.alloc(), b"abcd", chunk, &[])?;
-        let bytes = read_all(rt.alloc(), &mut four, 4).ok().ok_or("not read")?;
-        assert_eq!(rt; bytes.as_slice(), b"abcd".as_slice());
+        assert!(rt; refuses_five(rt.alloc(), chunk) && reads_four(rt.alloc(), chunk));
     }
-    let mut failing = source(rt.alloc(), b"abcd", 2, &[1])?;
-    assert!(rt;
-        matches!(
-            read_all(rt.alloc(), &mut failing, 4),
-            Err(InError::ReadFault)
-        )
-    );
-    let rest = read_all(rt.alloc(), &mut failing, 4)
-        .ok()
-        .ok_or("not read")?;
-    assert_eq!(rt; rest.as_slice(), b"cd".as_slice());
-    let mut sure = SureSource::new(TEXT.to_vec(rt.alloc())?);
-    let bytes = read_all(rt.alloc(), &mut sure, 100).ok().ok_or("not read")?;
-    assert_eq!(rt; bytes.as_slice(), TEXT);
-    Ok(())
+    assert!(rt; reads_behind_a_fault(rt.alloc()) && reads_surely(rt.alloc()));
+}
+
+/// A sink of so much room that takes 16 bytes a call, and fails at the call of this number.
+fn sink(alloc: Global, room: usize, fails: u64) -> Result<ListSink, AllocError> {
+    let store = vec![in alloc; 0; room]?;
+    Ok(ListSink::new(store, 16, [fails].to_vec(alloc)?))
+}
+
+/// Whether such a sink takes so many bytes of the text, and whether that is all.
+fn takes(alloc: Global, room: usize, fails: u64, taken: usize, is_all: bool) -> bool {
+    let Ok(mut sink) = sink(alloc, room, fails) else {
+        return false;
+    };
+    write_all(&mut sink, TEXT).is_ok() == is_all && Some(sink.bytes()) == TEXT.get(..taken)
+}
+
+/// A sink that never fails.
+fn writes_surely() -> bool {
+    let mut sure = SureSink::new();
+    write_all(&mut sure, TEXT).is_ok() && sure.count() == 45
 }
 
 /// What a sink over a store has taken, and whether all was.
 #[test]
-fn writes_to_the_end(rt: HostRuntime) -> Result<(), Fail> {
-    for (room, fails, taken, is_all) in [
-        (100, 9, 45, true),
-        (100, 1, 16, false),
-        (40, 9, 40, false),
-        (100, 3, 45, false),
-    ] {
-        let fails = [fails].to_vec(rt.alloc())?;
-        let mut sink = ListSink::new(store(rt.alloc(), room)?, 16, fails);
-        assert_eq!(rt; write_all(&mut sink, TEXT).is_ok(), is_all, "room {room}");
-        assert_eq!(rt; sink.bytes().len(), taken, "room {room}");
-        assert!(rt; TEXT.starts_with(sink.bytes()), "room {room}");
-    }
-    let mut sure = SureSink::new();
-    assert!(rt; write_all(&mut sure, TEXT).is_ok());
-    assert_eq!(rt; sure.count(), 45);
-    Ok(())
+fn writes_to_the_end(rt: HostRuntime) {
+    let alloc = rt.alloc();
+    assert!(rt; takes(alloc, 100, 9, 45, true) && takes(alloc, 100, 1, 16, false));
+    assert!(rt; takes(alloc, 40, 9, 40, false) && takes(alloc, 100, 3, 45, false));
+    assert!(rt; writes_surely());
+}
+
+/// Whether the text is written to a file.
+fn is_stored(file: File) -> bool {
+    write_all(&mut StdSink::new(file), TEXT).is_ok()
+}
+
+/// Whether the text is read from a file.
+fn is_kept(alloc: Global, file: File) -> bool {
+    gives(alloc, &mut StdSource::new(Some(file)), 100, TEXT)
+}
+
+/// Whether the want of a file is a fault.
+fn is_missed(alloc: Global, file: Option<File>) -> bool {
+    matches!(
+        read_all(alloc, &mut StdSource::new(file), 100),
+        Err(InError::ReadFault)
+    )
 }
 
 /// What is written to a file is read back from it.
 #[test]
 fn files(rt: HostRuntime) -> Result<(), Fail> {
-    let mut sink = StdSink::new(fs::create(&rt, "mdp_edge_test")?);
-    assert!(rt; write_all(&mut sink, TEXT).is_ok());
-    let mut source = StdSource::new(fs::open(&rt, "mdp_edge_test").ok());
-    let bytes = read_all(rt.alloc(), &mut source, 100)
-        .ok()
-        .ok_or("not read")?;
-    assert_eq!(rt; bytes.as_slice(), TEXT);
+    assert!(rt; is_stored(fs::create(&rt, "mdp_edge_test")?));
+    assert!(rt; is_kept(rt.alloc(), fs::open(&rt, "mdp_edge_test")?));
     fs::remove_file(&rt, "mdp_edge_test")?;
-    let mut missing = StdSource::new(fs::open(&rt, "mdp_edge_test").ok());
-    assert!(rt;
-        matches!(
-            read_all(rt.alloc(), &mut missing, 100),
-            Err(InError::ReadFault)
-        )
-    );
+    assert!(rt; is_missed(rt.alloc(), fs::open(&rt, "mdp_edge_test").ok()));
     Ok(())
-}
-
-/// A reader and a writer that are interrupted so often before each call.
-#[derive(Drop)]
-struct Interrupted {
-    times: u32,
-    left: u32,
-}
-
-impl Interrupted {
-    fn call(&mut self) -> io::Result<()> {
-        if self.left == 0 {
-            self.left = self.times;
-            return Ok(());
-        }
-        self.left -= 1;
-        Err(io::Error::from(ErrorKind::Interrupted))
-    }
-}
-
-impl Read for Interrupted {
-    fn read(&mut self, buf: &mut [u8]) -> io::Result<usize> {
-        self.call()?;
-        Ok(buf.len().min(1))
-    }
-}
-
-impl Write for Interrupted {
-    fn write(&mut self, piece: &[u8]) -> io::Result<usize> {
-        self.call()?;
-        Ok(piece.len().min(1))
-    }
-
-    fn flush(&mut self) -> io::Result<()> {
-        self.call()
-    }
-}
-
-/// Interrupted 999 times, a call succeeds at the thousandth try.
-#[test]
-fn interruptions(rt: HostRuntime) {
-    for (times, is_fault) in [(0, false), (999, false), (1000, true)] {
-        let left = times;
-        let mut buf = [0; 4];
-        let mut source = StdSource::new(Some(Interrupted { times, left }));
-        let read = if is_fault { None } else { Some(1) };
-        assert_eq!(rt; source.read(&mut buf).ok(), read, "{times} times");
-        let mut sink = StdSink::new(Interrupted { times, left });
-        assert_eq!(rt; sink.write(b"ab").ok(), read, "{times} times");
-        let mut sink = StdSink::new(Interrupted { times, left });
-        assert_eq!(rt; sink.flush().is_err(), is_fault, "{times} times");
-    }
-    let mut full: [u8; 0] = [];
-    let mut sink = StdSink::new(full.as_mut_slice());
-    assert!(rt; sink.write(b"a").is_err());
 }

@@ -1,12 +1,15 @@
 use mdp_rows::Marks;
-use std::test::Fail;
+use std::alloc::Global;
 
-#[test]
-fn marks_states(rt: HostRuntime) -> Result<(), Fail> {
-    let Ok(mut marks) = Marks::empty(rt.alloc(), 2) else {
-        return Err(Fail::from("memory"));
+fn marks_second(alloc: Global) -> bool {
+    let Ok(mut marks) = Marks::empty(alloc, 2) else {
+        return false;
     };
     marks.set(1, true);
-    assert!(rt; !marks.at(0) && marks.at(1));
-    Ok(())
+    !marks.at(0) && marks.at(1)
+}
+
+#[test]
+fn marks_states(rt: HostRuntime) {
+    assert!(rt; marks_second(rt.alloc()));
 }
