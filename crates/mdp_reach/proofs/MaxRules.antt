@@ -27,7 +27,8 @@ use Rattle.mdp_reach.proofs.Policies.{active-open, open-row}
 use Rattle.mdp_reach.proofs.Starts.{least-policy}
 use Rattle.mdp_reach.proofs.Chances.{goal-value, closed-value, open-value, nonneg, at-most_one, sum-nonneg, sum-zero, outside-zero}
 use Rattle.mdp_reach.proofs.Kept.{found-policy, no-better}
-use Rattle.mdp_reach.proofs.Rows.{none_in, some-false, no_mark, row-known, goal-along, goal-rank, row-falls, row-stays}
+use Rattle.mdp_rows.proofs.Queries.Policies.{row-known}
+use Rattle.mdp_reach.proofs.Rows.{none_in, some-false, no_mark, goal-along, goal-rank, row-falls, row-stays}
 
 module _ (m : Mdp) (goals marks : List Bool) (start policy ranks : List ℕ) (x : List ℚ) (model : IsMdp m) (start_is : IsMaxStart m goals marks start)
     (found : IsBestFrom (reach_problem Max m goals marks) start policy x) (along : AreMaxRanks m goals policy ranks)

@@ -14,6 +14,7 @@ use Rattle.mdp_spec.specs.Row.{IsMdp, row_sum}
 use Rattle.mdp_spec.specs.Rules.{RanksEnd, MeetsReachMin}
 use Rattle.mdp_spec.specs.Tree.{is_marked}
 use Rattle.mdp_spec.specs.Tree as tree
+use Rattle.mdp_rows.proofs.Either.{or_left, or_right}
 use Rattle.mdp_rows.specs.declared.dir.Dir.TheVariants.{Min}
 use Rattle.mdp_graph.specs.Sets.{marked, can_enter, stays_in}
 use Rattle.mdp_graph.specs.Layers.{reached}
@@ -27,7 +28,8 @@ use Rattle.mdp_reach.specs.Query.{IsMinStart, AreMinRanks, ending}
 use Rattle.mdp_reach.proofs.Starts.{least-policy}
 use Rattle.mdp_reach.proofs.Chances.{goal-value, closed-value, open-value, nonneg, at-most_one, sum-nonneg, sum-zero}
 use Rattle.mdp_reach.proofs.Kept.{found-policy, closed-kept, no-better}
-use Rattle.mdp_reach.proofs.Rows.{all_in, each-true, row-known}
+use Rattle.mdp_rows.proofs.Queries.Policies.{row-known}
+use Rattle.mdp_reach.proofs.Rows.{all_in, each-true}
 
 module _ (m : Mdp) (goals marks : List Bool) (start policy ranks : List ℕ) (x : List ℚ) (model : IsMdp m) (start_is : IsMinStart m goals marks start)
     (found : IsBestFrom (reach_problem Min m goals marks) start policy x) (meet : AreMinRanks m goals x ranks) (rest : RestAvoids) where
@@ -69,14 +71,6 @@ module _ (m : Mdp) (goals marks : List Bool) (start policy ranks : List ℕ) (x 
 
   target-is : (s : ℕ) → s < states_of m → marked targets s ≡ (is_marked goals s || not (lt_ℚ 0ℚ (z s)))
   target-is s l = get_or-map-range_with_len (λ s. is_marked goals s || not (lt_ℚ 0ℚ (z s))) 0 (states_of m) s s false l (zero-add s)
-
-  or_left : (a b : Bool) → a ≡ true → (a || b) ≡ true
-  or_left true b e = refl
-  or_left false b e = cc
-
-  or_right : (a b : Bool) → b ≡ true → (a || b) ≡ true
-  or_right true b e = refl
-  or_right false b e = e
 
   goal_target : (s : ℕ) → s < states_of m → is_marked goals s ≡ true → marked targets s ≡ true
   goal_target s l g = target-is s l ∙ or_left (is_marked goals s) (not (lt_ℚ 0ℚ (z s))) g

@@ -1,15 +1,15 @@
 -- Sets of states that rows lead into or not, and the rows of a policy with the ranks along them.
-use Rattle.std.proofs.Common.{◌≡◌, ℕ, zero, suc, ◌<◌, Bool, true, false, ◌&&◌, nat_lt, List, [], ◌∷◌, get_or, length, replicate, refl, sym, subst, zero-add, arith}
+use Rattle.std.proofs.Common.{◌≡◌, ℕ, zero, suc, ◌<◌, Bool, true, false, ◌&&◌, nat_lt, List, [], ◌∷◌, get_or, length, replicate, refl, sym, subst, arith}
 use Rattle.std.specs.List.{All, Any, list_all}
-use Rattle.std.specs.Prelude.{slice_index, slice_index_or}
-use Rattle.std.proofs.lemmas.List.{get_or_default}
-use Rattle.std.proofs.lemmas.List.FromFn.{get_or-map-range_with_len, length-map-range_with_len}
+use Rattle.std.specs.Prelude.{slice_index}
 use Rattle.std.proofs.lemmas.List.Folds.{Any-from_list_any, list_any_at}
 use Rattle.mdp_math.proofs.Booleans.{and-left, and-right, false_of_not}
 use Rattle.mdp_math.proofs.Kernel.{Any-and}
 use Rattle.mdp_spec.specs.Mdp.{Mdp, Entry, Choice, no_choice, states_of, row_at, choices_at}
-use Rattle.mdp_spec.specs.Row.{IsMdp, IsRow, AreRows}
+use Rattle.mdp_spec.specs.Row.{IsMdp}
 use Rattle.mdp_spec.specs.Tree.{IsPolicy, is_marked}
+pub use Rattle.mdp_rows.proofs.Queries.Policies.{row-known}
+use Rattle.mdp_rows.proofs.Queries.Policies.{rows-len, row-is, are_rows}
 use Rattle.mdp_graph.specs.Sets.{marked, can_enter, stays_in, some_choice, each_choice}
 use Rattle.mdp_graph.specs.Layers.{reached, AreReached, AreLeastRanks}
 use Rattle.mdp_graph.specs.Reach.{row_step}
@@ -47,23 +47,7 @@ module _ (m : Mdp) (policy : List ℕ) where
   abbrev row : ℕ → List Entry
   row s = row_at m s (slice_index policy s)
 
-  rows-len : length (policy_rows m policy) ≡ states_of m
-  rows-len = length-map-range_with_len row 0 (states_of m)
-
-  row-is : (s : ℕ) → s < states_of m → slice_index_or (policy_rows m policy) s [] ≡ row s
-  row-is s l = get_or-map-range_with_len row 0 (states_of m) s s [] l (zero-add s)
-
   module _ (model : IsMdp m) (is : IsPolicy m policy) where
-    pub row-known : (s : ℕ) → s < states_of m → IsRow (states_of m) (row s)
-    row-known s l = model.row s (slice_index policy s) l (is.in_range s l)
-
-    are_rows : AreRows (policy_rows m policy)
-    are_rows = λ k d l.
-        let n = rows-len in
-        let i : k < states_of m = omega arith in
-        subst (λ (r : List Entry). IsRow (length (policy_rows m policy)) r) (get_or_default (policy_rows m policy) k [] d l)
-        (subst (λ (r : List Entry). IsRow (length (policy_rows m policy)) r) (sym (row-is k i)) (subst (λ (j : ℕ). IsRow j (row k)) (sym n) (row-known k i)))
-
     -- ---- the ranks along them
 
     module _ (goals : List Bool) (ranks : List ℕ) (along : AreMaxRanks m goals policy ranks) where
@@ -71,13 +55,13 @@ module _ (m : Mdp) (policy : List ℕ) where
       rank s = slice_index ranks s
 
       as_rows : AreReached (row_step (policy_rows m policy)) (marked goals) (length (policy_rows m policy)) along.marks
-      as_rows = subst (λ (n : ℕ). AreReached (row_step (policy_rows m policy)) (marked goals) n along.marks) (sym rows-len) along.reached
+      as_rows = subst (λ (n : ℕ). AreReached (row_step (policy_rows m policy)) (marked goals) n along.marks) (sym (rows-len m policy)) along.reached
 
       least_as_rows : AreLeastRanks (row_step (policy_rows m policy)) (marked goals) (length (policy_rows m policy)) along.marks ranks
-      least_as_rows = subst (λ (n : ℕ). AreLeastRanks (row_step (policy_rows m policy)) (marked goals) n along.marks ranks) (sym rows-len) along.least
+      least_as_rows = subst (λ (n : ℕ). AreLeastRanks (row_step (policy_rows m policy)) (marked goals) n along.marks ranks) (sym (rows-len m policy)) along.least
 
       below_rows : (s : ℕ) → s < states_of m → s < length (policy_rows m policy)
-      below_rows s l = let n = rows-len in omega arith
+      below_rows s l = let n = rows-len m policy in omega arith
 
       pub goal-along : (s : ℕ) → s < states_of m → is_marked goals s ≡ true → marked along.marks s ≡ true
       unfolding reached
@@ -95,9 +79,9 @@ module _ (m : Mdp) (policy : List ℕ) where
       pub row-falls : RowsFall → (s : ℕ) → s < states_of m → marked along.marks s ≡ true → is_marked goals s ≡ false
           → Any (λ y. (y.target < states_of m) × (marked along.marks y.target ≡ true) × (rank y.target < rank s)) (row s)
       row-falls falls s l e g =
-          let h = falls (policy_rows m policy) goals along.marks ranks are_rows as_rows least_as_rows s (below_rows s l) e g in
-          let a = Any-and (λ y. y.target < states_of m) (λ y. falling s y.target ≡ true) (row s) (row-known s l).in_range
-          (Any-from_list_any (λ (y : Entry). falling s y.target) (row s) (subst (λ (r : List Entry). can_enter (falling s) r ≡ true) (row-is s l) h)) in
+          let h = falls (policy_rows m policy) goals along.marks ranks (are_rows m policy model is) as_rows least_as_rows s (below_rows s l) e g in
+          let a = Any-and (λ y. y.target < states_of m) (λ y. falling s y.target ≡ true) (row s) (row-known m policy model is s l).in_range
+          (Any-from_list_any (λ (y : Entry). falling s y.target) (row s) (subst (λ (r : List Entry). can_enter (falling s) r ≡ true) (row-is m policy s l) h)) in
           let t = Entry.target a.1 in (
             a.0,
             a.1,
@@ -110,4 +94,4 @@ module _ (m : Mdp) (policy : List ℕ) where
       pub row-stays : RowsStay → (s : ℕ) → s < states_of m → marked along.marks s ≡ false → All (λ y. marked along.marks y.target ≡ false) (row s)
       row-stays stays s l e =
           none_in (marked along.marks) (row s)
-          (subst (λ (r : List Entry). can_enter (marked along.marks) r ≡ false) (row-is s l) (stays (policy_rows m policy) goals along.marks are_rows as_rows s (below_rows s l) e))
+          (subst (λ (r : List Entry). can_enter (marked along.marks) r ≡ false) (row-is m policy s l) (stays (policy_rows m policy) goals along.marks (are_rows m policy model is) as_rows s (below_rows s l) e))

@@ -1,10 +1,9 @@
 -- A query has an end: its start exists, its path has one, and what that finds meets the rules, so that the check isn't a no.
-use Rattle.std.proofs.Common.{◌≡◌, ℕ, ◌<◌, ◌==◌, Bool, List, [], map, is_some, is_none, Result, Ok, Err, Option, refl, sym, subst, zero-add}
-use Rattle.std.specs.Prelude.{slice_index, slice_index_or}
+use Rattle.std.proofs.Common.{◌≡◌, ℕ, ◌<◌, ◌==◌, Bool, List, [], map, is_some, is_none, Result, Ok, Err, Option, refl, sym, subst}
+use Rattle.std.specs.Prelude.{slice_index_or}
 use Rattle.std.specs.List.{All}
-use Rattle.std.proofs.lemmas.List.FromFn.{get_or-map-range_with_len}
 use Rattle.mdp_math.specs.Rational.{ℚ}
-use Rattle.mdp_spec.specs.Mdp.{Mdp, Entry, states_of, row_at}
+use Rattle.mdp_spec.specs.Mdp.{Mdp, Entry, states_of}
 use Rattle.mdp_spec.specs.Row.{IsMdp}
 use Rattle.mdp_spec.specs.Tree.{is_marked}
 use Rattle.mdp_spec.specs.Tree as tree
@@ -38,7 +37,7 @@ use Rattle.mdp_reward.specs.Query.{Answer, split, unmarked, IsMaxStart, IsMinSta
 use Rattle.mdp_reward.proofs.Answering.{PassLaws, meets-reward}
 use Rattle.mdp_reward.proofs.Kept.{found-policy}
 use Rattle.mdp_graph.proofs.Rising.{may_rises, must_rises, row_rises, inside_rises, ways_exist}
-use Rattle.mdp_reward.proofs.Rows.{row-known}
+use Rattle.mdp_rows.proofs.Queries.Policies.{row-known, row-is}
 use Rattle.mdp_graph.proofs.Settling.{ranks_exist}
 use Rattle.mdp_reward.proofs.SomeRounds.{rounds_exist}
 use Rattle.mdp_reward.proofs.Starts.{start-solvable, start-choices}
@@ -113,10 +112,8 @@ module _ (m : Mdp) (ok : IsMdp m) (goals : List Bool) where
   min_ranks : (finite : List Bool) (known policy : List ℕ) → tree.IsPolicy m policy → (ranks : List ℕ) × AreMinRanks m goals finite known policy ranks
   min_ranks finite known policy is =
       let rows = policy_rows m policy in
-      let at : (s : ℕ) → s < states_of m → slice_index_or rows s [] ≡ row_at m s (slice_index policy s) =
-      λ s h. get_or-map-range_with_len (λ t. row_at m t (slice_index policy t)) 0 (states_of m) s s [] h (zero-add s) in
       let range : (s : ℕ) → s < states_of m → All (λ y. y.target < states_of m) (slice_index_or rows s []) =
-      λ s h. (let row = row-known m policy ok is s h in subst (λ (es : List Entry). All (λ y. y.target < states_of m) es) (sym (at s h)) row.in_range) in
+      λ s h. (let row = row-known m policy ok is s h in subst (λ (es : List Entry). All (λ y. y.target < states_of m) es) (sym (row-is m policy s h)) row.in_range) in
       let w = ranks_exist (row_step rows) (is_marked goals) (states_of m) (row_rises rows (states_of m) range) in (
         split m finite (map plain_rank w.0) known,
         record {

@@ -1,16 +1,16 @@
 -- Sets of states that rows lead into or stay in, and the rows of a policy with the ranks along them.
 use Rattle.std.proofs.Common.{◌≡◌, ℕ, ◌<◌, Bool, true, false, ◌&&◌, nat_lt, List, [], ◌∷◌, length, refl, sym, ap, subst, zero-add, arith, if◌then◌else◌}
 use Rattle.std.specs.List.{All, Any, list_all}
-use Rattle.std.specs.Prelude.{slice_index, slice_index_or}
+use Rattle.std.specs.Prelude.{slice_index}
 use Rattle.std.proofs.lemmas.Bool.Decides.{nat_tests}
-use Rattle.std.proofs.lemmas.List.{get_or_default}
-use Rattle.std.proofs.lemmas.List.FromFn.{get_or-map-range_with_len, length-map-range_with_len}
+use Rattle.std.proofs.lemmas.List.FromFn.{get_or-map-range_with_len}
 use Rattle.std.proofs.lemmas.List.Folds.{Any-from_list_any, list_any_at}
 use Rattle.mdp_math.specs.Rational.{ℚ}
 use Rattle.mdp_math.proofs.Booleans.{and-right, false_of_not}
 use Rattle.mdp_spec.specs.Mdp.{Mdp, Entry, Choice, no_choice, states_of, row_at, choices_at}
-use Rattle.mdp_spec.specs.Row.{IsMdp, IsRow, AreRows, entries}
+use Rattle.mdp_spec.specs.Row.{IsMdp, entries}
 use Rattle.mdp_spec.specs.Tree.{IsPolicy, is_marked}
+use Rattle.mdp_rows.proofs.Queries.Policies.{rows-len, row-is, are_rows}
 use Rattle.mdp_graph.specs.Sets.{marked, can_enter, stays_in, each_choice}
 use Rattle.mdp_graph.specs.Layers.{reached, AreReached, AreLeastRanks}
 use Rattle.mdp_graph.specs.Reach.{row_step}
@@ -58,23 +58,7 @@ module _ (m : Mdp) (policy : List ℕ) where
   abbrev row : ℕ → List Entry
   row s = row_at m s (slice_index policy s)
 
-  rows-len : length (policy_rows m policy) ≡ states_of m
-  rows-len = length-map-range_with_len row 0 (states_of m)
-
-  row-is : (s : ℕ) → s < states_of m → slice_index_or (policy_rows m policy) s [] ≡ row s
-  row-is s l = get_or-map-range_with_len row 0 (states_of m) s s [] l (zero-add s)
-
   module _ (model : IsMdp m) (is : IsPolicy m policy) where
-    pub row-known : (s : ℕ) → s < states_of m → IsRow (states_of m) (row s)
-    row-known s l = model.row s (slice_index policy s) l (is.in_range s l)
-
-    are_rows : AreRows (policy_rows m policy)
-    are_rows = λ k d l.
-        let n = rows-len in
-        let i : k < states_of m = omega arith in
-        subst (λ (r : List Entry). IsRow (length (policy_rows m policy)) r) (get_or_default (policy_rows m policy) k [] d l)
-        (subst (λ (r : List Entry). IsRow (length (policy_rows m policy)) r) (sym (row-is k i)) (subst (λ (j : ℕ). IsRow j (row k)) (sym n) (row-known k i)))
-
     -- ---- the ranks along them
 
     module _ (goals marks : List Bool) (along : List ℕ) (marking : AreReached (row_step (policy_rows m policy)) (is_marked goals) (states_of m) marks)
@@ -83,13 +67,13 @@ module _ (m : Mdp) (policy : List ℕ) where
       rank s = slice_index along s
 
       as_rows : AreReached (row_step (policy_rows m policy)) (marked goals) (length (policy_rows m policy)) marks
-      as_rows = subst (λ (n : ℕ). AreReached (row_step (policy_rows m policy)) (marked goals) n marks) (sym rows-len) marking
+      as_rows = subst (λ (n : ℕ). AreReached (row_step (policy_rows m policy)) (marked goals) n marks) (sym (rows-len m policy)) marking
 
       least_as_rows : AreLeastRanks (row_step (policy_rows m policy)) (marked goals) (length (policy_rows m policy)) marks along
-      least_as_rows = subst (λ (n : ℕ). AreLeastRanks (row_step (policy_rows m policy)) (marked goals) n marks along) (sym rows-len) ranking
+      least_as_rows = subst (λ (n : ℕ). AreLeastRanks (row_step (policy_rows m policy)) (marked goals) n marks along) (sym (rows-len m policy)) ranking
 
       below_rows : (s : ℕ) → s < states_of m → s < length (policy_rows m policy)
-      below_rows s l = let n = rows-len in omega arith
+      below_rows s l = let n = rows-len m policy in omega arith
 
       -- a goal is marked and has rank 0
       pub goal-along : (s : ℕ) → s < states_of m → is_marked goals s ≡ true → is_marked marks s ≡ true
@@ -106,13 +90,13 @@ module _ (m : Mdp) (policy : List ℕ) where
       -- the row of another marked state leads to a smaller rank
       pub row-falls : RowsFall → (s : ℕ) → s < states_of m → is_marked marks s ≡ true → is_marked goals s ≡ false → Any (λ y. rank y.target < rank s) (row s)
       row-falls falls s l e g =
-          let h = falls (policy_rows m policy) goals marks along are_rows as_rows least_as_rows s (below_rows s l) e g in
+          let h = falls (policy_rows m policy) goals marks along (are_rows m policy model is) as_rows least_as_rows s (below_rows s l) e g in
           any_mono (λ y. falling s y.target ≡ true) (λ y. rank y.target < rank s) (row s)
           (λ y f. lt_of_test (rank y.target) (rank s) (and-right (marked marks y.target) (nat_lt (rank y.target) (rank s)) f))
-          (Any-from_list_any (λ (y : Entry). falling s y.target) (row s) (subst (λ (r : List Entry). can_enter (falling s) r ≡ true) (row-is s l) h))
+          (Any-from_list_any (λ (y : Entry). falling s y.target) (row s) (subst (λ (r : List Entry). can_enter (falling s) r ≡ true) (row-is m policy s l) h))
 
       -- that of a state that isn't marked leads to no marked one
       pub row-stays : RowsStay → (s : ℕ) → s < states_of m → is_marked marks s ≡ false → All (λ y. is_marked marks y.target ≡ false) (row s)
       row-stays stays s l e =
           none_in (marked marks) (row s)
-          (subst (λ (r : List Entry). can_enter (marked marks) r ≡ false) (row-is s l) (stays (policy_rows m policy) goals marks are_rows as_rows s (below_rows s l) e))
+          (subst (λ (r : List Entry). can_enter (marked marks) r ≡ false) (row-is m policy s l) (stays (policy_rows m policy) goals marks (are_rows m policy model is) as_rows s (below_rows s l) e))

@@ -13,6 +13,7 @@ use Rattle.mdp_math.proofs.Kernel.{All-head, All-tail}
 use Rattle.mdp_spec.specs.Mdp.{Entry, Mdp, states_of, choices_at, row_at}
 use Rattle.mdp_spec.specs.Row.{IsMdp}
 use Rattle.mdp_spec.specs.Tree.{IsPolicy, is_marked}
+use Rattle.mdp_rows.proofs.Either.{or_left, or_right}
 use Rattle.mdp_rows.specs.declared.dir.Dir.{Dir}
 use Rattle.mdp_rows.specs.declared.dir.Dir.TheVariants.{Max, Min}
 use Rattle.mdp_subsystem_rules.specs.Kept.{is_listed}
@@ -106,14 +107,6 @@ module _ (dir : Dir) (m : Mdp) (goals : List Bool) (z : List ℚ) (policy : List
 
     waited : (v : ℕ) → is_listed f.waiting v ≡ (is_listed waiting v || is_listed (s ∷ []) v)
     waited v = ap (λ (xs : List ℕ). is_listed xs v) popped ∙ list_any-append (λ k. eqb k v) waiting (s ∷ [])
-
-    or_left : (a b : Bool) → a ≡ true → (a || b) ≡ true
-    or_left true b h = refl
-    or_left false b h = cc
-
-    or_right : (a b : Bool) → b ≡ true → (a || b) ≡ true
-    or_right true b h = refl
-    or_right false b h = h
 
     self : is_marked f.found s ≡ true
     self = finding.listed s (waited s ∙ or_right (is_listed waiting s) (is_listed (s ∷ []) s) (or_left (eqb s s) false (eq-eqb s s refl)))

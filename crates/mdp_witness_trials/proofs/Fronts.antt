@@ -19,6 +19,7 @@ use Rattle.mdp_spec.specs.Tree.{is_marked}
 use Rattle.mdp_subsystem_rules.specs.Kept.{is_listed}
 use Rattle.mdp_witness_trials.specs.First.{is_open}
 use Rattle.mdp_witness_trials.specs.FrontCode.{Front, with_state, with_row}
+use Rattle.mdp_rows.proofs.Either.{or_left, or_right}
 
 -- ---- marks
 
@@ -79,14 +80,6 @@ or_cases false b h = inr h
 not_is : (b : Bool) → not b ≡ true → b ≡ false
 not_is true h = cc
 not_is false h = refl
-
-or_left : (a b : Bool) → a ≡ true → (a || b) ≡ true
-or_left true b h = refl
-or_left false b h = cc
-
-or_right : (a b : Bool) → b ≡ true → (a || b) ≡ true
-or_right true b h = refl
-or_right false b h = h
 
 pub listed-one : (t s : ℕ) → is_listed (t ∷ []) s ≡ true → t ≡ s
 listed-one t s h = elim (or_cases (eqb t s) false h) as (λ _. t ≡ s) [ inl k ↦ eqb-true t s k | inr k ↦ cc ]

@@ -86,3 +86,21 @@ returns-clause-path c =
       ends-wide c.args.dir c.args.model.now c.args.goals.now c.in_ok-start.start.marks c.in_ok-start.start.choices.items (c.in_ok-start.ensures {u = tt}) end.0 c.in-Ok.found.policy.items c.in_ok-ranks.ranks.items c.in-Ok.found.values.items end.2
           (are_ranks (goal.at.returns-clause-path c).After-cert-1) c.in-Wide.state c.in-Wide.choice (sym c.in-Wide.is ∙ c.holds_reach.ensures.verdict),
     )
+
+pub start_of-requires : goal.start_of-requires
+start_of-requires c = c.requires
+
+pub ranks_of-requires-clause-goals : goal.ranks_of-requires-clause-goals
+ranks_of-requires-clause-goals c = c.requires
+
+pub holds_reach-requires-clause-goals : goal.holds_reach-requires-clause-goals
+holds_reach-requires-clause-goals c = c.requires
+
+pub holds_reach-requires-clause-ranks : goal.holds_reach-requires-clause-ranks
+holds_reach-requires-clause-ranks c = ranks-count c.args.dir c.args.model.now c.args.goals.now c.deref-2.result.now c.deref.result.now c.in_ok-ranks.ranks.items (c.in_ok-ranks.ensures {u = tt})
+
+pub returns-in-Yes-clause-max : goal.returns-in-Yes-clause-max
+returns-in-Yes-clause-max c = λ e. let h = c.holds_reach.ensures.max e in rw c.in-Yes.is at h
+
+pub returns-in-Yes-clause-min : goal.returns-in-Yes-clause-min
+returns-in-Yes-clause-min c = λ e. let h = c.holds_reach.ensures.min e in rw c.in-Yes.is at h

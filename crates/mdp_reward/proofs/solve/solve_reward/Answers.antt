@@ -115,3 +115,26 @@ returns-clause-path c =
           (are_ranks (goal.at.returns-clause-path c).After-cert-2-1) c.in-Wide.state c.in-Wide.choice
           (subst (λ (v : List (Option ℚ)). Wide c.in-Wide.state c.in-Wide.choice ≡ verdict_of (reward_checks c.args.dir c.args.model.now c.args.m c.args.goals.now v c.in-Ok.found.policy.items c.in_ok-ranks.ranks.items)) values (sym c.in-Wide.is ∙ c.holds_reward.ensures.verdict)),
     )
+
+pub start_of-requires : goal.start_of-requires
+start_of-requires c = c.requires.goals
+
+pub ranks_of-requires-clause-goals : goal.ranks_of-requires-clause-goals
+ranks_of-requires-clause-goals c = c.requires.goals
+
+pub holds_reward-requires-clause-goals : goal.holds_reward-requires-clause-goals
+holds_reward-requires-clause-goals c = c.requires.goals
+
+pub holds_reward-requires-clause-name : goal.holds_reward-requires-clause-name
+holds_reward-requires-clause-name c = c.requires.name
+
+pub returns-in-Yes-clause-max : goal.returns-in-Yes-clause-max
+returns-in-Yes-clause-max c = λ e. let h = c.holds_reward.ensures.max e in rw c.in-Yes.is at h
+
+pub returns-in-Yes-clause-min : goal.returns-in-Yes-clause-min
+returns-in-Yes-clause-min c = λ e. let h = c.holds_reward.ensures.min e in rw c.in-Yes.is at h
+
+pub ranks_of-requires-clause-finite : goal.ranks_of-requires-clause-finite
+ranks_of-requires-clause-finite c =
+    start-finite c.args.dir c.args.model.now c.args.goals.now c.in_ok-start.start.finite c.in_ok-start.start.policy.items c.in_ok-start.start.known.items c.known.ensures.mdp
+    (c.in_ok-start.ensures {u = tt})
