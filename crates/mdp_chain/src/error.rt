@@ -1,5 +1,4 @@
 use mdp_num::Memory;
-use std::alloc::AllocError;
 
 /// Why there is no chain.
 #[derive(Clone, Copy)]
@@ -8,17 +7,6 @@ pub enum ChainError {
     NoChoice,
     /// Memory was refused.
     Memory,
-}
-
-impl From<AllocError> for ChainError {
-    ghost use Rattle.std.specs.Prelude.{◌≡◌};
-    ghost use Rattle.mdp_chain.specs.declared.error.ChainError.TheVariants as variant;
-
-    ghost from_gives = { λ _ e. e ≡ variant.Memory };
-
-    fn from(_error: AllocError) -> ChainError {
-        ChainError::Memory
-    }
 }
 
 impl From<Memory> for ChainError {
