@@ -1,10 +1,8 @@
 //! Each command, run to its end with all that it needs.
-use crate::run::run;
-use crate::tests::{COIN, sink, source};
+use crate::tests::{COIN, COIN_POLICY, Given, ROOM, ended, ends, sink};
 use mdp_edge::ListSink;
 use mdp_job::Status;
-use std::alloc::{AllocError, Global};
-use std::test::Fail;
+use std::alloc::Global;
 
 /// State 0 stays for 1, or goes to the goal for 2, which stays for 3.
 const PAID: &str =
@@ -18,152 +16,155 @@ const COIN_UPPER: &str =
 const COIN_BOUNDS: &str =
     "mdp-bounds 1\nclaim max reach \"goal\"\nstates 3\ninit 0 1/4 1/2\nstate 0 1/4 1/2 1 1\nstate 1 1 1 0 0\nstate 2 0 0 0 0\nend\n";
 
-/// A policy of the coin.
-const COIN_POLICY: &str = "mdp-policy 1\nstates 3\nchoose 0 1\nchoose 1 0\nchoose 2 0\nend\n";
-
-/// How a command, whose words stand between blanks, ends on a model and a second text, and what it writes.
-fn ended(
-    alloc: Global,
-    command: &str,
-    model: &str,
-    second: &[u8],
-) -> Result<(Status, ListSink), AllocError> {
-    let mut words = Vec::new(alloc);
-    for word in command.split(' ') {
-        words.push(String::from_str(alloc, word)?)?;
+/// A source of these bytes that never fails.
+fn given(bytes: &[u8]) -> Given<'_> {
+    Given {
+        bytes,
+        chunk: 64,
+        fails: &[],
     }
-    let mut model = source(alloc, model.as_bytes(), 64, &[])?;
-    let mut second = source(alloc, second, 64, &[])?;
-    let mut out = sink(alloc, 300, 64, &[])?;
-    let status = run(alloc, &words, &mut model, &mut second, &mut out);
-    Ok((status, out))
+}
+
+/// Whether a command does its work on a model and a second text.
+fn does(alloc: Global, command: &str, model: &str, second: &str, out: &mut ListSink) -> bool {
+    let model = given(model.as_bytes());
+    let second = given(second.as_bytes());
+    matches!(
+        ended(alloc, command, &model, &second, out),
+        Some(Status::Done)
+    )
 }
 
 /// Whether a command does its work, and writes a text that begins so.
-fn writes(
-    alloc: Global,
-    command: &str,
-    model: &str,
-    second: &str,
-    head: &str,
-) -> Result<bool, AllocError> {
-    let (status, out) = ended(alloc, command, model, second.as_bytes())?;
-    Ok(matches!(status, Status::Done) && out.bytes().starts_with(head.as_bytes()))
+fn writes(alloc: Global, command: &str, model: &str, second: &str, head: &str) -> bool {
+    let Ok(mut out) = sink(alloc, &ROOM) else {
+        return false;
+    };
+    does(alloc, command, model, second, &mut out) && out.bytes().starts_with(head.as_bytes())
 }
 
-/// The commands whose model is the coin. `drill` reads none.
-#[test]
-fn works_on_the_coin(rt: HostRuntime) -> Result<(), Fail> {
-    for (command, second, head) in [
-        (
-            "solve M exact max reach goal",
-            "",
-            "mdp-certificate 2\nclaim max reach \"goal\"\nstates 3\ninit 0 1/3\n",
-        ),
-        (
-            "solve M exact min reach goal",
-            "",
-            "mdp-certificate 2\nclaim min reach \"goal\"\nstates 3\ninit 0 0\n",
-        ),
-        (
-            "witness M exact max goal 1/3",
-            "",
-            "mdp-certificate 2\nclaim max witness \"goal\" 1/3\nstates 3\ninit 0\nkeep 0 kept\n",
-        ),
-        (
-            "witness M exact min goal 0",
-            "",
-            "mdp-certificate 2\nclaim min witness \"goal\" 0\nstates 3\ninit 0\nend\n",
-        ),
-        ("check M exact C", COIN_UPPER, "yes\n"),
-        (
-            "bounds M exact max reach goal 6",
-            "",
-            "mdp-bounds 1\nclaim max reach \"goal\"\nstates 3\ninit 0 ",
-        ),
-        ("bounds-check M exact C", COIN_BOUNDS, "yes\n"),
-        (
-            "policy M exact P reach goal",
-            COIN_POLICY,
-            "mdp-value 1\npolicy reach \"goal\"\nstates 3\ninit 0 1/3\n",
-        ),
-        (
-            "horizon M exact max - goal 2",
-            "",
-            "mdp-horizon 1\nclaim max until \"-\" \"goal\" 2\nstates 3\ninit 0 1/3\n",
-        ),
-        (
+fn solves_the_coin(alloc: Global) -> bool {
+    let most = "mdp-certificate 2\nclaim max reach \"goal\"\nstates 3\ninit 0 1/3\n";
+    let least = "mdp-certificate 2\nclaim min reach \"goal\"\nstates 3\ninit 0 0\n";
+    writes(alloc, "solve M exact max reach goal", COIN, "", most)
+        && writes(alloc, "solve M exact min reach goal", COIN, "", least)
+}
+
+fn finds_subsystems(alloc: Global) -> bool {
+    let most = "mdp-certificate 2\nclaim max witness \"goal\" 1/3\nstates 3\ninit 0\nkeep 0 kept\n";
+    let least = "mdp-certificate 2\nclaim min witness \"goal\" 0\nstates 3\ninit 0\nend\n";
+    writes(alloc, "witness M exact max goal 1/3", COIN, "", most)
+        && writes(alloc, "witness M exact min goal 0", COIN, "", least)
+}
+
+fn accepts(alloc: Global) -> bool {
+    writes(alloc, "check M exact C", COIN, COIN_UPPER, "yes\n")
+        && writes(alloc, "bounds-check M exact C", COIN, COIN_BOUNDS, "yes\n")
+}
+
+fn bounds_the_coin(alloc: Global) -> bool {
+    let reach = "mdp-bounds 1\nclaim max reach \"goal\"\nstates 3\ninit 0 ";
+    let until = "mdp-horizon-bounds 1\nclaim max until \"-\" \"goal\" 2\nstates 3\ninit 0 ";
+    writes(alloc, "bounds M exact max reach goal 6", COIN, "", reach)
+        && writes(
+            alloc,
             "bounds M exact max until - goal 2 6",
+            COIN,
             "",
-            "mdp-horizon-bounds 1\nclaim max until \"-\" \"goal\" 2\nstates 3\ninit 0 ",
-        ),
-        (
-            "drill 0 1 1",
-            "",
-            "drill 0 1 1 states 3 choices 4 value 1 yes\n",
-        ),
-    ] {
-        assert!(rt;
-            writes(rt.alloc(), command, COIN, second, head)?,
-            "{command}"
-        );
-    }
-    Ok(())
+            until,
+        )
 }
 
-/// The commands whose model has rewards. The greatest reward until the goal is infinite, since a policy may stay for ever.
+/// `drill` reads no model.
+fn works_otherwise(alloc: Global) -> bool {
+    let value = "mdp-value 1\npolicy reach \"goal\"\nstates 3\ninit 0 1/3\n";
+    let within = "mdp-horizon 1\nclaim max until \"-\" \"goal\" 2\nstates 3\ninit 0 1/3\n";
+    let drilled = "drill 0 1 1 states 3 choices 4 value 1 yes\n";
+    writes(
+        alloc,
+        "policy M exact P reach goal",
+        COIN,
+        COIN_POLICY,
+        value,
+    ) && writes(alloc, "horizon M exact max - goal 2", COIN, "", within)
+        && writes(alloc, "drill 0 1 1", COIN, "", drilled)
+}
+
+/// The commands whose model is the coin.
 #[test]
-fn works_on_rewards(rt: HostRuntime) -> Result<(), Fail> {
-    for (command, head) in [
-        (
-            "solve M exact max reward cost goal",
-            "mdp-certificate 2\nclaim max reward \"cost\" \"goal\"\nstates 2\ninit 0 inf\n",
-        ),
-        (
-            "solve M exact min reward cost goal",
-            "mdp-certificate 2\nclaim min reward \"cost\" \"goal\"\nstates 2\ninit 0 2\n",
-        ),
-        (
-            "solve M exact max mean cost",
-            "mdp-certificate 2\nclaim max mean \"cost\"\nstates 2\ninit 0 3\n",
-        ),
-        (
-            "solve M exact min mean cost",
-            "mdp-certificate 2\nclaim min mean \"cost\"\nstates 2\ninit 0 1\n",
-        ),
-        (
-            "horizon M exact max reward cost 2",
-            "mdp-horizon 1\nclaim max reward \"cost\" 2\nstates 2\ninit 0 5\n",
-        ),
-        (
-            "bounds M exact min total cost 2 6",
-            "mdp-horizon-bounds 1\nclaim min total \"cost\" 2\nstates 2\ninit 0 2 2\n",
-        ),
-        (
-            "bounds M exact max discount cost 1/2 6",
-            "mdp-bounds 1\nclaim max discount \"cost\" 1/2\nstates 2\ninit 0 ",
-        ),
-        (
-            "discount M exact max cost 1/2",
-            "mdp-discount 1\nclaim max discount \"cost\" 1/2\nstates 2\ninit 0 5\n",
-        ),
-        (
-            "discount M exact min cost 1/2",
-            "mdp-discount 1\nclaim min discount \"cost\" 1/2\nstates 2\ninit 0 2\n",
-        ),
-    ] {
-        assert!(rt; writes(rt.alloc(), command, PAID, "", head)?, "{command}");
-    }
-    Ok(())
+fn works_on_the_coin(rt: HostRuntime) {
+    let alloc = rt.alloc();
+    assert!(rt; solves_the_coin(alloc) && finds_subsystems(alloc));
+    assert!(rt; accepts(alloc) && bounds_the_coin(alloc) && works_otherwise(alloc));
+}
+
+/// Whether a command on the model with rewards writes a text that begins so.
+fn pays(alloc: Global, command: &str, head: &str) -> bool {
+    writes(alloc, command, PAID, "", head)
+}
+
+/// The greatest reward until the goal is infinite, since a policy may stay for ever.
+fn solves_rewards(alloc: Global) -> bool {
+    let most = "mdp-certificate 2\nclaim max reward \"cost\" \"goal\"\nstates 2\ninit 0 inf\n";
+    let least = "mdp-certificate 2\nclaim min reward \"cost\" \"goal\"\nstates 2\ninit 0 2\n";
+    pays(alloc, "solve M exact max reward cost goal", most)
+        && pays(alloc, "solve M exact min reward cost goal", least)
+}
+
+fn solves_means(alloc: Global) -> bool {
+    let most = "mdp-certificate 2\nclaim max mean \"cost\"\nstates 2\ninit 0 3\n";
+    let least = "mdp-certificate 2\nclaim min mean \"cost\"\nstates 2\ninit 0 1\n";
+    pays(alloc, "solve M exact max mean cost", most)
+        && pays(alloc, "solve M exact min mean cost", least)
+}
+
+fn earns_within_steps(alloc: Global) -> bool {
+    let most = "mdp-horizon 1\nclaim max reward \"cost\" 2\nstates 2\ninit 0 5\n";
+    let total = "mdp-horizon-bounds 1\nclaim min total \"cost\" 2\nstates 2\ninit 0 2 2\n";
+    pays(alloc, "horizon M exact max reward cost 2", most)
+        && pays(alloc, "bounds M exact min total cost 2 6", total)
+}
+
+fn discounts(alloc: Global) -> bool {
+    let bounds = "mdp-bounds 1\nclaim max discount \"cost\" 1/2\nstates 2\ninit 0 ";
+    let most = "mdp-discount 1\nclaim max discount \"cost\" 1/2\nstates 2\ninit 0 5\n";
+    let least = "mdp-discount 1\nclaim min discount \"cost\" 1/2\nstates 2\ninit 0 2\n";
+    pays(alloc, "bounds M exact max discount cost 1/2 6", bounds)
+        && pays(alloc, "discount M exact max cost 1/2", most)
+        && pays(alloc, "discount M exact min cost 1/2", least)
+}
+
+/// The commands whose model has rewards.
+#[test]
+fn works_on_rewards(rt: HostRuntime) {
+    let alloc = rt.alloc();
+    assert!(rt; solves_rewards(alloc) && solves_means(alloc));
+    assert!(rt; earns_within_steps(alloc) && discounts(alloc));
+}
+
+/// Whether `discount-check` accepts a certificate.
+fn discount_is_accepted(alloc: Global, certificate: &[u8]) -> bool {
+    ends(
+        alloc,
+        "discount-check M exact C",
+        &given(PAID.as_bytes()),
+        &given(certificate),
+        &ROOM,
+        Status::Done,
+        b"yes\n",
+    )
+}
+
+fn discounted_is_accepted(alloc: Global) -> bool {
+    let Ok(mut found) = sink(alloc, &ROOM) else {
+        return false;
+    };
+    does(alloc, "discount M exact max cost 1/2", PAID, "", &mut found)
+        && discount_is_accepted(alloc, found.bytes())
 }
 
 /// What `discount` writes is accepted by `discount-check`.
 #[test]
-fn accepts_what_is_discounted(rt: HostRuntime) -> Result<(), Fail> {
-    let (end, found) = ended(rt.alloc(), "discount M exact max cost 1/2", PAID, b"")?;
-    assert!(rt; matches!(end, Status::Done));
-    let (end, said) = ended(rt.alloc(), "discount-check M exact C", PAID, found.bytes())?;
-    assert!(rt; matches!(end, Status::Done));
-    assert_eq!(rt; said.bytes(), b"yes\n".as_slice());
-    Ok(())
+fn accepts_what_is_discounted(rt: HostRuntime) {
+    assert!(rt; discounted_is_accepted(rt.alloc()));
 }

@@ -1,6 +1,7 @@
 //! What the rows in data/ can't say: pieces, faults and stores.
+
 use crate::run::{run, run_on_files};
-use mdp_edge::{ListSink, ListSource, StdSource};
+use mdp_edge::{ListSink, ListSource, Source, StdSource};
 use mdp_job::Status;
 use std::alloc::{AllocError, Global};
 use std::fs;
@@ -11,80 +12,196 @@ use std::test::Fail;
 pub(crate) const COIN: &str =
     "@type: MDP\n@nr_states\n3\n@model\nstate 0 init\naction a\n0 : 1\naction b\n1 : 1/3\n2 : 2/3\nstate 1 goal\naction\n1 : 1\nstate 2\naction\n2 : 1\n";
 
+/// A policy of the coin.
+pub(crate) const COIN_POLICY: &str =
+    "mdp-policy 1\nstates 3\nchoose 0 1\nchoose 1 0\nchoose 2 0\nend\n";
+
 /// That 1 bounds state 0.
 const UPPER: &str =
     "mdp-certificate 1\nclaim upper reach \"goal\"\nstates 3\ninit 0 1\nstate 0 1\nstate 1 1\nstate 2 0\nend\n";
 
 /// The words of a check.
-const CHECK: [&str; 4] = ["check", "MODEL", "exact", "CERT"];
+const CHECK: &str = "check MODEL exact CERT";
 
-pub(crate) fn source(
-    alloc: Global,
-    bytes: &[u8],
-    chunk: usize,
-    fails: &[u64],
-) -> Result<ListSource, AllocError> {
-    let bytes = bytes.to_vec(alloc)?;
-    Ok(ListSource::new(bytes, chunk.max(1), fails.to_vec(alloc)?))
+/// A source: its bytes, how many it gives a call at most, and the numbers of the calls that fail.
+#[derive(Clone, Copy)]
+pub(crate) struct Given<'a> {
+    pub bytes: &'a [u8],
+    pub chunk: usize,
+    pub fails: &'a [u64],
 }
 
-pub(crate) fn sink(
-    alloc: Global,
-    room: usize,
-    chunk: usize,
-    fails: &[u64],
-) -> Result<ListSink, AllocError> {
-    let mut store = Vec::new(alloc);
-    for _ in 0..room {
-        store.push(0)?;
-    }
-    Ok(ListSink::new(store, chunk.max(1), fails.to_vec(alloc)?))
+/// A sink: its room, how many bytes it takes a call at most, and the numbers of the calls that fail.
+#[derive(Clone, Copy)]
+pub(crate) struct Room<'a> {
+    pub room: usize,
+    pub chunk: usize,
+    pub fails: &'a [u64],
 }
 
-/// The words of a command, whose files are given otherwise.
-pub(crate) fn words_of(alloc: Global, command: &[&str]) -> Result<Vec<String>, AllocError> {
-    let mut words = Vec::new(alloc);
-    for word in command {
+/// A sink that never fails, with room for the text of each test.
+pub(crate) const ROOM: Room<'static> = Room {
+    room: 300,
+    chunk: 16,
+    fails: &[],
+};
+
+fn source(alloc: Global, given: &Given<'_>) -> Result<ListSource, AllocError> {
+    let bytes = given.bytes.to_vec(alloc)?;
+    Ok(ListSource::new(bytes, given.chunk.max(1), given.fails.to_vec(alloc)?))
+}
+
+pub(crate) fn sink(alloc: Global, room: &Room<'_>) -> Result<ListSink, AllocError> {
+    let store = vec![in alloc; 0; room.room]?;
+    Ok(ListSink::new(store, room.chunk.max(1), room.fails.to_vec(alloc)?))
+}
+
+fn push_words(alloc: Global, command: &str, words: &mut Vec<String>) -> Result<(), AllocError> {
+    for word in command.split(' ') {
         words.push(String::from_str(alloc, word)?)?;
     }
+    Ok(())
+}
+
+/// The words of a command, between blanks. Its files are given otherwise.
+fn words_of(alloc: Global, command: &str) -> Result<Vec<String>, AllocError> {
+    let mut words = Vec::new(alloc);
+    push_words(alloc, command, &mut words)?;
     Ok(words)
 }
 
-/// How a check of the bound ends, on sources that give so many bytes a call, and what it writes.
-fn checked(alloc: Global, chunk: usize, out: &mut ListSink) -> Result<Status, AllocError> {
-    let words = words_of(alloc, &CHECK)?;
-    let mut model = source(alloc, COIN.as_bytes(), chunk, &[])?;
-    let mut cert = source(alloc, UPPER.as_bytes(), chunk, &[])?;
-    Ok(run(alloc, &words, &mut model, &mut cert, out))
+/// How words end on two sources and a sink.
+fn ended_on(
+    alloc: Global,
+    words: &[String],
+    model: &mut ListSource,
+    second: &Given<'_>,
+    out: &mut ListSink,
+) -> Option<Status> {
+    let Ok(mut second) = source(alloc, second) else {
+        return None;
+    };
+    Some(run(alloc, words, model, &mut second, out))
+}
+
+/// How a command ends on two sources and a sink; none where memory is wanting.
+pub(crate) fn ended(
+    alloc: Global,
+    command: &str,
+    model: &Given<'_>,
+    second: &Given<'_>,
+    out: &mut ListSink,
+) -> Option<Status> {
+    let Ok(words) = words_of(alloc, command) else {
+        return None;
+    };
+    let Ok(mut model) = source(alloc, model) else {
+        return None;
+    };
+    ended_on(alloc, &words, &mut model, second, out)
+}
+
+/// Whether a command ends so on two sources and a sink, which takes these bytes.
+pub(crate) fn ends(
+    alloc: Global,
+    command: &str,
+    model: &Given<'_>,
+    second: &Given<'_>,
+    room: &Room<'_>,
+    status: Status,
+    taken: &[u8],
+) -> bool {
+    let Ok(mut out) = sink(alloc, room) else {
+        return false;
+    };
+    let Some(end) = ended(alloc, command, model, second, &mut out) else {
+        return false;
+    };
+    end.code() == status.code() && out.bytes() == taken
+}
+
+/// Whether a check of the bound ends so, on sources that give so many bytes a call.
+fn check_ends(alloc: Global, chunk: usize, room: &Room<'_>, status: Status, taken: &str) -> bool {
+    let model = Given {
+        bytes: COIN.as_bytes(),
+        chunk,
+        fails: &[],
+    };
+    let second = Given {
+        bytes: UPPER.as_bytes(),
+        chunk,
+        fails: &[],
+    };
+    ends(
+        alloc,
+        CHECK,
+        &model,
+        &second,
+        room,
+        status,
+        taken.as_bytes(),
+    )
+}
+
+/// Whether the answer is `yes` where the sources give so many bytes a call.
+fn accepts(alloc: Global, chunk: usize) -> bool {
+    check_ends(alloc, chunk, &ROOM, Status::Done, "yes\n")
 }
 
 /// The answer is the same in whatever pieces the sources give their bytes.
 #[test]
-fn reads_in_pieces(rt: HostRuntime) -> Result<(), Fail> {
-    for chunk in [1, 7, 65_536] {
-        let mut out = sink(rt.alloc(), 100, 16, &[])?;
-        assert!(rt; matches!(checked(rt.alloc(), chunk, &mut out)?, Status::Done));
-        assert_eq!(rt; out.bytes(), b"yes\n".as_slice(), "{chunk}");
-    }
-    Ok(())
+fn reads_in_pieces(rt: HostRuntime) {
+    let alloc = rt.alloc();
+    assert!(rt; accepts(alloc, 1) && accepts(alloc, 7) && accepts(alloc, 65_536));
+}
+
+/// Whether a write fault is answered, of a sink that takes this text.
+fn write_faults(alloc: Global, room: usize, chunk: usize, fails: &[u64], taken: &str) -> bool {
+    let room = Room { room, chunk, fails };
+    check_ends(alloc, 7, &room, Status::WriteFault, taken)
 }
 
 /// A sink that fails at a write or a flush, or has no room left.
 #[test]
-fn answers_write_faults(rt: HostRuntime) -> Result<(), Fail> {
-    for (room, chunk, fails, taken) in [
-        (100, 2, [1].as_slice(), "ye"),
-        (100, 2, &[2], "yes\n"),
-        (100, 16, &[0], ""),
-        (100, 16, &[1], "yes\n"),
-        (3, 16, &[], "yes"),
-    ] {
-        let mut out = sink(rt.alloc(), room, chunk, fails)?;
-        let end = checked(rt.alloc(), 7, &mut out)?;
-        assert!(rt; matches!(end, Status::WriteFault));
-        assert_eq!(rt; out.bytes(), taken.as_bytes());
-    }
-    Ok(())
+fn answers_write_faults(rt: HostRuntime) {
+    let alloc = rt.alloc();
+    assert!(rt; write_faults(alloc, 100, 2, &[1], "ye"));
+    assert!(rt; write_faults(alloc, 100, 2, &[2], "yes\n"));
+    assert!(rt; write_faults(alloc, 100, 16, &[0], ""));
+    assert!(rt; write_faults(alloc, 100, 16, &[1], "yes\n"));
+    assert!(rt; write_faults(alloc, 3, 16, &[], "yes"));
+}
+
+/// How a check ends on the files that this opens, and a sink.
+fn ended_on_files<F: Source + Drop, O: Fn(&str) -> F>(
+    alloc: Global,
+    open_file: O,
+    out: &mut ListSink,
+) -> Option<Status>
+    requires { O.IsAlwaysCallable open_file }
+{
+    let Ok(words) = words_of(alloc, CHECK) else {
+        return None;
+    };
+    Some(run_on_files(alloc, &words, open_file, out))
+}
+
+/// Whether a check ends so on the files that this opens, and what it writes.
+fn files_end<F: Source + Drop, O: Fn(&str) -> F>(
+    alloc: Global,
+    open_file: O,
+    status: Status,
+    taken: &[u8],
+) -> bool
+    requires { O.IsAlwaysCallable open_file }
+{
+    let Ok(mut out) = sink(alloc, &ROOM) else {
+        return false;
+    };
+    let Some(end) = ended_on_files(alloc, open_file, &mut out) else {
+        return false;
+    };
+    end.code() == status.code() && out.bytes() == taken
 }
 
 /// The files that the words name, opened and read through the adapters over std.
@@ -93,14 +210,9 @@ fn opens_files(rt: HostRuntime) -> Result<(), Fail> {
     fs::write(&rt, "MODEL", COIN.as_bytes())?;
     fs::write(&rt, "CERT", UPPER.as_bytes())?;
     let open = |path: &str| StdSource::new(File::open(&rt, path).ok());
-    let words = words_of(rt.alloc(), &CHECK)?;
-    let mut out = sink(rt.alloc(), 100, 16, &[])?;
-    let end = run_on_files(rt.alloc(), &words, open, &mut out);
-    assert!(rt; matches!(end, Status::Done));
-    assert_eq!(rt; out.bytes(), b"yes\n".as_slice());
+    assert!(rt; files_end(rt.alloc(), open, Status::Done, b"yes\n"));
     fs::remove_file(&rt, "MODEL")?;
-    let end = run_on_files(rt.alloc(), &words, open, &mut out);
-    assert!(rt; matches!(end, Status::ReadFault));
+    assert!(rt; files_end(rt.alloc(), open, Status::ReadFault, b"read-fault model\n"));
     fs::remove_file(&rt, "CERT")?;
     Ok(())
 }
