@@ -4,6 +4,7 @@ use Rattle.mdp_math.specs.Gcd.{gcd, gcd_with_fuel}
 use Rattle.mdp_math.specs.Rational.{ℚ, of_int, ratio, le_ℚ, lt_ℚ, neg_ℚ, ◌+ℚ◌, ◌*ℚ◌}
 use Rattle.mdp_math.specs.Written.{narrow, narrow_ℚ, written_add, written_mul, written_compare, cmp_ℚ}
 use Rattle.mdp_math.proofs.Extremes.{le_of_test, test_of_le}
+use Rattle.mdp_math.proofs.Tables.{AreEqual}
 use Rattle.mdp_spec.specs.Mdp.{Entry, Choice, Mdp, row_at}
 use Rattle.mdp_spec.specs.Row.{row_sum}
 use Rattle.mdp_spec.specs.RewardRules.{backup}
@@ -54,14 +55,14 @@ between : reached (ratio (pos 1) 4) half (number 0) ≡ Yes
 unfolding gcd gcd_with_fuel ratio of_int le_ℚ lt_ℚ ◌+ℚ◌ ◌*ℚ◌ narrow narrow_ℚ written_add written_mul
 between = refl
 
--- 1/2 is no lower value, and 1/4 no upper one
-lower_too_great : reached half (number 1) (number 0) ≡ fault ValueOnPolicy 0 (Some 1)
+reach_refused : AreEqual (
+  -- 1/2 is no lower value, and 1/4 no upper one
+  (reached half (number 1) (number 0), fault ValueOnPolicy 0 (Some 1)) ∷
+  (reached (ratio (pos 1) 4) (ratio (pos 1) 4) (number 0), fault ValueOnEachChoice 0 (Some 1)) ∷ -- upper too small
+  []
+)
 unfolding gcd gcd_with_fuel ratio of_int le_ℚ lt_ℚ ◌+ℚ◌ ◌*ℚ◌ narrow narrow_ℚ written_add written_mul
-lower_too_great = refl
-
-upper_too_small : reached (ratio (pos 1) 4) (ratio (pos 1) 4) (number 0) ≡ fault ValueOnEachChoice 0 (Some 1)
-unfolding gcd gcd_with_fuel ratio of_int le_ℚ lt_ℚ ◌+ℚ◌ ◌*ℚ◌ narrow narrow_ℚ written_add written_mul
-upper_too_small = refl
+reach_refused = refl
 
 -- a sum with a term past width, which the value 1/2 needs, and the value 1 doesn't
 wide : reached third half narrowest ≡ Wide (Some 0) (Some 1)
@@ -145,27 +146,18 @@ trial = record {
 abbrev costs : Option ℚ → Option ℚ → Verdict
 costs low high = verdict_of (reward_bounds_checks Max trial 0 (false ∷ true ∷ []) (low ∷ Some (number 0) ∷ []) (high ∷ Some (number 0) ∷ []) (0 ∷ 0 ∷ []) (1 ∷ 0 ∷ []))
 
--- two trials are expected
-costs_between : costs (Some (number 1)) (Some (number 3)) ≡ Yes
+costs_judged : AreEqual (
+  -- two trials are expected
+  (costs (Some (number 1)) (Some (number 3)), Yes) ∷
+  (costs (Some (number 3)) None, fault RewardOnPolicy 0 (Some 0)) ∷ -- costs less
+  (costs (Some (number 0)) None, Yes) ∷ -- costs something
+  -- an infinite lower value above a finite upper one
+  (costs None (Some (number 3)), fault RewardValue 0 None) ∷
+  (costs (Some (number 2)) (Some (number 2)), Yes) ∷ -- costs exactly
+  []
+)
 unfolding gcd gcd_with_fuel ratio of_int le_ℚ ◌+ℚ◌ ◌*ℚ◌ narrow narrow_ℚ written_add written_mul
-costs_between = refl
-
-costs_less : costs (Some (number 3)) None ≡ fault RewardOnPolicy 0 (Some 0)
-unfolding gcd gcd_with_fuel ratio of_int le_ℚ ◌+ℚ◌ ◌*ℚ◌ narrow narrow_ℚ written_add written_mul
-costs_less = refl
-
-costs_something : costs (Some (number 0)) None ≡ Yes
-unfolding gcd gcd_with_fuel ratio of_int le_ℚ ◌+ℚ◌ ◌*ℚ◌ narrow narrow_ℚ written_add written_mul
-costs_something = refl
-
--- an infinite lower value above a finite upper one
-costs_ordered : costs None (Some (number 3)) ≡ fault RewardValue 0 None
-unfolding gcd gcd_with_fuel ratio of_int le_ℚ ◌+ℚ◌ ◌*ℚ◌ narrow narrow_ℚ written_add written_mul
-costs_ordered = refl
-
-costs_exactly : costs (Some (number 2)) (Some (number 2)) ≡ Yes
-unfolding gcd gcd_with_fuel ratio of_int le_ℚ ◌+ℚ◌ ◌*ℚ◌ narrow narrow_ℚ written_add written_mul
-costs_exactly = refl
+costs_judged = refl
 
 -- what the rules of those no say: a lower value is at most what the policy's choice earns, and is infinite only where the upper one is
 abbrev costs_say : Option ℚ → Option ℚ → Rule → Option ℕ → Option ℕ → Type 0
@@ -204,21 +196,15 @@ loops = record {
 abbrev earns : ℕ → ℕ → ℕ → Verdict
 earns low high choice = verdict_of (mean_bounds_checks Max loops 0 (number low ∷ []) (number high ∷ []) (number 0 ∷ []) (number 0 ∷ []) (number 0) (choice ∷ []))
 
-earns_trivially : earns 1 3 0 ≡ Yes
+earns_judged : AreEqual (
+  (earns 1 3 0, Yes) ∷ -- earns trivially
+  (earns 2 3 0, fault BiasOnPolicy 0 (Some 0)) ∷ -- earns less
+  (earns 1 2 1, fault BoundOnEachChoice 0 (Some 1)) ∷ -- earns more
+  (earns 3 3 1, Yes) ∷ -- earns exactly
+  []
+)
 unfolding gcd gcd_with_fuel ratio of_int le_ℚ neg_ℚ ◌+ℚ◌ ◌*ℚ◌ narrow narrow_ℚ written_add written_mul
-earns_trivially = refl
-
-earns_less : earns 2 3 0 ≡ fault BiasOnPolicy 0 (Some 0)
-unfolding gcd gcd_with_fuel ratio of_int le_ℚ neg_ℚ ◌+ℚ◌ ◌*ℚ◌ narrow narrow_ℚ written_add written_mul
-earns_less = refl
-
-earns_more : earns 1 2 1 ≡ fault BoundOnEachChoice 0 (Some 1)
-unfolding gcd gcd_with_fuel ratio of_int le_ℚ neg_ℚ ◌+ℚ◌ ◌*ℚ◌ narrow narrow_ℚ written_add written_mul
-earns_more = refl
-
-earns_exactly : earns 3 3 1 ≡ Yes
-unfolding gcd gcd_with_fuel ratio of_int le_ℚ neg_ℚ ◌+ℚ◌ ◌*ℚ◌ narrow narrow_ℚ written_add written_mul
-earns_exactly = refl
+earns_judged = refl
 
 -- what the rule of that no says: the lower gain and the bias are at most what the policy's choice earns by the bias
 abbrev earns_say : ℕ → Rule → Option ℕ → Option ℕ → Type 0

@@ -5,6 +5,7 @@ use Rattle.std.specs.Prelude.{codes}
 use Rattle.mdp_math.specs.Gcd.{gcd, gcd_with_fuel}
 use Rattle.mdp_math.specs.Rational.{ℚ, of_int, ratio, lt_ℚ, neg_ℚ, ◌+ℚ◌, ◌*ℚ◌}
 use Rattle.mdp_math.specs.Written.{narrow, narrow_ℚ, written_add, written_mul, written_compare}
+use Rattle.mdp_math.proofs.Tables.{AreEqual}
 use Rattle.mdp_spec.specs.Mdp.{Entry, Choice, Mdp}
 use Rattle.mdp_spec.proofs.Small.{entry, half, nought, one, third}
 use Rattle.mdp_rows.specs.declared.dir.Dir.{Dir}
@@ -34,37 +35,24 @@ three = record {
 abbrev upper_of : List ℕ → Init → List ℚ → Certificate
 upper_of label init values = record { claim = upper label; states = 3; init = init; body = bounds values }
 
--- 1 bounds state 0
-bounded : answer_to three (upper_of (codes "goal") (Finite 0 one) (one ∷ one ∷ nought ∷ [])) ≡ Yes
-unfolding gcd gcd_with_fuel ratio of_int ◌+ℚ◌ ◌*ℚ◌ narrow narrow_ℚ written_add written_mul written_compare
-bounded = refl
-
--- the loop alone carries the value 1 at state 0, so its rank doesn't fall
-loop_alone :
-    answer_to three (record { claim = reach Max (codes "goal"); states = 3; init = Finite 0 one; body = policy (one ∷ one ∷ nought ∷ []) (0 ∷ 0 ∷ 0 ∷ []) (1 ∷ 0 ∷ 0 ∷ []) })
-    ≡ No (record { rule = RankFalls; state = Some 0; choice = Some 0 })
-unfolding gcd gcd_with_fuel ratio of_int lt_ℚ ◌+ℚ◌ ◌*ℚ◌ narrow narrow_ℚ written_add written_mul written_compare
-loop_alone = refl
-
--- rule 1 comes before the others
-no_init : answer_to three (upper_of (codes "goal") Missing (nought ∷ nought ∷ nought ∷ [])) ≡ No (record { rule = InitialState; state = None; choice = None })
-no_init = refl
-
-other_value : answer_to three (upper_of (codes "goal") (Finite 0 nought) (one ∷ one ∷ nought ∷ [])) ≡ No (record { rule = InitialState; state = Some 0; choice = None })
-unfolding of_int
-other_value = refl
-
-no_label : answer_to three (upper_of (codes "done") (Finite 0 one) (one ∷ one ∷ nought ∷ [])) ≡ NoLabel
-no_label = refl
-
--- the numbers of states come before the label
-two_states : answer_to three (record { claim = upper (codes "done"); states = 2; init = Missing; body = bounds (one ∷ one ∷ []) }) ≡ Size
-two_states = refl
-
--- a body without an entry per state stands in no certificate
-two_entries : answer_to three (upper_of (codes "goal") (Finite 0 one) (one ∷ one ∷ [])) ≡ No (record { rule = InitialState; state = None; choice = None })
-unfolding of_int
-two_entries = refl
+upper_answers : AreEqual (
+  -- 1 bounds state 0
+  (answer_to three (upper_of (codes "goal") (Finite 0 one) (one ∷ one ∷ nought ∷ [])), Yes) ∷
+  -- the loop alone carries the value 1 at state 0, so its rank doesn't fall
+  ( answer_to three (record { claim = reach Max (codes "goal"); states = 3; init = Finite 0 one; body = policy (one ∷ one ∷ nought ∷ []) (0 ∷ 0 ∷ 0 ∷ []) (1 ∷ 0 ∷ 0 ∷ []) }),
+   No (record { rule = RankFalls; state = Some 0; choice = Some 0 })) ∷
+  -- rule 1 comes before the others
+  (answer_to three (upper_of (codes "goal") Missing (nought ∷ nought ∷ nought ∷ [])), No (record { rule = InitialState; state = None; choice = None })) ∷
+  (answer_to three (upper_of (codes "goal") (Finite 0 nought) (one ∷ one ∷ nought ∷ [])), No (record { rule = InitialState; state = Some 0; choice = None })) ∷ -- other value
+  (answer_to three (upper_of (codes "done") (Finite 0 one) (one ∷ one ∷ nought ∷ [])), NoLabel) ∷ -- no label
+  -- the numbers of states come before the label
+  (answer_to three (record { claim = upper (codes "done"); states = 2; init = Missing; body = bounds (one ∷ one ∷ []) }), Size) ∷
+  -- a body without an entry per state stands in no certificate
+  (answer_to three (upper_of (codes "goal") (Finite 0 one) (one ∷ one ∷ [])), No (record { rule = InitialState; state = None; choice = None })) ∷
+  []
+)
+unfolding gcd gcd_with_fuel ratio of_int ◌+ℚ◌ ◌*ℚ◌ narrow narrow_ℚ written_add written_mul written_compare lt_ℚ
+upper_answers = refl
 
 -- ---- rewards until a goal
 
@@ -99,36 +87,25 @@ greatest : answer_to two (reward_of_two Max (codes "-") (Infinite 0) (None ∷ S
 unfolding gcd gcd_with_fuel ratio of_int ◌+ℚ◌ ◌*ℚ◌ narrow narrow_ℚ written_add written_mul written_compare
 greatest = refl
 
--- and not 3
-greatest_three : answer_to two (reward_of_two Max (codes "-") (Finite 0 three_) (Some three_ ∷ Some nought ∷ []) (1 ∷ 0 ∷ []) (1 ∷ 0 ∷ []))
-    ≡ No (record { rule = FiniteRankFalls; state = Some 0; choice = Some 0 })
+reward_answers : AreEqual (
+  -- and not 3
+  (answer_to two (reward_of_two Max (codes "-") (Finite 0 three_) (Some three_ ∷ Some nought ∷ []) (1 ∷ 0 ∷ []) (1 ∷ 0 ∷ [])),
+   No (record { rule = FiniteRankFalls; state = Some 0; choice = Some 0 })) ∷
+  -- rule 1: an infinite value stands in the line `init` where the state's value is infinite, and only there
+  (answer_to two (reward_of_two Min (codes "-") (Infinite 0) (Some three_ ∷ Some nought ∷ []) (1 ∷ 0 ∷ []) (1 ∷ 0 ∷ [])), No (record { rule = InitialState; state = Some 0; choice = None })) ∷
+  -- finite init
+  (answer_to two (reward_of_two Max (codes "-") (Finite 0 three_) (None ∷ Some nought ∷ []) (0 ∷ 0 ∷ []) (0 ∷ 0 ∷ [])), No (record { rule = InitialState; state = Some 0; choice = None })) ∷
+  -- the reward model comes before the label, and the numbers of states before both
+  (answer_to two (record { claim = reward Min (codes "costs") (codes "done"); states = 2; init = Missing; body = rewards [] [] [] }), NoReward) ∷
+  (answer_to two (record { claim = reward Min (codes "-") (codes "done"); states = 2; init = Missing; body = rewards [] [] [] }), NoLabel) ∷ -- no goal
+  (answer_to two (record { claim = reward Min (codes "costs") (codes "done"); states = 3; init = Missing; body = rewards [] [] [] }), Size) ∷ -- other size
+  -- another claim's body stands in no certificate
+  (answer_to two (record { claim = reward Min (codes "-") (codes "goal"); states = 2; init = Finite 0 one; body = bounds (one ∷ one ∷ []) }),
+   No (record { rule = InitialState; state = None; choice = None })) ∷
+  []
+)
 unfolding gcd gcd_with_fuel ratio of_int ◌+ℚ◌ ◌*ℚ◌ narrow narrow_ℚ written_add written_mul written_compare
-greatest_three = refl
-
--- rule 1: an infinite value stands in the line `init` where the state's value is infinite, and only there
-infinite_init : answer_to two (reward_of_two Min (codes "-") (Infinite 0) (Some three_ ∷ Some nought ∷ []) (1 ∷ 0 ∷ []) (1 ∷ 0 ∷ []))
-    ≡ No (record { rule = InitialState; state = Some 0; choice = None })
-infinite_init = refl
-
-finite_init : answer_to two (reward_of_two Max (codes "-") (Finite 0 three_) (None ∷ Some nought ∷ []) (0 ∷ 0 ∷ []) (0 ∷ 0 ∷ []))
-    ≡ No (record { rule = InitialState; state = Some 0; choice = None })
-finite_init = refl
-
--- the reward model comes before the label, and the numbers of states before both
-no_reward : answer_to two (record { claim = reward Min (codes "costs") (codes "done"); states = 2; init = Missing; body = rewards [] [] [] }) ≡ NoReward
-no_reward = refl
-
-no_goal : answer_to two (record { claim = reward Min (codes "-") (codes "done"); states = 2; init = Missing; body = rewards [] [] [] }) ≡ NoLabel
-no_goal = refl
-
-other_size : answer_to two (record { claim = reward Min (codes "costs") (codes "done"); states = 3; init = Missing; body = rewards [] [] [] }) ≡ Size
-other_size = refl
-
--- another claim's body stands in no certificate
-other_body : answer_to two (record { claim = reward Min (codes "-") (codes "goal"); states = 2; init = Finite 0 one; body = bounds (one ∷ one ∷ []) })
-    ≡ No (record { rule = InitialState; state = None; choice = None })
-unfolding of_int
-other_body = refl
+reward_answers = refl
 
 -- ---- mean payoffs
 
@@ -147,19 +124,17 @@ abbrev mean_of_two : List ℕ → Init → List ℚ → List ℚ → List ℚ �
 mean_of_two name init gain bound bias choices spread =
     record { claim = mean Max name; states = 2; init = init; body = gains gain bound bias choices spread }
 
--- so the mean payoff is 1/2; no label is asked for
-mean_half : answer_to turns (mean_of_two (codes "-") (Finite 0 half) (half ∷ half ∷ []) (nought ∷ below_half ∷ []) (nought ∷ below_half ∷ []) (0 ∷ 0 ∷ []) half) ≡ Yes
+mean_answers : AreEqual (
+  -- so the mean payoff is 1/2; no label is asked for
+  (answer_to turns (mean_of_two (codes "-") (Finite 0 half) (half ∷ half ∷ []) (nought ∷ below_half ∷ []) (nought ∷ below_half ∷ []) (0 ∷ 0 ∷ []) half), Yes) ∷
+  -- another gain in the line `init`
+  (answer_to turns (mean_of_two (codes "-") (Finite 0 one) (half ∷ half ∷ []) (nought ∷ below_half ∷ []) (nought ∷ below_half ∷ []) (0 ∷ 0 ∷ []) half),
+   No (record { rule = InitialState; state = Some 0; choice = None })) ∷
+  (answer_to turns (mean_of_two (codes "costs") (Finite 0 half) (half ∷ half ∷ []) (nought ∷ below_half ∷ []) (nought ∷ below_half ∷ []) (0 ∷ 0 ∷ []) half), NoReward) ∷ -- mean of none
+  []
+)
 unfolding gcd gcd_with_fuel ratio of_int neg_ℚ ◌+ℚ◌ ◌*ℚ◌ narrow narrow_ℚ written_add written_mul written_compare
-mean_half = refl
-
--- another gain in the line `init`
-mean_init : answer_to turns (mean_of_two (codes "-") (Finite 0 one) (half ∷ half ∷ []) (nought ∷ below_half ∷ []) (nought ∷ below_half ∷ []) (0 ∷ 0 ∷ []) half)
-    ≡ No (record { rule = InitialState; state = Some 0; choice = None })
-unfolding ratio of_int gcd gcd_with_fuel
-mean_init = refl
-
-mean_of_none : answer_to turns (mean_of_two (codes "costs") (Finite 0 half) (half ∷ half ∷ []) (nought ∷ below_half ∷ []) (nought ∷ below_half ∷ []) (0 ∷ 0 ∷ []) half) ≡ NoReward
-mean_of_none = refl
+mean_answers = refl
 
 -- a step from 0 to 1 pays 5, and the loops pay 1: without it in the bound, the gain 1 is refused
 abbrev once : Mdp
@@ -172,14 +147,15 @@ once = record {
       ∷ [];
 }
 
-mean_once : answer_to once (mean_of_two (codes "-") (Finite 0 one) (one ∷ one ∷ []) (of_int (pos 4) ∷ nought ∷ []) (nought ∷ nought ∷ []) (0 ∷ 0 ∷ []) (of_int (pos 4))) ≡ Yes
+bound_answers : AreEqual (
+  (answer_to once (mean_of_two (codes "-") (Finite 0 one) (one ∷ one ∷ []) (of_int (pos 4) ∷ nought ∷ []) (nought ∷ nought ∷ []) (0 ∷ 0 ∷ []) (of_int (pos 4))), Yes) ∷ -- mean once
+  -- mean without bound
+  (answer_to once (mean_of_two (codes "-") (Finite 0 one) (one ∷ one ∷ []) (nought ∷ nought ∷ []) (nought ∷ nought ∷ []) (0 ∷ 0 ∷ []) nought),
+   No (record { rule = BoundOnEachChoice; state = Some 0; choice = Some 1 })) ∷
+  []
+)
 unfolding gcd gcd_with_fuel ratio of_int neg_ℚ ◌+ℚ◌ ◌*ℚ◌ narrow narrow_ℚ written_add written_mul written_compare
-mean_once = refl
-
-mean_without_bound : answer_to once (mean_of_two (codes "-") (Finite 0 one) (one ∷ one ∷ []) (nought ∷ nought ∷ []) (nought ∷ nought ∷ []) (0 ∷ 0 ∷ []) nought)
-    ≡ No (record { rule = BoundOnEachChoice; state = Some 0; choice = Some 1 })
-unfolding gcd gcd_with_fuel ratio of_int neg_ℚ ◌+ℚ◌ ◌*ℚ◌ narrow narrow_ℚ written_add written_mul written_compare
-mean_without_bound = refl
+bound_answers = refl
 
 -- ---- subsystems of the model of three states: state 0 alone is kept
 
@@ -188,30 +164,21 @@ abbrev one_flow : ℕ → List ℕ → Init → ℕ → ℚ → Certificate
 one_flow states label init choice t =
     record { claim = witness Max label t; states = states; init = init; body = flow (0 ∷ []) (false ∷ []) (record { state = 0; choice = choice; amount = one } ∷ []) }
 
--- choice 1 brings a third of it to the goal
-flow_third : answer_to three (one_flow 3 (codes "goal") (Start 0) 1 third) ≡ Yes
+flow_answers : AreEqual (
+  -- choice 1 brings a third of it to the goal
+  (answer_to three (one_flow 3 (codes "goal") (Start 0) 1 third), Yes) ∷
+  -- and no half
+  (answer_to three (one_flow 3 (codes "goal") (Start 0) 1 half), No (record { rule = FlowsReachGoals; state = None; choice = None })) ∷
+  -- a choice that state 0 hasn't
+  (answer_to three (one_flow 3 (codes "goal") (Start 0) 2 third), No (record { rule = ChoiceExists; state = Some 0; choice = Some 2 })) ∷
+  -- the line `init` names another state
+  (answer_to three (one_flow 3 (codes "goal") (Start 1) 1 third), No (record { rule = InitialState; state = Some 1; choice = None })) ∷
+  (answer_to three (one_flow 2 (codes "goal") (Start 0) 1 third), Size) ∷ -- flow size
+  (answer_to three (one_flow 3 (codes "done") (Start 0) 1 third), NoLabel) ∷ -- flow label
+  []
+)
 unfolding gcd gcd_with_fuel ratio of_int lt_ℚ ◌+ℚ◌ ◌*ℚ◌ narrow narrow_ℚ written_add written_mul written_compare
-flow_third = refl
-
--- and no half
-flow_half : answer_to three (one_flow 3 (codes "goal") (Start 0) 1 half) ≡ No (record { rule = FlowsReachGoals; state = None; choice = None })
-unfolding gcd gcd_with_fuel ratio of_int lt_ℚ ◌+ℚ◌ ◌*ℚ◌ narrow narrow_ℚ written_add written_mul written_compare
-flow_half = refl
-
--- a choice that state 0 hasn't
-flow_choice : answer_to three (one_flow 3 (codes "goal") (Start 0) 2 third) ≡ No (record { rule = ChoiceExists; state = Some 0; choice = Some 2 })
-unfolding gcd gcd_with_fuel ratio of_int lt_ℚ ◌+ℚ◌ ◌*ℚ◌ narrow narrow_ℚ written_add written_mul written_compare
-flow_choice = refl
-
--- the line `init` names another state
-flow_start : answer_to three (one_flow 3 (codes "goal") (Start 1) 1 third) ≡ No (record { rule = InitialState; state = Some 1; choice = None })
-flow_start = refl
-
-flow_size : answer_to three (one_flow 2 (codes "goal") (Start 0) 1 third) ≡ Size
-flow_size = refl
-
-flow_label : answer_to three (one_flow 3 (codes "done") (Start 0) 1 third) ≡ NoLabel
-flow_label = refl
+flow_answers = refl
 
 -- a model without an initial state has no subsystem
 abbrev without_init : Mdp
@@ -225,14 +192,11 @@ abbrev one_floor : ℚ → ℕ → ℚ → Certificate
 one_floor value rank t =
     record { claim = witness Min (codes "goal") t; states = 3; init = Start 0; body = floor (0 ∷ []) (false ∷ []) (value ∷ []) (rank ∷ []) }
 
-floor_zero : answer_to three (one_floor nought 0 nought) ≡ Yes
+floor_answers : AreEqual (
+  (answer_to three (one_floor nought 0 nought), Yes) ∷ -- floor zero
+  (answer_to three (one_floor third 1 third), No (record { rule = RankFalls; state = Some 0; choice = Some 0 })) ∷ -- floor third
+  (answer_to three (one_floor nought 0 third), No (record { rule = StartReachesThreshold; state = None; choice = None })) ∷ -- floor below
+  []
+)
 unfolding gcd gcd_with_fuel ratio of_int lt_ℚ ◌+ℚ◌ ◌*ℚ◌ narrow narrow_ℚ written_add written_mul written_compare
-floor_zero = refl
-
-floor_third : answer_to three (one_floor third 1 third) ≡ No (record { rule = RankFalls; state = Some 0; choice = Some 0 })
-unfolding gcd gcd_with_fuel ratio of_int lt_ℚ ◌+ℚ◌ ◌*ℚ◌ narrow narrow_ℚ written_add written_mul written_compare
-floor_third = refl
-
-floor_below : answer_to three (one_floor nought 0 third) ≡ No (record { rule = StartReachesThreshold; state = None; choice = None })
-unfolding gcd gcd_with_fuel ratio of_int lt_ℚ ◌+ℚ◌ ◌*ℚ◌ narrow narrow_ℚ written_add written_mul written_compare
-floor_below = refl
+floor_answers = refl

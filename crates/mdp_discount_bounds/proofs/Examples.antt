@@ -5,6 +5,7 @@ use Rattle.std.proofs.Common.{◌≡◌, ℕ, List, [], ◌∷◌, Option, refl,
 use Rattle.mdp_math.specs.Gcd.{gcd, gcd_with_fuel}
 use Rattle.mdp_math.specs.Rational.{ℚ, of_int, ratio, neg_ℚ, ◌+ℚ◌, ◌*ℚ◌, le_ℚ}
 use Rattle.mdp_math.specs.Written.{narrow, narrow_ℚ, written_add, written_mul}
+use Rattle.mdp_math.proofs.Tables.{AreEqual}
 use Rattle.mdp_spec.specs.Mdp.{Mdp}
 use Rattle.mdp_spec.proofs.Small.{entry, half, model, number, state, to, wait}
 use Rattle.mdp_farkas.specs.Verdict.{verdict_of}
@@ -57,24 +58,15 @@ nothing = refl
 
 -- ---- what is refused
 
--- to move on earns 7/2 by these upper values, which is more than 2
-upper_low : says Max wait (some 2 ∷ some 5 ∷ []) (some 2 ∷ some 7 ∷ []) (number 7) (1 ∷ 0 ∷ []) ≡ fault DiscountedOnEachChoice 0 1
+bounds_judged : AreEqual (
+  -- to move on earns 7/2 by these upper values, which is more than 2
+  (says Max wait (some 2 ∷ some 5 ∷ []) (some 2 ∷ some 7 ∷ []) (number 7) (1 ∷ 0 ∷ []), fault DiscountedOnEachChoice 0 1) ∷
+  (says Max wait (some 4 ∷ some 5 ∷ []) (some 4 ∷ some 7 ∷ []) (number 7) (1 ∷ 0 ∷ []), fault DiscountedOnPolicy 0 1) ∷ -- lower high
+  -- a value doesn't stand on one that is missing
+  (says Max wait (some 2 ∷ some 5 ∷ []) (some 4 ∷ None ∷ []) (number 5) (1 ∷ 0 ∷ []), fault DiscountedOnEachChoice 0 1) ∷
+  (says Max wait (some 2 ∷ some 5 ∷ []) (some 4 ∷ some 7 ∷ []) (number 5) (1 ∷ 0 ∷ []), No (record { rule = RemainderIsGreatest; state = None; choice = None })) ∷ -- small remainder
+  (says Max wait (None ∷ None ∷ []) (None ∷ None ∷ []) (number 0) (2 ∷ 0 ∷ []), fault ChoiceExists 0 2) ∷ -- no choice
+  []
+)
 unfolding gcd gcd_with_fuel of_int ratio neg_ℚ le_ℚ ◌+ℚ◌ ◌*ℚ◌ narrow narrow_ℚ written_add written_mul
-upper_low = refl
-
-lower_high : says Max wait (some 4 ∷ some 5 ∷ []) (some 4 ∷ some 7 ∷ []) (number 7) (1 ∷ 0 ∷ []) ≡ fault DiscountedOnPolicy 0 1
-unfolding gcd gcd_with_fuel of_int ratio neg_ℚ le_ℚ ◌+ℚ◌ ◌*ℚ◌ narrow narrow_ℚ written_add written_mul
-lower_high = refl
-
--- a value doesn't stand on one that is missing
-on_missing : says Max wait (some 2 ∷ some 5 ∷ []) (some 4 ∷ None ∷ []) (number 5) (1 ∷ 0 ∷ []) ≡ fault DiscountedOnEachChoice 0 1
-unfolding gcd gcd_with_fuel of_int ratio neg_ℚ le_ℚ ◌+ℚ◌ ◌*ℚ◌ narrow narrow_ℚ written_add written_mul
-on_missing = refl
-
-small_remainder : says Max wait (some 2 ∷ some 5 ∷ []) (some 4 ∷ some 7 ∷ []) (number 5) (1 ∷ 0 ∷ []) ≡ No (record { rule = RemainderIsGreatest; state = None; choice = None })
-unfolding gcd gcd_with_fuel of_int ratio neg_ℚ le_ℚ ◌+ℚ◌ ◌*ℚ◌ narrow narrow_ℚ written_add written_mul
-small_remainder = refl
-
-no_choice : says Max wait (None ∷ None ∷ []) (None ∷ None ∷ []) (number 0) (2 ∷ 0 ∷ []) ≡ fault ChoiceExists 0 2
-unfolding gcd gcd_with_fuel of_int ratio neg_ℚ le_ℚ ◌+ℚ◌ ◌*ℚ◌ narrow narrow_ℚ written_add written_mul
-no_choice = refl
+bounds_judged = refl

@@ -4,6 +4,7 @@ use Rattle.std.specs.Prelude.{codes}
 use Rattle.std.specs.Fmt.{digits}
 use Rattle.mdp_math.specs.Gcd.{gcd, gcd_with_fuel}
 use Rattle.mdp_math.specs.Rational.{ℚ, of_int, ratio, le_ℚ, lt_ℚ}
+use Rattle.mdp_math.proofs.Tables.{AreEqual}
 use Rattle.mdp_rows.specs.declared.dir.Dir.TheVariants.{Max}
 use Rattle.mdp_num.specs.Value.{spelling}
 use Rattle.mdp_num.specs.Canonical.{canonical_of}
@@ -66,38 +67,27 @@ with-init init = wait-with (codes "mdp-bounds 1") (codes "claim max discount \"-
 abbrev with-states : List ℕ → List ℕ
 with-states states = wait-with (codes "mdp-bounds 1") (codes "claim max discount \"-\" 1/2") (codes "init 0 2 inf") (codes "remainder 7") states
 
-record Refused : Type 0 where
-  another-version : outcome (wait-with (codes "mdp-bounds 2") (codes "claim max discount \"-\" 1/2") (codes "init 0 2 inf") (codes "remainder 7") wait-states) ≡ refused Version 1
+texts-refused : AreEqual (
+  (outcome (wait-with (codes "mdp-bounds 2") (codes "claim max discount \"-\" 1/2") (codes "init 0 2 inf") (codes "remainder 7") wait-states), refused Version 1) ∷ -- another version
   -- a factor is below 1
-  factor-one : outcome (with-claim (codes "claim max discount \"-\" 1")) ≡ refused Claim 2
-  start-past_end : outcome (with-init (codes "init 4 2 inf")) ≡ refused Count 4
-  start-alone : outcome (with-init (codes "init 0 2")) ≡ refused Shape 4
+  (outcome (with-claim (codes "claim max discount \"-\" 1")), refused Claim 2) ∷ -- factor one
+  (outcome (with-init (codes "init 4 2 inf")), refused Count 4) ∷ -- start past end
+  (outcome (with-init (codes "init 0 2")), refused Shape 4) ∷ -- start alone
   -- a lower value that is missing is `-inf`, an upper one `inf`
-  lower-infinite : outcome (with-init (codes "init 0 inf inf")) ≡ refused Number 4
-  upper-infinite : outcome (with-init (codes "init 0 2 -inf")) ≡ refused Number 4
-  remainder-infinite : outcome (wait-with (codes "mdp-bounds 1") (codes "claim max discount \"-\" 1/2") (codes "init 0 2 inf") (codes "remainder inf") wait-states) ≡ refused Number 5
-  one-value : outcome (with-states (line (codes "state 0 2 1"))) ≡ refused Shape 6
-  another-state : outcome (with-states (line (codes "state 1 2 inf 1"))) ≡ refused Count 6
+  (outcome (with-init (codes "init 0 inf inf")), refused Number 4) ∷ -- lower infinite
+  (outcome (with-init (codes "init 0 2 -inf")), refused Number 4) ∷ -- upper infinite
+  (outcome (wait-with (codes "mdp-bounds 1") (codes "claim max discount \"-\" 1/2") (codes "init 0 2 inf") (codes "remainder inf") wait-states), refused Number 5) ∷ -- remainder infinite
+  (outcome (with-states (line (codes "state 0 2 1"))), refused Shape 6) ∷ -- one value
+  (outcome (with-states (line (codes "state 1 2 inf 1"))), refused Count 6) ∷ -- another state
   -- the lines of the states 2 and 3 could be one
-  shorter-runs : outcome (with-states (line (codes "state 0 2 inf 1") ++ line (codes "state 1 5 7 0") ++ line (codes "state 2 -inf inf 0") ++ line (codes "state 3 -inf inf 0"))) ≡ refused Run 9
-  bytes-behind : outcome (wait-text ++ 10 ∷ []) ≡ refused End 10
-
-texts-refused : Refused
+  -- shorter runs
+  (outcome (with-states (line (codes "state 0 2 inf 1") ++ line (codes "state 1 5 7 0") ++ line (codes "state 2 -inf inf 0") ++ line (codes "state 3 -inf inf 0"))), refused Run 9) ∷
+  (outcome (wait-text ++ 10 ∷ []), refused End 10) ∷ -- bytes behind
+  []
+)
 unfolding outcome next_line whole_of whole_at frac_at claim_to claim_of claim_at words_behind states_at between_at init_at remainder_at head_from entry_at state_at run_at longest_at runs_from
     entries_from entries_to_end nothing_behind canonical_of of_int ratio gcd gcd_with_fuel le_ℚ lt_ℚ
-texts-refused = record {
-  another-version = refl;
-  factor-one = refl;
-  start-past_end = refl;
-  start-alone = refl;
-  lower-infinite = refl;
-  upper-infinite = refl;
-  remainder-infinite = refl;
-  one-value = refl;
-  another-state = refl;
-  shorter-runs = refl;
-  bytes-behind = refl;
-}
+texts-refused = refl
 
 -- ---- which certificates of bounds are of this kind
 

@@ -4,6 +4,7 @@ use Rattle.std.proofs.Common.{◌≡◌, ℕ, List, [], ◌∷◌, refl, pos, So
 use Rattle.mdp_math.specs.Gcd.{gcd, gcd_with_fuel}
 use Rattle.mdp_math.specs.Rational.{ℚ, of_int, ratio, neg_ℚ, ◌+ℚ◌, ◌*ℚ◌, le_ℚ}
 use Rattle.mdp_math.specs.Written.{narrow, narrow_ℚ, written_add, written_mul, written_compare}
+use Rattle.mdp_math.proofs.Tables.{AreEqual}
 use Rattle.mdp_spec.specs.Mdp.{Mdp}
 use Rattle.mdp_spec.proofs.Small.{entry, model, number, over, state, to, wait}
 use Rattle.mdp_farkas.specs.Verdict.{verdict_of}
@@ -36,39 +37,27 @@ half : says Max puterman (over 1 2) (number 9 ∷ minus 2 ∷ []) (number 9) (1 
 unfolding gcd gcd_with_fuel of_int ratio neg_ℚ le_ℚ ◌+ℚ◌ ◌*ℚ◌ narrow narrow_ℚ written_add written_mul written_compare
 half = refl
 
--- the remainder is a magnitude: -10 is the farthest from 0
-nine_tenths : says Max puterman (over 9 10) (number 1 ∷ minus 10 ∷ []) (number 10) (1 ∷ 0 ∷ []) ≡ Yes
+greatest_judged : AreEqual (
+  -- the remainder is a magnitude: -10 is the farthest from 0
+  (says Max puterman (over 9 10) (number 1 ∷ minus 10 ∷ []) (number 10) (1 ∷ 0 ∷ []), Yes) ∷
+  (says Min puterman (over 1 2) (number 6 ∷ minus 2 ∷ []) (number 6) (0 ∷ 0 ∷ []), Yes) ∷ -- least
+  -- under factor 0 the values are the rewards
+  (says Max puterman (number 0) (number 10 ∷ minus 1 ∷ []) (number 10) (1 ∷ 0 ∷ []), Yes) ∷
+  []
+)
 unfolding gcd gcd_with_fuel of_int ratio neg_ℚ le_ℚ ◌+ℚ◌ ◌*ℚ◌ narrow narrow_ℚ written_add written_mul written_compare
-nine_tenths = refl
-
-least : says Min puterman (over 1 2) (number 6 ∷ minus 2 ∷ []) (number 6) (0 ∷ 0 ∷ []) ≡ Yes
-unfolding gcd gcd_with_fuel of_int ratio neg_ℚ le_ℚ ◌+ℚ◌ ◌*ℚ◌ narrow narrow_ℚ written_add written_mul written_compare
-least = refl
-
--- under factor 0 the values are the rewards
-at_once : says Max puterman (number 0) (number 10 ∷ minus 1 ∷ []) (number 10) (1 ∷ 0 ∷ []) ≡ Yes
-unfolding gcd gcd_with_fuel of_int ratio neg_ℚ le_ℚ ◌+ℚ◌ ◌*ℚ◌ narrow narrow_ℚ written_add written_mul written_compare
-at_once = refl
+greatest_judged = refl
 
 -- ---- what is refused
 
--- to wait for ever earns 2; to move on earns 3
-first_kept : says Max wait (over 1 2) (number 2 ∷ number 6 ∷ []) (number 6) (0 ∷ 0 ∷ []) ≡ No (record { rule = DiscountedOnEachChoice; state = Some 0; choice = Some 1 })
+least_judged : AreEqual (
+  -- to wait for ever earns 2; to move on earns 3
+  (says Max wait (over 1 2) (number 2 ∷ number 6 ∷ []) (number 6) (0 ∷ 0 ∷ []), No (record { rule = DiscountedOnEachChoice; state = Some 0; choice = Some 1 })) ∷
+  (says Max wait (over 1 2) (number 4 ∷ number 6 ∷ []) (number 6) (1 ∷ 0 ∷ []), No (record { rule = DiscountedOnPolicy; state = Some 0; choice = Some 1 })) ∷ -- too much
+  (says Max wait (over 1 2) (number 3 ∷ number 6 ∷ []) (number 5) (1 ∷ 0 ∷ []), No (record { rule = RemainderIsGreatest; state = None; choice = None })) ∷ -- small remainder
+  (says Max puterman (over 9 10) (number 1 ∷ minus 10 ∷ []) (number 1) (1 ∷ 0 ∷ []), No (record { rule = RemainderIsGreatest; state = None; choice = None })) ∷ -- greatest value
+  (says Max wait (over 1 2) (number 3 ∷ number 6 ∷ []) (number 6) (2 ∷ 0 ∷ []), No (record { rule = ChoiceExists; state = Some 0; choice = Some 2 })) ∷ -- no choice
+  []
+)
 unfolding gcd gcd_with_fuel of_int ratio neg_ℚ le_ℚ ◌+ℚ◌ ◌*ℚ◌ narrow narrow_ℚ written_add written_mul written_compare
-first_kept = refl
-
-too_much : says Max wait (over 1 2) (number 4 ∷ number 6 ∷ []) (number 6) (1 ∷ 0 ∷ []) ≡ No (record { rule = DiscountedOnPolicy; state = Some 0; choice = Some 1 })
-unfolding gcd gcd_with_fuel of_int ratio neg_ℚ le_ℚ ◌+ℚ◌ ◌*ℚ◌ narrow narrow_ℚ written_add written_mul written_compare
-too_much = refl
-
-small_remainder : says Max wait (over 1 2) (number 3 ∷ number 6 ∷ []) (number 5) (1 ∷ 0 ∷ []) ≡ No (record { rule = RemainderIsGreatest; state = None; choice = None })
-unfolding gcd gcd_with_fuel of_int ratio neg_ℚ le_ℚ ◌+ℚ◌ ◌*ℚ◌ narrow narrow_ℚ written_add written_mul written_compare
-small_remainder = refl
-
-greatest_value : says Max puterman (over 9 10) (number 1 ∷ minus 10 ∷ []) (number 1) (1 ∷ 0 ∷ []) ≡ No (record { rule = RemainderIsGreatest; state = None; choice = None })
-unfolding gcd gcd_with_fuel of_int ratio neg_ℚ le_ℚ ◌+ℚ◌ ◌*ℚ◌ narrow narrow_ℚ written_add written_mul written_compare
-greatest_value = refl
-
-no_choice : says Max wait (over 1 2) (number 3 ∷ number 6 ∷ []) (number 6) (2 ∷ 0 ∷ []) ≡ No (record { rule = ChoiceExists; state = Some 0; choice = Some 2 })
-unfolding gcd gcd_with_fuel of_int ratio neg_ℚ le_ℚ ◌+ℚ◌ ◌*ℚ◌ narrow narrow_ℚ written_add written_mul written_compare
-no_choice = refl
+least_judged = refl

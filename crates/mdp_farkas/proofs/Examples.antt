@@ -4,6 +4,7 @@ use Rattle.mdp_math.specs.Gcd.{gcd, gcd_with_fuel}
 use Rattle.mdp_math.specs.Rational.{ℚ, of_int, ratio, le_ℚ, lt_ℚ, ◌+ℚ◌, ◌*ℚ◌}
 use Rattle.mdp_math.specs.Written.{narrow, narrow_ℚ, written_add, written_mul, written_compare}
 use Rattle.mdp_math.proofs.Extremes.{le_of_test, test_of_le}
+use Rattle.mdp_math.proofs.Tables.{AreEqual}
 use Rattle.mdp_spec.specs.Mdp.{Entry, Choice, Mdp, row_at}
 use Rattle.mdp_spec.specs.Row.{row_sum}
 use Rattle.mdp_spec.proofs.Small.{entry, nought, one, third, split, split_goals}
@@ -27,14 +28,14 @@ loop_alone : verdict_of (reach_checks Max split split_goals (one ∷ one ∷ nou
 unfolding gcd gcd_with_fuel ratio of_int lt_ℚ ◌+ℚ◌ ◌*ℚ◌ narrow narrow_ℚ written_add written_mul written_compare
 loop_alone = refl
 
-greatest : verdict_of (reach_checks Max split split_goals (third ∷ one ∷ nought ∷ []) (1 ∷ 0 ∷ 0 ∷ []) (1 ∷ 0 ∷ 0 ∷ [])) ≡ Yes
+reach_verdicts : AreEqual (
+  (verdict_of (reach_checks Max split split_goals (third ∷ one ∷ nought ∷ []) (1 ∷ 0 ∷ 0 ∷ []) (1 ∷ 0 ∷ 0 ∷ [])), Yes) ∷ -- greatest
+  -- the second choice would do better
+  (verdict_of (reach_checks Max split split_goals (nought ∷ one ∷ nought ∷ []) (0 ∷ 0 ∷ 0 ∷ []) (0 ∷ 0 ∷ 0 ∷ [])), fault ValueOnEachChoice 0 (Some 1)) ∷
+  []
+)
 unfolding gcd gcd_with_fuel ratio of_int lt_ℚ ◌+ℚ◌ ◌*ℚ◌ narrow narrow_ℚ written_add written_mul written_compare
-greatest = refl
-
--- the second choice would do better
-too_small : verdict_of (reach_checks Max split split_goals (nought ∷ one ∷ nought ∷ []) (0 ∷ 0 ∷ 0 ∷ []) (0 ∷ 0 ∷ 0 ∷ [])) ≡ fault ValueOnEachChoice 0 (Some 1)
-unfolding gcd gcd_with_fuel ratio of_int lt_ℚ ◌+ℚ◌ ◌*ℚ◌ narrow narrow_ℚ written_add written_mul written_compare
-too_small = refl
+reach_verdicts = refl
 
 -- for the least probability the loop is the answer
 least : verdict_of (reach_checks Min split split_goals (nought ∷ one ∷ nought ∷ []) (0 ∷ 0 ∷ 0 ∷ []) (0 ∷ 0 ∷ 0 ∷ [])) ≡ Yes
@@ -65,18 +66,15 @@ no_upper : verdict_of (upper_checks split split_goals (ratio (pos 1) 4 ∷ one �
 unfolding gcd gcd_with_fuel ratio of_int ◌+ℚ◌ ◌*ℚ◌ narrow narrow_ℚ written_add written_mul written_compare
 no_upper = refl
 
-goal_below_one : verdict_of (upper_checks split split_goals (one ∷ third ∷ nought ∷ [])) ≡ fault GoalValue 1 None
+upper_verdicts : AreEqual (
+  (verdict_of (upper_checks split split_goals (one ∷ third ∷ nought ∷ [])), fault GoalValue 1 None) ∷ -- goal below one
+  (verdict_of (upper_checks split split_goals (ratio (pos 3) 2 ∷ one ∷ nought ∷ [])), fault Probability 0 None) ∷ -- above one
+  -- a product of the row has the denominator 3(2^126 + 1), which is past width: its place is said, before any rule that is false
+  (verdict_of (upper_checks split split_goals (one ∷ one ∷ ratio (pos 1) (2 ^ 126 + 1) ∷ [])), Wide (Some 0) (Some 1)) ∷
+  []
+)
 unfolding gcd gcd_with_fuel ratio of_int ◌+ℚ◌ ◌*ℚ◌ narrow narrow_ℚ written_add written_mul written_compare
-goal_below_one = refl
-
-above_one : verdict_of (upper_checks split split_goals (ratio (pos 3) 2 ∷ one ∷ nought ∷ [])) ≡ fault Probability 0 None
-unfolding gcd gcd_with_fuel ratio of_int ◌+ℚ◌ ◌*ℚ◌ narrow narrow_ℚ written_add written_mul written_compare
-above_one = refl
-
--- a product of the row has the denominator 3(2^126 + 1), which is past width: its place is said, before any rule that is false
-wide : verdict_of (upper_checks split split_goals (one ∷ one ∷ ratio (pos 1) (2 ^ 126 + 1) ∷ [])) ≡ Wide (Some 0) (Some 1)
-unfolding gcd gcd_with_fuel ratio of_int ◌+ℚ◌ ◌*ℚ◌ narrow narrow_ℚ written_add written_mul written_compare
-wide = refl
+upper_verdicts = refl
 
 -- ---- what the rules say, in exact numbers
 

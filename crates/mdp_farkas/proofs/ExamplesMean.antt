@@ -6,6 +6,7 @@ use Rattle.mdp_math.specs.Gcd.{gcd, gcd_with_fuel}
 use Rattle.mdp_math.specs.Rational.{ℚ, of_int, ratio, le_ℚ, neg_ℚ, ◌+ℚ◌, ◌*ℚ◌}
 use Rattle.mdp_math.specs.Written.{narrow, narrow_ℚ, written_add, written_mul, written_compare}
 use Rattle.mdp_math.proofs.Extremes.{le_of_test, test_of_le}
+use Rattle.mdp_math.proofs.Tables.{AreEqual}
 use Rattle.mdp_spec.specs.Mdp.{Mdp, row_at}
 use Rattle.mdp_spec.specs.Row.{row_sum}
 use Rattle.mdp_spec.proofs.Small.{gamble, leave, minus, model, number, over, pay, state, to}
@@ -28,14 +29,14 @@ two x y = x ∷ y ∷ []
 abbrev fault : Rule → Option ℕ → Option ℕ → Verdict
 fault rule s choice = No (record { rule = rule; state = s; choice = choice })
 
--- both directions: there is nothing to choose
-most_turns : verdict_of (mean_checks Max turns 0 (two (over 1 2) (over 1 2)) (two (number 0) (minus 1 2)) (two (number 0) (minus 1 2)) (over 1 2) (0 ∷ 0 ∷ [])) ≡ Yes
+turning_verdicts : AreEqual (
+  -- both directions: there is nothing to choose
+  (verdict_of (mean_checks Max turns 0 (two (over 1 2) (over 1 2)) (two (number 0) (minus 1 2)) (two (number 0) (minus 1 2)) (over 1 2) (0 ∷ 0 ∷ [])), Yes) ∷
+  (verdict_of (mean_checks Min turns 0 (two (over 1 2) (over 1 2)) (two (number 0) (minus 1 2)) (two (number 0) (minus 1 2)) (over 1 2) (0 ∷ 0 ∷ [])), Yes) ∷ -- least turns
+  []
+)
 unfolding gcd gcd_with_fuel ratio of_int neg_ℚ ◌+ℚ◌ ◌*ℚ◌ narrow narrow_ℚ written_add written_mul written_compare
-most_turns = refl
-
-least_turns : verdict_of (mean_checks Min turns 0 (two (over 1 2) (over 1 2)) (two (number 0) (minus 1 2)) (two (number 0) (minus 1 2)) (over 1 2) (0 ∷ 0 ∷ [])) ≡ Yes
-unfolding gcd gcd_with_fuel ratio of_int neg_ℚ ◌+ℚ◌ ◌*ℚ◌ narrow narrow_ℚ written_add written_mul written_compare
-least_turns = refl
+turning_verdicts = refl
 
 -- another spread
 too_wide_spread : verdict_of (mean_checks Max turns 0 (two (over 1 2) (over 1 2)) (two (number 0) (minus 1 2)) (two (number 0) (minus 1 2)) (number 1) (0 ∷ 0 ∷ []))
@@ -48,13 +49,13 @@ abbrev gambling : ℚ → ℚ → ℕ → Verdict
 gambling gain bias choice =
     verdict_of (mean_checks Max gamble 0 (gain ∷ number 4 ∷ number 0 ∷ []) (number 0 ∷ number 0 ∷ number 0 ∷ []) (bias ∷ number 0 ∷ number 0 ∷ []) (number 2) (choice ∷ 0 ∷ 0 ∷ []))
 
-gambles : gambling (number 2) (minus 2 1) 1 ≡ Yes
+gambling_verdicts : AreEqual (
+  (gambling (number 2) (minus 2 1) 1, Yes) ∷ -- gambles
+  (gambling (number 2) (minus 2 1) 2, fault ChoiceExists (Some 0) (Some 2)) ∷ -- no such choice
+  []
+)
 unfolding gcd gcd_with_fuel ratio of_int neg_ℚ ◌+ℚ◌ ◌*ℚ◌ narrow narrow_ℚ written_add written_mul written_compare
-gambles = refl
-
-no_such_choice : gambling (number 2) (minus 2 1) 2 ≡ fault ChoiceExists (Some 0) (Some 2)
-unfolding gcd gcd_with_fuel ratio of_int neg_ℚ ◌+ℚ◌ ◌*ℚ◌ narrow narrow_ℚ written_add written_mul written_compare
-no_such_choice = refl
+gambling_verdicts = refl
 
 gain_too_small : gambling (number 1) (minus 2 1) 1 ≡ fault GainOnEachChoice (Some 0) (Some 1)
 unfolding gcd gcd_with_fuel ratio of_int neg_ℚ ◌+ℚ◌ ◌*ℚ◌ narrow narrow_ℚ written_add written_mul written_compare
@@ -73,29 +74,20 @@ stays : gambling (number 2) (minus 2 1) 0 ≡ fault BiasOnPolicy (Some 0) (Some 
 unfolding gcd gcd_with_fuel ratio of_int neg_ℚ ◌+ℚ◌ ◌*ℚ◌ narrow narrow_ℚ written_add written_mul written_compare
 stays = refl
 
--- to leave earns 4 more once, which the bound takes up and the bias doesn't
-leaves : verdict_of (mean_checks Max leave 0 (two (number 1) (number 1)) (two (number 4) (number 0)) (two (number 0) (number 0)) (number 4) (0 ∷ 0 ∷ [])) ≡ Yes
+mean_verdicts : AreEqual (
+  -- to leave earns 4 more once, which the bound takes up and the bias doesn't
+  (verdict_of (mean_checks Max leave 0 (two (number 1) (number 1)) (two (number 4) (number 0)) (two (number 0) (number 0)) (number 4) (0 ∷ 0 ∷ [])), Yes) ∷
+  -- no bound
+  (verdict_of (mean_checks Max leave 0 (two (number 1) (number 1)) (two (number 0) (number 0)) (two (number 0) (number 0)) (number 0) (0 ∷ 0 ∷ [])), fault BoundOnEachChoice (Some 0) (Some 1)) ∷
+  -- rewards below 0
+  (verdict_of (mean_checks Max pay 0 (two (minus 1 2) (minus 1 2)) (two (number 0) (number 0)) (two (minus 9 2) (number 0)) (over 9 2) (1 ∷ 0 ∷ [])), Yes) ∷
+  -- two states that are left nowhere: the bounds' range has the denominator 3(2^126 + 1), which is past width and has no place
+  ( verdict_of (mean_checks Max (model (state (to 0 (number 0) ∷ []) ∷ state (to 1 (number 0) ∷ []) ∷ [])) 0 (two (number 0) (number 0)) (two (over 1 3) (over 1 (2 ^ 126 + 1))) (two (number 0) (number 0)) (number 0) (0 ∷ 0 ∷ [])),
+   Wide None None) ∷
+  []
+)
 unfolding gcd gcd_with_fuel ratio of_int neg_ℚ ◌+ℚ◌ ◌*ℚ◌ narrow narrow_ℚ written_add written_mul written_compare
-leaves = refl
-
-no_bound : verdict_of (mean_checks Max leave 0 (two (number 1) (number 1)) (two (number 0) (number 0)) (two (number 0) (number 0)) (number 0) (0 ∷ 0 ∷ []))
-    ≡ fault BoundOnEachChoice (Some 0) (Some 1)
-unfolding gcd gcd_with_fuel ratio of_int neg_ℚ ◌+ℚ◌ ◌*ℚ◌ narrow narrow_ℚ written_add written_mul written_compare
-no_bound = refl
-
--- rewards below 0
-pays : verdict_of (mean_checks Max pay 0 (two (minus 1 2) (minus 1 2)) (two (number 0) (number 0)) (two (minus 9 2) (number 0)) (over 9 2) (1 ∷ 0 ∷ [])) ≡ Yes
-unfolding gcd gcd_with_fuel ratio of_int neg_ℚ ◌+ℚ◌ ◌*ℚ◌ narrow narrow_ℚ written_add written_mul written_compare
-pays = refl
-
--- two states that are left nowhere: the bounds' range has the denominator 3(2^126 + 1), which is past width and has no place
-wide :
-    verdict_of
-    (mean_checks Max (model (state (to 0 (number 0) ∷ []) ∷ state (to 1 (number 0) ∷ []) ∷ [])) 0 (two (number 0) (number 0)) (two (over 1 3) (over 1 (2 ^ 126 + 1))) (two (number 0) (number 0))
-    (number 0) (0 ∷ 0 ∷ []))
-    ≡ Wide None None
-unfolding gcd gcd_with_fuel ratio of_int neg_ℚ ◌+ℚ◌ ◌*ℚ◌ narrow narrow_ℚ written_add written_mul written_compare
-wide = refl
+mean_verdicts = refl
 
 -- ---- what the rules say, in exact numbers
 

@@ -1,14 +1,15 @@
--- Worked words, and what they are.
-use Rattle.std.proofs.Common.{◌≡◌, [], ◌∷◌, ◌++◌, Some, None, Ok, Err, refl}
+-- Worked words, and what they ask for.
+use Rattle.std.proofs.Common.{◌≡◌, ℕ, List, [], ◌∷◌, ◌++◌, Some, None, Ok, Err, refl}
 use Rattle.std.specs.Fmt.{digits}
-use Rattle.std.specs.Prelude.{codes, pos}
+use Rattle.std.specs.List.{slice_split}
+use Rattle.std.specs.Prelude.{◌==◌, codes, map, pos}
 use Rattle.mdp_math.specs.Gcd.{gcd, gcd_with_fuel}
 use Rattle.mdp_math.specs.Rational.{of_int, ratio, lt_ℚ}
 use Rattle.mdp_num.specs.Numeral.{parts_of, numeral_of}
 use Rattle.mdp_num.specs.Value.{spelling}
 use Rattle.mdp_rows.specs.declared.rule.RowRule.TheVariants.{Exact, Scaled}
 use Rattle.mdp_rows.specs.declared.dir.Dir.TheVariants.{Max, Min}
-use Rattle.mdp_job.specs.Job.{reach, reward, mean, solve, witness, check, drill, horizon, horizon_reward, policy, chain, discount, discount_check, files_of}
+use Rattle.mdp_job.specs.Job.{Asked, reach, reward, mean, solve, witness, check, drill, horizon, horizon_reward, policy, chain, discount, discount_check, files_of}
 use Rattle.mdp_job.specs.Job.{bounds, bounds_until, bounds_total, bounds_discount, bounds_check}
 use Rattle.mdp_job.specs.Refusal.{no_job, query_init, below}
 use Rattle.mdp_job.specs.Status.{code_of, status_of}
@@ -16,157 +17,196 @@ use Rattle.mdp_job.specs.Text.{text_of}
 use Rattle.mdp_job.specs.Words.{job_of_texts, path_at}
 use Rattle.mdp_job.specs.declared.words_error.WordsError.TheVariants.{Command, Number, Rows, Direction, Objective, Threshold, Drill, Steps, Factor, Digits, Encoding}
 
+-- ---- how words are written below
+
+-- the words of a text, with a blank between two of them
+abbrev words : List ℕ → List (List ℕ)
+words text = slice_split (λ byte. byte == 32) text
+
+-- what a text of words asks for
+abbrev asked : List ℕ → Asked
+asked text = job_of_texts (words text)
+
+-- a text of words, and what it asks for or is refused as
+abbrev Row : Type 0
+Row = List ℕ × Asked
+
+abbrev Asks : List Row → Type 0
+Asks rows = map (λ row. asked row.0) rows ≡ map (λ row. row.1) rows
+
+-- ---- the words of a check, and its files
+
 no_words : job_of_texts [] ≡ Err Command
 no_words = refl
 
-other_command : job_of_texts (codes "visit" ∷ codes "m" ∷ codes "exact" ∷ codes "c" ∷ []) ≡ Err Command
-other_command = refl
-
 -- the number of words is judged before the row rule
-three_words : job_of_texts (codes "check" ∷ codes "m" ∷ codes "EXACT" ∷ []) ≡ Err Number
-three_words = refl
-
-other_rule : job_of_texts (codes "check" ∷ codes "m" ∷ codes "EXACT" ∷ codes "c" ∷ []) ≡ Err Rows
-other_rule = refl
-
-a_check : job_of_texts (codes "check" ∷ codes "m" ∷ codes "scaled" ∷ codes "c" ∷ []) ≡ Ok (check Scaled)
-a_check = refl
+checks : Asks (
+  (codes "visit m exact c", Err Command) ∷
+  (codes "check m EXACT", Err Number) ∷
+  (codes "check m EXACT c", Err Rows) ∷
+  (codes "check m scaled c", Ok (check Scaled)) ∷
+  (codes "discount-check m scaled c", Ok (discount_check Scaled)) ∷
+  (codes "discount-check m exact c d", Err Number) ∷
+  (codes "bounds-check m exact c", Ok (bounds_check Exact)) ∷
+  (codes "bounds-check m EXACT", Err Number) ∷
+  (codes "bounds-check m EXACT c", Err Rows) ∷
+  []
+)
+checks = refl
 
 -- the files of a check are its first and its third word
-model_of_check : path_at (codes "check" ∷ codes "m" ∷ codes "scaled" ∷ codes "c" ∷ []) (files_of (Ok (check Scaled))).model ≡ codes "m"
+model_of_check : path_at (words (codes "check m scaled c")) (files_of (Ok (check Scaled))).model ≡ codes "m"
 model_of_check = refl
 
-cert_of_check : path_at (codes "check" ∷ codes "m" ∷ codes "scaled" ∷ codes "c" ∷ []) (files_of (Ok (check Scaled))).second ≡ codes "c"
+cert_of_check : path_at (words (codes "check m scaled c")) (files_of (Ok (check Scaled))).second ≡ codes "c"
 cert_of_check = refl
 
-no_second : path_at (codes "horizon" ∷ codes "m" ∷ []) None ≡ []
+no_second : path_at (words (codes "horizon m")) None ≡ []
 no_second = refl
+
+-- ---- `solve`: fewer than five words, the row rule, the direction, the objective, and its number of words, in this order
+
+solves : Asks (
+  (codes "solve m EXACT best", Err Number) ∷
+  (codes "solve m EXACT best reach goal", Err Rows) ∷
+  (codes "solve m exact best reach goal", Err Direction) ∷
+  (codes "solve m exact max visit", Err Objective) ∷
+  (codes "solve m exact max reach", Err Number) ∷
+  (codes "solve m scaled max reach goal", Ok (solve Scaled Max (reach (codes "goal")))) ∷
+  -- a reward has a name and a label
+  (codes "solve m exact max reward -", Err Number) ∷
+  (codes "solve m exact max reward - goal", Ok (solve Exact Max (reward (codes "-") (codes "goal")))) ∷
+  -- a mean payoff has a name alone
+  (codes "solve m exact max mean -", Ok (solve Exact Max (mean (codes "-")))) ∷
+  (codes "solve m exact max mean - goal", Err Number) ∷
+  (codes "solve m exact max mean", Err Number) ∷
+  []
+)
+solves = refl
+
+-- a label may have a blank
+blank_label : job_of_texts (codes "solve" ∷ codes "m" ∷ codes "scaled" ∷ codes "max" ∷ codes "reach" ∷ codes "is done" ∷ []) ≡ Ok (solve Scaled Max (reach (codes "is done")))
+blank_label = refl
+
+-- ---- `drill`: numbers of at most 20 digits below 2^64, 1 to 100 layers, at most 2^20 - 2 states in them
+
+drills : Asks (
+  (codes "drill 007 40 100", Ok (drill 7 40 100)) ∷
+  (codes "drill 18446744073709551615 1 1048574", Ok (drill 18446744073709551615 1 1048574)) ∷
+  (codes "drill 18446744073709551616 1 1", Err Drill) ∷
+  (codes "drill 000000000000000000001 1 1", Err Drill) ∷
+  (codes "drill +7 1 1", Err Drill) ∷
+  (codes "drill 7 0 2", Err Drill) ∷
+  (codes "drill 7 101 1", Err Drill) ∷
+  (codes "drill 7 2 524288", Err Drill) ∷
+  (codes "drill 7 2", Err Number) ∷
+  []
+)
+drills = refl
+
+-- ---- `horizon`: the row rule, the direction, then the steps; with the word `reward` in the place of a label, the total of a reward
+
+horizons : Asks (
+  (codes "horizon m exact max - goal 2", Ok (horizon Exact Max None (codes "goal") 2)) ∷
+  (codes "horizon m exact max safe goal 9999999", Ok (horizon Exact Max (Some (codes "safe")) (codes "goal") 9999999)) ∷
+  (codes "horizon m exact best - goal x", Err Direction) ∷
+  (codes "horizon m exact max - goal 00000001", Err Steps) ∷
+  -- an empty word
+  (codes "horizon m exact max - goal ", Err Steps) ∷
+  (codes "horizon m exact max reward cost 30", Ok (horizon_reward Exact Max (codes "cost") 30)) ∷
+  (codes "horizon m exact max reward cost 12345678", Err Steps) ∷
+  []
+)
+horizons = refl
+
+-- ---- `policy`: the number of words, the row rule, then the objective; `chain`: the number of words, then the row rule
+
+policies : Asks (
+  (codes "policy m exact p reach goal", Ok (policy Exact (codes "goal"))) ∷
+  (codes "policy m EXACT p visit", Err Number) ∷
+  (codes "policy m EXACT p visit goal", Err Rows) ∷
+  (codes "policy m exact p reward goal", Err Objective) ∷
+  (codes "chain m scaled p", Ok (chain Scaled)) ∷
+  (codes "chain m EXACT p reach", Err Number) ∷
+  (codes "chain m EXACT p", Err Rows) ∷
+  []
+)
+policies = refl
+
+-- ---- `witness`: the number of words, the row rule, the direction, then the threshold, which may be above 1
+
+witnesses : Asks (
+  (codes "witness m exact min goal 0.50", Ok (witness Exact Min (codes "goal") (ratio (pos 1) 2))) ∷
+  (codes "witness m scaled max goal 2", Ok (witness Scaled Max (codes "goal") (ratio (pos 2) 1))) ∷
+  (codes "witness m exact max goal -1/2", Err Threshold) ∷
+  (codes "witness m exact best goal half", Err Direction) ∷
+  (codes "witness m EXACT best goal", Err Number) ∷
+  []
+)
+unfolding numeral_of parts_of ratio gcd gcd_with_fuel
+witnesses = refl
+
+-- ---- `discount`: the number of words, the row rule, the direction, then the factor, at least 0 and below 1
+
+discounts : Asks (
+  (codes "discount m exact max - 0.50", Ok (discount Exact Max (codes "-") (ratio (pos 1) 2))) ∷
+  (codes "discount m exact max energy 0", Ok (discount Exact Max (codes "energy") (ratio (pos 0) 1))) ∷
+  (codes "discount m exact max - 1", Err Factor) ∷
+  (codes "discount m exact max - -1/2", Err Factor) ∷
+  (codes "discount m exact best - 2", Err Direction) ∷
+  (codes "discount m EXACT best -", Err Number) ∷
+  []
+)
+unfolding numeral_of parts_of lt_ℚ ratio of_int gcd gcd_with_fuel
+discounts = refl
+
+-- ---- `bounds`: six words at least, the row rule, the direction, the objective, its number of words, then the digits, 1 to 30
+
+bounds_asked : Asks (
+  (codes "bounds m exact min reach goal 12", Ok (bounds Exact Min (reach (codes "goal")) 12)) ∷
+  (codes "bounds m scaled max reach goal 30", Ok (bounds Scaled Max (reach (codes "goal")) 30)) ∷
+  (codes "bounds m exact max reach goal 31", Err Digits) ∷
+  (codes "bounds m exact max reach goal 0", Err Digits) ∷
+  (codes "bounds m exact max reach goal 06", Err Digits) ∷
+  (codes "bounds m EXACT best visit goal", Err Number) ∷
+  (codes "bounds m EXACT best visit goal 0", Err Rows) ∷
+  (codes "bounds m exact best visit goal 0", Err Direction) ∷
+  (codes "bounds m exact max visit - goal 0", Err Objective) ∷
+  (codes "bounds m exact max reach goal 0 1", Err Number) ∷
+  -- a reward has a name and a label before the digits, a mean payoff a name alone
+  (codes "bounds m exact max reward - goal 6", Ok (bounds Exact Max (reward (codes "-") (codes "goal")) 6)) ∷
+  (codes "bounds m exact max reward goal 0", Err Number) ∷
+  (codes "bounds m exact max reward - goal 0", Err Digits) ∷
+  (codes "bounds m exact min mean - 6", Ok (bounds Exact Min (mean (codes "-")) 6)) ∷
+  (codes "bounds m exact min mean - goal 0", Err Number) ∷
+  []
+)
+bounds_asked = refl
+
+-- a deadline or a factor comes before the digits, and has its own refusal
+bounds_within : Asks (
+  (codes "bounds m exact max until - goal 100 9", Ok (bounds_until Exact Max None (codes "goal") 100 9)) ∷
+  (codes "bounds m exact max until - x 0", Err Number) ∷
+  (codes "bounds m exact max until - goal x 0", Err Steps) ∷
+  (codes "bounds m exact min total cost 7 9", Ok (bounds_total Exact Min (codes "cost") 7 9)) ∷
+  (codes "bounds m exact max total - 7 0", Err Digits) ∷
+  (codes "bounds m exact max discount - 0.50 9", Ok (bounds_discount Exact Max (codes "-") (ratio (pos 1) 2) 9)) ∷
+  (codes "bounds m exact max discount - 1 0", Err Factor) ∷
+  []
+)
+unfolding numeral_of parts_of lt_ℚ ratio of_int gcd gcd_with_fuel
+bounds_within = refl
+
+-- ---- the texts of refusals, and their statuses
 
 encoding_text : text_of (no_job Encoding) ≡ codes "words encoding" ++ 10 ∷ []
 encoding_text = refl
 
--- `solve`: fewer than five words, the row rule, the direction, the objective, and its number of words, in this order
-four_words : job_of_texts (codes "solve" ∷ codes "m" ∷ codes "EXACT" ∷ codes "best" ∷ []) ≡ Err Number
-four_words = refl
+digits_text : text_of (no_job Digits) ≡ codes "words digits" ++ 10 ∷ []
+digits_text = refl
 
-rows_first : job_of_texts (codes "solve" ∷ codes "m" ∷ codes "EXACT" ∷ codes "best" ∷ codes "reach" ∷ codes "goal" ∷ []) ≡ Err Rows
-rows_first = refl
-
-other_direction : job_of_texts (codes "solve" ∷ codes "m" ∷ codes "exact" ∷ codes "best" ∷ codes "reach" ∷ codes "goal" ∷ []) ≡ Err Direction
-other_direction = refl
-
-other_objective : job_of_texts (codes "solve" ∷ codes "m" ∷ codes "exact" ∷ codes "max" ∷ codes "visit" ∷ []) ≡ Err Objective
-other_objective = refl
-
-no_label : job_of_texts (codes "solve" ∷ codes "m" ∷ codes "exact" ∷ codes "max" ∷ codes "reach" ∷ []) ≡ Err Number
-no_label = refl
-
-a_query : job_of_texts (codes "solve" ∷ codes "m" ∷ codes "scaled" ∷ codes "max" ∷ codes "reach" ∷ codes "is done" ∷ []) ≡ Ok (solve Scaled Max (reach (codes "is done")))
-a_query = refl
-
--- a reward has a name and a label
-no_reward_label : job_of_texts (codes "solve" ∷ codes "m" ∷ codes "exact" ∷ codes "max" ∷ codes "reward" ∷ codes "-" ∷ []) ≡ Err Number
-no_reward_label = refl
-
-a_reward : job_of_texts (codes "solve" ∷ codes "m" ∷ codes "exact" ∷ codes "max" ∷ codes "reward" ∷ codes "-" ∷ codes "goal" ∷ []) ≡ Ok (solve Exact Max (reward (codes "-") (codes "goal")))
-a_reward = refl
-
--- a mean payoff has a name alone
-a_mean : job_of_texts (codes "solve" ∷ codes "m" ∷ codes "exact" ∷ codes "max" ∷ codes "mean" ∷ codes "-" ∷ []) ≡ Ok (solve Exact Max (mean (codes "-")))
-a_mean = refl
-
-mean_words : job_of_texts (codes "solve" ∷ codes "m" ∷ codes "exact" ∷ codes "max" ∷ codes "mean" ∷ codes "-" ∷ codes "goal" ∷ []) ≡ Err Number
-mean_words = refl
-
-no_mean_name : job_of_texts (codes "solve" ∷ codes "m" ∷ codes "exact" ∷ codes "max" ∷ codes "mean" ∷ []) ≡ Err Number
-no_mean_name = refl
-
--- `drill`: numbers of at most 20 digits below 2^64, 1 to 100 layers, at most 2^20 - 2 states in them
-a_drill : job_of_texts (codes "drill" ∷ codes "007" ∷ codes "40" ∷ codes "100" ∷ []) ≡ Ok (drill 7 40 100)
-a_drill = refl
-
-greatest_number : job_of_texts (codes "drill" ∷ codes "18446744073709551615" ∷ codes "1" ∷ codes "1048574" ∷ []) ≡ Ok (drill 18446744073709551615 1 1048574)
-greatest_number = refl
-
-number_past : job_of_texts (codes "drill" ∷ codes "18446744073709551616" ∷ codes "1" ∷ codes "1" ∷ []) ≡ Err Drill
-number_past = refl
-
-number_long : job_of_texts (codes "drill" ∷ codes "000000000000000000001" ∷ codes "1" ∷ codes "1" ∷ []) ≡ Err Drill
-number_long = refl
-
-no_digits : job_of_texts (codes "drill" ∷ codes "+7" ∷ codes "1" ∷ codes "1" ∷ []) ≡ Err Drill
-no_digits = refl
-
-no_layers : job_of_texts (codes "drill" ∷ codes "7" ∷ codes "0" ∷ codes "2" ∷ []) ≡ Err Drill
-no_layers = refl
-
-layers_past : job_of_texts (codes "drill" ∷ codes "7" ∷ codes "101" ∷ codes "1" ∷ []) ≡ Err Drill
-layers_past = refl
-
-width_past : job_of_texts (codes "drill" ∷ codes "7" ∷ codes "2" ∷ codes "524288" ∷ []) ≡ Err Drill
-width_past = refl
-
-drill_words : job_of_texts (codes "drill" ∷ codes "7" ∷ codes "2" ∷ []) ≡ Err Number
-drill_words = refl
-
--- `horizon`: the row rule, the direction, then the steps
-a_horizon : job_of_texts (codes "horizon" ∷ codes "m" ∷ codes "exact" ∷ codes "max" ∷ codes "-" ∷ codes "goal" ∷ codes "2" ∷ []) ≡ Ok (horizon Exact Max None (codes "goal") 2)
-a_horizon = refl
-
-a_way : job_of_texts (codes "horizon" ∷ codes "m" ∷ codes "exact" ∷ codes "max" ∷ codes "safe" ∷ codes "goal" ∷ codes "9999999" ∷ []) ≡ Ok (horizon Exact Max (Some (codes "safe")) (codes "goal") 9999999)
-a_way = refl
-
-direction_first : job_of_texts (codes "horizon" ∷ codes "m" ∷ codes "exact" ∷ codes "best" ∷ codes "-" ∷ codes "goal" ∷ codes "x" ∷ []) ≡ Err Direction
-direction_first = refl
-
-steps_long : job_of_texts (codes "horizon" ∷ codes "m" ∷ codes "exact" ∷ codes "max" ∷ codes "-" ∷ codes "goal" ∷ codes "00000001" ∷ []) ≡ Err Steps
-steps_long = refl
-
-steps_missing : job_of_texts (codes "horizon" ∷ codes "m" ∷ codes "exact" ∷ codes "max" ∷ codes "-" ∷ codes "goal" ∷ codes "" ∷ []) ≡ Err Steps
-steps_missing = refl
-
--- `policy`: the number of words, the row rule, then the objective
-a_policy : job_of_texts (codes "policy" ∷ codes "m" ∷ codes "exact" ∷ codes "p" ∷ codes "reach" ∷ codes "goal" ∷ []) ≡ Ok (policy Exact (codes "goal"))
-a_policy = refl
-
-policy_words : job_of_texts (codes "policy" ∷ codes "m" ∷ codes "EXACT" ∷ codes "p" ∷ codes "visit" ∷ []) ≡ Err Number
-policy_words = refl
-
-policy_rows : job_of_texts (codes "policy" ∷ codes "m" ∷ codes "EXACT" ∷ codes "p" ∷ codes "visit" ∷ codes "goal" ∷ []) ≡ Err Rows
-policy_rows = refl
-
-policy_objective : job_of_texts (codes "policy" ∷ codes "m" ∷ codes "exact" ∷ codes "p" ∷ codes "reward" ∷ codes "goal" ∷ []) ≡ Err Objective
-policy_objective = refl
-
--- `chain`: the number of words, then the row rule
-a_chain : job_of_texts (codes "chain" ∷ codes "m" ∷ codes "scaled" ∷ codes "p" ∷ []) ≡ Ok (chain Scaled)
-a_chain = refl
-
-chain_words : job_of_texts (codes "chain" ∷ codes "m" ∷ codes "EXACT" ∷ codes "p" ∷ codes "reach" ∷ []) ≡ Err Number
-chain_words = refl
-
-chain_rows : job_of_texts (codes "chain" ∷ codes "m" ∷ codes "EXACT" ∷ codes "p" ∷ []) ≡ Err Rows
-chain_rows = refl
-
--- `witness`: the number of words, the row rule, the direction, then the threshold
-a_witness : job_of_texts (codes "witness" ∷ codes "m" ∷ codes "exact" ∷ codes "min" ∷ codes "goal" ∷ codes "0.50" ∷ []) ≡ Ok (witness Exact Min (codes "goal") (ratio (pos 1) 2))
-unfolding numeral_of parts_of ratio gcd gcd_with_fuel
-a_witness = refl
-
--- it may be above 1
-threshold_two : job_of_texts (codes "witness" ∷ codes "m" ∷ codes "scaled" ∷ codes "max" ∷ codes "goal" ∷ codes "2" ∷ []) ≡ Ok (witness Scaled Max (codes "goal") (ratio (pos 2) 1))
-unfolding numeral_of parts_of ratio gcd gcd_with_fuel
-threshold_two = refl
-
-threshold_below_zero : job_of_texts (codes "witness" ∷ codes "m" ∷ codes "exact" ∷ codes "max" ∷ codes "goal" ∷ codes "-1/2" ∷ []) ≡ Err Threshold
-unfolding numeral_of parts_of
-threshold_below_zero = refl
-
-threshold_behind_direction : job_of_texts (codes "witness" ∷ codes "m" ∷ codes "exact" ∷ codes "best" ∷ codes "goal" ∷ codes "half" ∷ []) ≡ Err Direction
-threshold_behind_direction = refl
-
-no_threshold : job_of_texts (codes "witness" ∷ codes "m" ∷ codes "EXACT" ∷ codes "best" ∷ codes "goal" ∷ []) ≡ Err Number
-no_threshold = refl
+digits_status : code_of (status_of (no_job Digits)) ≡ 2
+digits_status = refl
 
 query_init_text : text_of query_init ≡ codes "query init" ++ 10 ∷ []
 query_init_text = refl
@@ -177,132 +217,3 @@ below_text_of_third = refl
 
 below_status : code_of (status_of (below (ratio (pos 1) 3))) ≡ 11
 below_status = refl
-
--- `discount`: the number of words, the row rule, the direction, then the factor
-a_discount : job_of_texts (codes "discount" ∷ codes "m" ∷ codes "exact" ∷ codes "max" ∷ codes "-" ∷ codes "0.50" ∷ []) ≡ Ok (discount Exact Max (codes "-") (ratio (pos 1) 2))
-unfolding numeral_of parts_of lt_ℚ ratio of_int gcd gcd_with_fuel
-a_discount = refl
-
-factor_zero : job_of_texts (codes "discount" ∷ codes "m" ∷ codes "exact" ∷ codes "max" ∷ codes "energy" ∷ codes "0" ∷ []) ≡ Ok (discount Exact Max (codes "energy") (ratio (pos 0) 1))
-unfolding numeral_of parts_of lt_ℚ ratio of_int gcd gcd_with_fuel
-factor_zero = refl
-
-factor_one : job_of_texts (codes "discount" ∷ codes "m" ∷ codes "exact" ∷ codes "max" ∷ codes "-" ∷ codes "1" ∷ []) ≡ Err Factor
-unfolding numeral_of parts_of lt_ℚ ratio of_int gcd gcd_with_fuel
-factor_one = refl
-
-factor_below_zero : job_of_texts (codes "discount" ∷ codes "m" ∷ codes "exact" ∷ codes "max" ∷ codes "-" ∷ codes "-1/2" ∷ []) ≡ Err Factor
-unfolding numeral_of parts_of lt_ℚ ratio of_int gcd gcd_with_fuel
-factor_below_zero = refl
-
-factor_behind_direction : job_of_texts (codes "discount" ∷ codes "m" ∷ codes "exact" ∷ codes "best" ∷ codes "-" ∷ codes "2" ∷ []) ≡ Err Direction
-factor_behind_direction = refl
-
-discount_words : job_of_texts (codes "discount" ∷ codes "m" ∷ codes "EXACT" ∷ codes "best" ∷ codes "-" ∷ []) ≡ Err Number
-discount_words = refl
-
-a_discount_check : job_of_texts (codes "discount-check" ∷ codes "m" ∷ codes "scaled" ∷ codes "c" ∷ []) ≡ Ok (discount_check Scaled)
-a_discount_check = refl
-
-discount_check_words : job_of_texts (codes "discount-check" ∷ codes "m" ∷ codes "exact" ∷ codes "c" ∷ codes "d" ∷ []) ≡ Err Number
-discount_check_words = refl
-
--- `bounds`: six words at least, the row rule, the direction, the objective, its number of words, then the digits
-a_bounds : job_of_texts (codes "bounds" ∷ codes "m" ∷ codes "exact" ∷ codes "min" ∷ codes "reach" ∷ codes "goal" ∷ codes "12" ∷ []) ≡ Ok (bounds Exact Min (reach (codes "goal")) 12)
-a_bounds = refl
-
-most_digits : job_of_texts (codes "bounds" ∷ codes "m" ∷ codes "scaled" ∷ codes "max" ∷ codes "reach" ∷ codes "goal" ∷ codes "30" ∷ []) ≡ Ok (bounds Scaled Max (reach (codes "goal")) 30)
-most_digits = refl
-
-digits_past : job_of_texts (codes "bounds" ∷ codes "m" ∷ codes "exact" ∷ codes "max" ∷ codes "reach" ∷ codes "goal" ∷ codes "31" ∷ []) ≡ Err Digits
-digits_past = refl
-
-no_digit : job_of_texts (codes "bounds" ∷ codes "m" ∷ codes "exact" ∷ codes "max" ∷ codes "reach" ∷ codes "goal" ∷ codes "0" ∷ []) ≡ Err Digits
-no_digit = refl
-
-leading_zero : job_of_texts (codes "bounds" ∷ codes "m" ∷ codes "exact" ∷ codes "max" ∷ codes "reach" ∷ codes "goal" ∷ codes "06" ∷ []) ≡ Err Digits
-leading_zero = refl
-
-bounds_words : job_of_texts (codes "bounds" ∷ codes "m" ∷ codes "EXACT" ∷ codes "best" ∷ codes "visit" ∷ codes "goal" ∷ []) ≡ Err Number
-bounds_words = refl
-
-bounds_rows : job_of_texts (codes "bounds" ∷ codes "m" ∷ codes "EXACT" ∷ codes "best" ∷ codes "visit" ∷ codes "goal" ∷ codes "0" ∷ []) ≡ Err Rows
-bounds_rows = refl
-
-bounds_direction : job_of_texts (codes "bounds" ∷ codes "m" ∷ codes "exact" ∷ codes "best" ∷ codes "visit" ∷ codes "goal" ∷ codes "0" ∷ []) ≡ Err Direction
-bounds_direction = refl
-
-bounds_objective : job_of_texts (codes "bounds" ∷ codes "m" ∷ codes "exact" ∷ codes "max" ∷ codes "visit" ∷ codes "-" ∷ codes "goal" ∷ codes "0" ∷ []) ≡ Err Objective
-bounds_objective = refl
-
--- a reward has a name and a label before the digits, a mean payoff a name alone
-bounds_reward :
-    job_of_texts (codes "bounds" ∷ codes "m" ∷ codes "exact" ∷ codes "max" ∷ codes "reward" ∷ codes "-" ∷ codes "goal" ∷ codes "6" ∷ [])
-    ≡ Ok (bounds Exact Max (reward (codes "-") (codes "goal")) 6)
-bounds_reward = refl
-
-bounds_reward_words : job_of_texts (codes "bounds" ∷ codes "m" ∷ codes "exact" ∷ codes "max" ∷ codes "reward" ∷ codes "goal" ∷ codes "0" ∷ []) ≡ Err Number
-bounds_reward_words = refl
-
-bounds_mean : job_of_texts (codes "bounds" ∷ codes "m" ∷ codes "exact" ∷ codes "min" ∷ codes "mean" ∷ codes "-" ∷ codes "6" ∷ []) ≡ Ok (bounds Exact Min (mean (codes "-")) 6)
-bounds_mean = refl
-
-bounds_mean_words : job_of_texts (codes "bounds" ∷ codes "m" ∷ codes "exact" ∷ codes "min" ∷ codes "mean" ∷ codes "-" ∷ codes "goal" ∷ codes "0" ∷ []) ≡ Err Number
-bounds_mean_words = refl
-
--- the digits come last
-bounds_reward_digits : job_of_texts (codes "bounds" ∷ codes "m" ∷ codes "exact" ∷ codes "max" ∷ codes "reward" ∷ codes "-" ∷ codes "goal" ∷ codes "0" ∷ []) ≡ Err Digits
-bounds_reward_digits = refl
-
-one_word_more : job_of_texts (codes "bounds" ∷ codes "m" ∷ codes "exact" ∷ codes "max" ∷ codes "reach" ∷ codes "goal" ∷ codes "0" ∷ codes "1" ∷ []) ≡ Err Number
-one_word_more = refl
-
--- a deadline or a factor comes before the digits, and has its own refusal
-words_until : job_of_texts (codes "bounds" ∷ codes "m" ∷ codes "exact" ∷ codes "max" ∷ codes "until" ∷ codes "-" ∷ codes "goal" ∷ codes "100" ∷ codes "9" ∷ [])
-    ≡ Ok (bounds_until Exact Max None (codes "goal") 100 9)
-words_until = refl
-
-words_total : job_of_texts (codes "bounds" ∷ codes "m" ∷ codes "exact" ∷ codes "min" ∷ codes "total" ∷ codes "cost" ∷ codes "7" ∷ codes "9" ∷ [])
-    ≡ Ok (bounds_total Exact Min (codes "cost") 7 9)
-words_total = refl
-
-words_discount : job_of_texts (codes "bounds" ∷ codes "m" ∷ codes "exact" ∷ codes "max" ∷ codes "discount" ∷ codes "-" ∷ codes "0.50" ∷ codes "9" ∷ [])
-    ≡ Ok (bounds_discount Exact Max (codes "-") (ratio (pos 1) 2) 9)
-unfolding numeral_of parts_of lt_ℚ ratio of_int gcd gcd_with_fuel
-words_discount = refl
-
-until_number : job_of_texts (codes "bounds" ∷ codes "m" ∷ codes "exact" ∷ codes "max" ∷ codes "until" ∷ codes "-" ∷ codes "x" ∷ codes "0" ∷ []) ≡ Err Number
-until_number = refl
-
-until_steps : job_of_texts (codes "bounds" ∷ codes "m" ∷ codes "exact" ∷ codes "max" ∷ codes "until" ∷ codes "-" ∷ codes "goal" ∷ codes "x" ∷ codes "0" ∷ []) ≡ Err Steps
-until_steps = refl
-
-total_digits : job_of_texts (codes "bounds" ∷ codes "m" ∷ codes "exact" ∷ codes "max" ∷ codes "total" ∷ codes "-" ∷ codes "7" ∷ codes "0" ∷ []) ≡ Err Digits
-total_digits = refl
-
-discount_factor : job_of_texts (codes "bounds" ∷ codes "m" ∷ codes "exact" ∷ codes "max" ∷ codes "discount" ∷ codes "-" ∷ codes "1" ∷ codes "0" ∷ []) ≡ Err Factor
-unfolding numeral_of parts_of lt_ℚ ratio of_int gcd gcd_with_fuel
-discount_factor = refl
-
--- `horizon` with the word `reward` in the place of a label
-a_horizon_reward : job_of_texts (codes "horizon" ∷ codes "m" ∷ codes "exact" ∷ codes "max" ∷ codes "reward" ∷ codes "cost" ∷ codes "30" ∷ []) ≡ Ok (horizon_reward Exact Max (codes "cost") 30)
-a_horizon_reward = refl
-
-horizon_reward_steps : job_of_texts (codes "horizon" ∷ codes "m" ∷ codes "exact" ∷ codes "max" ∷ codes "reward" ∷ codes "cost" ∷ codes "12345678" ∷ []) ≡ Err Steps
-horizon_reward_steps = refl
-
-digits_text : text_of (no_job Digits) ≡ codes "words digits" ++ 10 ∷ []
-digits_text = refl
-
-digits_status : code_of (status_of (no_job Digits)) ≡ 2
-digits_status = refl
-
-a_bounds_check : job_of_texts (codes "bounds-check" ∷ codes "m" ∷ codes "exact" ∷ codes "c" ∷ []) ≡ Ok (bounds_check Exact)
-a_bounds_check = refl
-
--- how many words there are comes before the row rule
-bounds_check_words : job_of_texts (codes "bounds-check" ∷ codes "m" ∷ codes "EXACT" ∷ []) ≡ Err Number
-bounds_check_words = refl
-
-bounds_check_rows : job_of_texts (codes "bounds-check" ∷ codes "m" ∷ codes "EXACT" ∷ codes "c" ∷ []) ≡ Err Rows
-bounds_check_rows = refl

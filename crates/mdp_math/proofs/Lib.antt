@@ -24,4 +24,5 @@ pub mod Solutions
 pub mod Pivots
 pub mod Dense
 pub mod Elimination
+pub mod Tables
 mod Examples

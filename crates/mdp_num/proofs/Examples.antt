@@ -1,7 +1,7 @@
 -- Worked rows, by computation.
 use Rattle.std.proofs.Common.{◌≡◌, ℕ, ◌<◌, ◌-◌, ◌^◌, ◌/◌, ◌%◌, false, not, ◌||◌, cond, eqb, List, [], ◌∷◌, Option, Some, None, Ok, Err, refl, sym, ap, subst, ◌∙◌, arith, lit<}
 use Rattle.std.proofs.Common.{ℤ, pos, negsuc, ◌+ℤ◌, ◌*ℤ◌, unsigned_abs}
-use Rattle.std.specs.Prelude.{codes}
+use Rattle.std.specs.Prelude.{codes, map, replicate}
 use Rattle.std.proofs.lemmas.Fmt.{decimal_digit}
 use Rattle.mdp_math.specs.Gcd.{gcd, gcd_comm, gcd-mod, gcd-zero, gcd-one_right}
 use Rattle.mdp_math.specs.Rational.{ℚ, ratio, of_int, ◌+ℚ◌}
@@ -18,108 +18,56 @@ use Rattle.mdp_num.proofs.Over.{over-whole}
 
 -- ---- numerals
 
-abbrev Gives : List ℕ → ℤ → ℕ → Type 0
-Gives text n d = numeral_of text ≡ Ok (ratio n d)
-
-abbrev IsRefused : List ℕ → NumeralError → Type 0
-IsRefused text error = numeral_of text ≡ Err error
-
--- 1e-05 is 1/100000
-small : Gives (codes "1e-05") (pos 1) 100000
-unfolding numeral_of parts_of
-small = refl
-
 -- 2.50 is 5/2
-places : Gives (codes "2.50") (pos 5) 2
+places : numeral_of (codes "2.50") ≡ Ok (ratio (pos 5) 2)
 unfolding numeral_of parts_of
 places = ap Ok (ratio_same 25 10 5 2 (lit< tt) (lit< tt) refl)
 
-zero_any_exponent : Gives (codes "0e999") (pos 0) 1
-unfolding numeral_of parts_of
-zero_any_exponent = refl
-
-zeros : Gives (codes "000.000") (pos 0) 1
-unfolding numeral_of parts_of
-zeros = refl
-
-leading_zeros : Gives (codes "007") (pos 7) 1
-unfolding numeral_of parts_of
-leading_zeros = refl
-
-greatest : Gives (codes "1e36") (pos (10 ^ 36)) 1
-unfolding numeral_of parts_of
-greatest = refl
-
-least : Gives (codes "1e-36") (pos 1) (10 ^ 36)
-unfolding numeral_of parts_of
-least = refl
-
-trailing_zeros : Gives (codes "1000000000000000000000000000000000000.0") (pos limit) 1
-unfolding numeral_of parts_of
-trailing_zeros = refl
-
-too_great : IsRefused (codes "1e37") Large
-unfolding numeral_of parts_of
-too_great = refl
-
-too_small : IsRefused (codes "1e-37") Large
-unfolding numeral_of parts_of
-too_small = refl
-
-one_more : IsRefused (codes "1000000000000000000000000000000000001") Large
-unfolding numeral_of parts_of
-one_more = refl
-
-zero_den : IsRefused (codes "1/0") ZeroDen
-unfolding numeral_of parts_of
-zero_den = refl
-
--- ZeroDen comes before Large
-zero_den_first : IsRefused (codes "1000000000000000000000000000000000001/0") ZeroDen
-unfolding numeral_of parts_of
-zero_den_first = refl
-
-no_whole : IsRefused (codes ".5") Shape
-unfolding numeral_of parts_of
-no_whole = refl
-
-no_places : IsRefused (codes "5.") Shape
-unfolding numeral_of parts_of
-no_places = refl
-
-blank : IsRefused (codes "1 /2") Shape
-unfolding numeral_of parts_of
-blank = refl
-
-empty : IsRefused [] Shape
-unfolding numeral_of parts_of
-empty = refl
-
--- a great E and a plus
-hundred : Gives (codes "1E+2") (pos 100) 1
-unfolding numeral_of parts_of
-hundred = refl
-
 -- 12.5e-3 is 1/80
-both_powers : Gives (codes "12.5e-3") (pos 1) 80
+both_powers : numeral_of (codes "12.5e-3") ≡ Ok (ratio (pos 1) 80)
 unfolding numeral_of parts_of
 both_powers = ap Ok (ratio_same 125 10000 1 80 (lit< tt) (lit< tt) refl)
 
-minus : IsRefused (codes "-1") Shape
-unfolding numeral_of parts_of
-minus = refl
+-- numerals, and the numerators and denominators of what they mean
+abbrev numerals : List (List ℕ × (ℤ × ℕ))
+numerals =
+    (codes "1e-05", (pos 1, 100000)) ∷
+    (codes "1E+2", (pos 100, 1)) ∷
+    (codes "0e999", (pos 0, 1)) ∷
+    (codes "000.000", (pos 0, 1)) ∷
+    (codes "007", (pos 7, 1)) ∷
+    -- the greatest and the least powers of ten, and the limit with a place that counts nothing
+    (codes "1e36", (pos (10 ^ 36), 1)) ∷
+    (codes "1e-36", (pos 1, 10 ^ 36)) ∷
+    (codes "1000000000000000000000000000000000000.0", (pos limit, 1)) ∷
+    []
 
-no_exponent : IsRefused (codes "1e") Shape
+are_read : map (λ c. numeral_of c.0) numerals ≡ map (λ c. Ok (ratio c.1.0 c.1.1)) numerals
 unfolding numeral_of parts_of
-no_exponent = refl
+are_read = refl
 
-two_signs : IsRefused (codes "1e+-1") Shape
-unfolding numeral_of parts_of
-two_signs = refl
+-- what is refused, and why
+abbrev refused : List (List ℕ × NumeralError)
+refused =
+    (codes "1e37", Large) ∷
+    (codes "1e-37", Large) ∷
+    (codes "1000000000000000000000000000000000001", Large) ∷
+    (codes "1/0", ZeroDen) ∷
+    -- the denominator of 0 is seen before the great number
+    (codes "1000000000000000000000000000000000001/0", ZeroDen) ∷
+    (codes ".5", Shape) ∷
+    (codes "5.", Shape) ∷
+    (codes "1 /2", Shape) ∷
+    ([], Shape) ∷
+    (codes "-1", Shape) ∷
+    (codes "1e", Shape) ∷
+    (codes "1e+-1", Shape) ∷
+    (codes "1.5/2", Shape) ∷
+    []
 
-point_and_slash : IsRefused (codes "1.5/2") Shape
+are_refused : map (λ c. numeral_of c.0) refused ≡ map (λ c. Err c.1) refused
 unfolding numeral_of parts_of
-point_and_slash = refl
+are_refused = refl
 
 -- ---- making a fraction
 
@@ -166,33 +114,13 @@ not_lowest : canonical_of (codes "2/4") ≡ None
 unfolding canonical_of
 not_lowest = ap (λ (g : ℕ). cond (false || not (eqb g 1)) None (Some (ratio (pos 2) 4))) (gcd-mod 2 4 ∙ gcd-mod 4 2 ∙ gcd-zero 2)
 
-minus_zero : canonical_of (codes "-0") ≡ None
+-- not canonical: a sign of 0, a plus, a 0 in front, a denominator of 1 or of 0, a number past 127 bits, and nothing
+not_canonical :
+    map canonical_of (
+      codes "-0" ∷ codes "+1" ∷ codes "01" ∷ codes "1/1" ∷ codes "1/0" ∷ codes "170141183460469231731687303715884105728" ∷ [] ∷ []
+    ) ≡ replicate 7 None
 unfolding canonical_of
-minus_zero = refl
-
-plus_one : canonical_of (codes "+1") ≡ None
-unfolding canonical_of
-plus_one = refl
-
-zero_in_front : canonical_of (codes "01") ≡ None
-unfolding canonical_of
-zero_in_front = refl
-
-over_one : canonical_of (codes "1/1") ≡ None
-unfolding canonical_of
-over_one = refl
-
-over_zero : canonical_of (codes "1/0") ≡ None
-unfolding canonical_of
-over_zero = refl
-
-past : canonical_of (codes "170141183460469231731687303715884105728") ≡ None
-unfolding canonical_of
-past = refl
-
-nothing : canonical_of [] ≡ None
-unfolding canonical_of
-nothing = refl
+not_canonical = refl
 
 -- ---- numbers over other denominators
 

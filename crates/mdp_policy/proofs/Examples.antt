@@ -5,6 +5,7 @@ use Rattle.std.specs.Fmt.{digits}
 use Rattle.mdp_math.specs.Gcd.{gcd, gcd_with_fuel}
 use Rattle.mdp_math.specs.Rational.{ℚ, of_int, ratio, ◌+ℚ◌, ◌*ℚ◌, neg_ℚ, inv_ℚ}
 use Rattle.mdp_math.specs.Written.{written_add, written_mul, written_compare, narrow, narrow_ℚ}
+use Rattle.mdp_math.proofs.Tables.{AreEqual}
 use Rattle.mdp_num.specs.Value.{spelling}
 use Rattle.mdp_num.specs.Canonical.{canonical_of}
 use Rattle.mdp_spec.specs.Mdp.{State, Mdp}
@@ -102,33 +103,20 @@ text : policy_text (1 ∷ 0 ∷ 0 ∷ []) ≡ front ++ codes "choose 2 0\nend\n"
 unfolding policy_text digits
 text = refl
 
-record Read : Type 0 where
-  whole : policy_outcome (front ++ codes "choose 2 0\nend\n") ≡ Ok (1 ∷ 0 ∷ 0 ∷ [])
-  no_end : policy_outcome (front ++ codes "choose 2 0\n") ≡ refused End 6
-  more : policy_outcome (front ++ codes "choose 2 0\nend\n\n") ≡ refused End 7
-  cut : policy_outcome (front ++ codes "choose 2 0\nend") ≡ refused End 6
-  fewer : policy_outcome (front ++ codes "end\n") ≡ refused Shape 5
-  more_states : policy_outcome (front ++ codes "choose 2 0\nchoose 3 0\nend\n") ≡ refused Shape 6
-  order : policy_outcome (front ++ codes "choose 1 0\nend\n") ≡ refused Count 5
-  number : policy_outcome (front ++ codes "choose 2 00\nend\n") ≡ refused Number 5
-  state_first : policy_outcome (front ++ codes "choose x 0\nend\n") ≡ refused Number 5
-  version : policy_outcome (codes "mdp-policy 2\nstates 1\nchoose 0 0\nend\n") ≡ refused Version 1
-  none : policy_outcome (codes "mdp-policy 1\nstates 0\nend\n") ≡ refused Count 2
-  empty : policy_outcome [] ≡ refused End 1
-
-reads : Read
+reads : AreEqual (
+  (policy_outcome (front ++ codes "choose 2 0\nend\n"), Ok (1 ∷ 0 ∷ 0 ∷ [])) ∷ -- whole
+  (policy_outcome (front ++ codes "choose 2 0\n"), refused End 6) ∷ -- no end
+  (policy_outcome (front ++ codes "choose 2 0\nend\n\n"), refused End 7) ∷ -- more
+  (policy_outcome (front ++ codes "choose 2 0\nend"), refused End 6) ∷ -- cut
+  (policy_outcome (front ++ codes "end\n"), refused Shape 5) ∷ -- fewer
+  (policy_outcome (front ++ codes "choose 2 0\nchoose 3 0\nend\n"), refused Shape 6) ∷ -- more states
+  (policy_outcome (front ++ codes "choose 1 0\nend\n"), refused Count 5) ∷ -- order
+  (policy_outcome (front ++ codes "choose 2 00\nend\n"), refused Number 5) ∷ -- number
+  (policy_outcome (front ++ codes "choose x 0\nend\n"), refused Number 5) ∷ -- state first
+  (policy_outcome (codes "mdp-policy 2\nstates 1\nchoose 0 0\nend\n"), refused Version 1) ∷ -- version
+  (policy_outcome (codes "mdp-policy 1\nstates 0\nend\n"), refused Count 2) ∷ -- none
+  (policy_outcome [], refused End 1) ∷ -- empty
+  []
+)
 unfolding policy_outcome choose_at choices_from next_line whole_of whole_at words_behind states_at nothing_behind canonical_of ratio gcd gcd_with_fuel
-reads = record {
-  whole = refl;
-  no_end = refl;
-  more = refl;
-  cut = refl;
-  fewer = refl;
-  more_states = refl;
-  order = refl;
-  number = refl;
-  state_first = refl;
-  version = refl;
-  none = refl;
-  empty = refl;
-}
+reads = refl

@@ -10,6 +10,7 @@ use Rattle.mdp_math.specs.Gcd.{gcd, gcd_with_fuel}
 use Rattle.mdp_math.specs.Rational.{ℚ, of_int, ratio, inv_ℚ, le_ℚ, lt_ℚ, ◌<ℚ◌, ◌+ℚ◌, ◌*ℚ◌}
 use Rattle.mdp_math.specs.Written.{narrow, narrow_ℚ, written_add}
 use Rattle.mdp_math.proofs.Order.{0ℚ}
+use Rattle.mdp_math.proofs.Tables.{AreEqual}
 use Rattle.mdp_num.specs.Numeral.{limit}
 use Rattle.mdp_spec.specs.Mdp.{Entry, Choice, Mdp, choices_at, row_at}
 use Rattle.mdp_spec.specs.Row.{IsRow, IsMdp}
@@ -83,30 +84,27 @@ paid own = draft 1 Exact >>= state own >>= choice minus_half >>= add_entry 0 one
 abbrev earns : ℚ → Mdp
 earns reward = record { names = cost ∷ []; labels = []; states = record { labels = []; choices = record { row = entry 0 one ∷ []; rewards = reward ∷ [] } ∷ [] } ∷ [] }
 
-half-cancels : paid half ≡ Ok (earns 0ℚ)
+sums_paid : AreEqual (
+  (paid half, Ok (earns 0ℚ)) ∷ -- half cancels
+  (paid 0ℚ, Ok (earns minus_half)) ∷ -- half below 0
+  []
+)
 unfolding gcd gcd_with_fuel ratio of_int ◌+ℚ◌ le_ℚ narrow narrow_ℚ written_add
-half-cancels = refl
-
-half-below_0 : paid 0ℚ ≡ Ok (earns minus_half)
-unfolding gcd gcd_with_fuel ratio of_int ◌+ℚ◌ le_ℚ narrow narrow_ℚ written_add
-half-below_0 = refl
+sums_paid = refl
 
 half-replayed : replayed (earns minus_half) ≡ Ok (earns minus_half)
 unfolding gcd gcd_with_fuel ratio of_int ◌+ℚ◌ le_ℚ narrow narrow_ℚ written_add
 half-replayed = refl
 
-below-0 : has_negative (earns minus_half) 0 ≡ true
+negative_sums : AreEqual (
+  (has_negative (earns minus_half) 0, true) ∷ -- below 0
+  (has_negative two 0, false) ∷ -- none below 0
+  -- 0 isn't below 0
+  (has_negative (earns 0ℚ) 0, false) ∷
+  []
+)
 unfolding gcd gcd_with_fuel ratio of_int lt_ℚ
-below-0 = refl
-
-none-below_0 : has_negative two 0 ≡ false
-unfolding gcd gcd_with_fuel ratio of_int lt_ℚ
-none-below_0 = refl
-
--- 0 isn't below 0
-zero-not_below : has_negative (earns 0ℚ) 0 ≡ false
-unfolding of_int lt_ℚ
-zero-not_below = refl
+negative_sums = refl
 
 -- it is a model: its rows are distributions over its two states
 mixed_row : IsRow 2 mixed
@@ -197,87 +195,62 @@ near_third = ratio (pos 333333) 1000000
 abbrev three_of : ℚ → List Entry
 three_of x = entry 0 x ∷ entry 1 x ∷ entry 2 x ∷ []
 
--- 0.333333 three times adds to 0.999999
-thirds-refused : closed_row Exact 0 0 (three_of near_third) ≡ Err (RowSum 0 0)
-unfolding gcd gcd_with_fuel ratio of_int ◌+ℚ◌ le_ℚ
-thirds-refused = refl
-
-thirds-scaled : closed_row Scaled 0 0 (three_of near_third) ≡ Ok (three_of third)
-unfolding gcd gcd_with_fuel ratio of_int inv_ℚ ◌+ℚ◌ ◌*ℚ◌ le_ℚ
-thirds-scaled = refl
-
--- 0.333 three times adds to 0.999, which is near enough, and 0.334 three times to 1.002, which isn't
-thirds-at_bound : closed_row Scaled 0 0 (three_of (ratio (pos 333) 1000)) ≡ Ok (three_of third)
-unfolding gcd gcd_with_fuel ratio of_int inv_ℚ ◌+ℚ◌ ◌*ℚ◌ le_ℚ
-thirds-at_bound = refl
-
-thirds-past_bound : closed_row Scaled 0 0 (three_of (ratio (pos 334) 1000)) ≡ Err (RowSum 0 0)
-unfolding gcd gcd_with_fuel ratio of_int inv_ℚ ◌+ℚ◌ ◌*ℚ◌ le_ℚ
-thirds-past_bound = refl
-
--- no entry at all adds to 0
-none-refused : closed_row Exact 3 1 [] ≡ Err (RowSum 3 1)
-unfolding of_int le_ℚ
-none-refused = refl
-
--- 1/10^36 and 1/(10^36 - 1) have no common denominator within the limit, and don't add to 1
-wide-first : closed_row Exact 0 0 (entry 0 (ratio (pos 1) limit) ∷ entry 1 (ratio (pos 1) 999999999999999999999999999999999999) ∷ []) ≡ Err (RowWide 0 0)
-unfolding gcd gcd_with_fuel ratio of_int ◌+ℚ◌ le_ℚ
-wide-first = refl
-
--- 1/10^36 and 1 have one, but not 1/(10^36 + 1) and 10^36/(10^36 + 1)
-wide-scaled : closed_row Scaled 0 0 (entry 0 (ratio (pos 1) limit) ∷ entry 1 one ∷ []) ≡ Err (RowWide 0 0)
-unfolding gcd gcd_with_fuel ratio of_int inv_ℚ ◌+ℚ◌ ◌*ℚ◌ le_ℚ
-wide-scaled = refl
+closed_rows : AreEqual (
+  -- 0.333333 three times adds to 0.999999
+  (closed_row Exact 0 0 (three_of near_third), Err (RowSum 0 0)) ∷
+  (closed_row Scaled 0 0 (three_of near_third), Ok (three_of third)) ∷ -- thirds scaled
+  -- 0.333 three times adds to 0.999, which is near enough, and 0.334 three times to 1.002, which isn't
+  (closed_row Scaled 0 0 (three_of (ratio (pos 333) 1000)), Ok (three_of third)) ∷
+  (closed_row Scaled 0 0 (three_of (ratio (pos 334) 1000)), Err (RowSum 0 0)) ∷ -- thirds past bound
+  -- no entry at all adds to 0
+  (closed_row Exact 3 1 [], Err (RowSum 3 1)) ∷
+  -- 1/10^36 and 1/(10^36 - 1) have no common denominator within the limit, and don't add to 1
+  (closed_row Exact 0 0 (entry 0 (ratio (pos 1) limit) ∷ entry 1 (ratio (pos 1) 999999999999999999999999999999999999) ∷ []), Err (RowWide 0 0)) ∷
+  -- 1/10^36 and 1 have one, but not 1/(10^36 + 1) and 10^36/(10^36 + 1)
+  (closed_row Scaled 0 0 (entry 0 (ratio (pos 1) limit) ∷ entry 1 one ∷ []), Err (RowWide 0 0)) ∷
+  []
+)
+unfolding gcd gcd_with_fuel ratio of_int ◌+ℚ◌ le_ℚ inv_ℚ ◌*ℚ◌
+closed_rows = refl
 
 -- ---- what the calls refuse
 
--- the second choice of state 1 ends the first, whose row adds to 2/3
-row-refused : (draft 2 Exact >>= state 0ℚ >>= choice 0ℚ >>= add_entry 1 one >>= state 0ℚ >>= choice 0ℚ >>= add_entry 0 two_thirds >>= choice 0ℚ) ≡ Err (RowSum 1 0)
+rows_refused : AreEqual (
+  -- the second choice of state 1 ends the first, whose row adds to 2/3
+  ((draft 2 Exact >>= state 0ℚ >>= choice 0ℚ >>= add_entry 1 one >>= state 0ℚ >>= choice 0ℚ >>= add_entry 0 two_thirds >>= choice 0ℚ), Err (RowSum 1 0)) ∷
+  -- an entry of value 0 stands until its row ends
+  ((draft 2 Exact >>= state 0ℚ >>= choice 0ℚ >>= add_entry 1 0ℚ >>= add_entry 0 third >>= add_entry 1 two_thirds), Err Twice) ∷
+  ((draft 2 Exact >>= state 0ℚ >>= choice 0ℚ >>= add_entry 2 one), Err Target) ∷ -- past target
+  -- 10^36 and 1 add to more than 10^36
+  ((draft 1 Exact >>= state (of_int (pos limit)) >>= choice one), Err Large) ∷
+  -- the common denominator of 1/10^36 and 1/(10^36 - 1) is past width
+  ((draft 1 Exact >>= state (ratio (pos 1) limit) >>= choice (ratio (pos 1) 999999999999999999999999999999999999)), Err Large) ∷
+  -- and so do -10^36 and -1 in magnitude, while -10^36 and 0 stay
+  ((draft 1 Exact >>= state (of_int (neg_ℤ (pos limit))) >>= choice (of_int (neg_ℤ (pos 1)))), Err Large) ∷
+  []
+)
 unfolding gcd gcd_with_fuel ratio of_int ◌+ℚ◌ le_ℚ narrow narrow_ℚ written_add
-row-refused = refl
-
--- an entry of value 0 stands until its row ends
-zero-twice : (draft 2 Exact >>= state 0ℚ >>= choice 0ℚ >>= add_entry 1 0ℚ >>= add_entry 0 third >>= add_entry 1 two_thirds) ≡ Err Twice
-unfolding gcd gcd_with_fuel ratio of_int ◌+ℚ◌ narrow narrow_ℚ written_add
-zero-twice = refl
-
-past-target : (draft 2 Exact >>= state 0ℚ >>= choice 0ℚ >>= add_entry 2 one) ≡ Err Target
-unfolding gcd gcd_with_fuel ratio of_int ◌+ℚ◌ narrow narrow_ℚ written_add
-past-target = refl
-
--- 10^36 and 1 add to more than 10^36
-large-sum : (draft 1 Exact >>= state (of_int (pos limit)) >>= choice one) ≡ Err Large
-unfolding gcd gcd_with_fuel ratio of_int ◌+ℚ◌ narrow narrow_ℚ written_add
-large-sum = refl
-
--- the common denominator of 1/10^36 and 1/(10^36 - 1) is past width
-wide-sum : (draft 1 Exact >>= state (ratio (pos 1) limit) >>= choice (ratio (pos 1) 999999999999999999999999999999999999)) ≡ Err Large
-unfolding gcd gcd_with_fuel ratio of_int ◌+ℚ◌ narrow narrow_ℚ written_add
-wide-sum = refl
-
--- and so do -10^36 and -1 in magnitude, while -10^36 and 0 stay
-large-below : (draft 1 Exact >>= state (of_int (neg_ℤ (pos limit))) >>= choice (of_int (neg_ℤ (pos 1)))) ≡ Err Large
-unfolding gcd gcd_with_fuel ratio of_int ◌+ℚ◌ narrow narrow_ℚ written_add
-large-below = refl
+rows_refused = refl
 
 least_kept : kept_sum (written_add (of_int (neg_ℤ (pos limit))) 0ℚ) ≡ Ok (of_int (neg_ℤ (pos limit)))
 unfolding gcd gcd_with_fuel ratio of_int ◌+ℚ◌ narrow narrow_ℚ written_add
 least_kept = refl
 
-no-choice : (draft 2 Exact >>= state 0ℚ >>= label init >>= state 0ℚ) ≡ Err (NoChoice 0)
-no-choice = refl
-
-no-choice_at_end : (draft 1 Exact >>= state 0ℚ >>= after_finish) ≡ Err (NoChoice 0)
-no-choice_at_end = refl
-
-too-few : (draft 2 Exact >>= state 0ℚ >>= choice 0ℚ >>= add_entry 0 one >>= after_finish) ≡ Err Count
+states_refused : AreEqual (
+  ((draft 2 Exact >>= state 0ℚ >>= label init >>= state 0ℚ), Err (NoChoice 0)) ∷ -- no choice
+  ((draft 1 Exact >>= state 0ℚ >>= choice 0ℚ >>= add_entry 0 one >>= state 0ℚ), Err Count) ∷ -- too many
+  []
+)
 unfolding gcd gcd_with_fuel ratio of_int ◌+ℚ◌ le_ℚ narrow narrow_ℚ written_add
-too-few = refl
+states_refused = refl
 
-too-many : (draft 1 Exact >>= state 0ℚ >>= choice 0ℚ >>= add_entry 0 one >>= state 0ℚ) ≡ Err Count
+ends_refused : AreEqual (
+  ((draft 1 Exact >>= state 0ℚ >>= after_finish), Err (NoChoice 0)) ∷ -- no choice at end
+  ((draft 2 Exact >>= state 0ℚ >>= choice 0ℚ >>= add_entry 0 one >>= after_finish), Err Count) ∷ -- too few
+  []
+)
 unfolding gcd gcd_with_fuel ratio of_int ◌+ℚ◌ le_ℚ narrow narrow_ℚ written_add
-too-many = refl
+ends_refused = refl
 
 -- the same label 64 times is one place, and once more is too often
 abbrev label_often : List ℕ → Draft → Result Draft RowsError
@@ -290,17 +263,20 @@ eight = 1 ∷ 2 ∷ 3 ∷ 4 ∷ 5 ∷ 6 ∷ 7 ∷ 8 ∷ []
 abbrev times_64 : List ℕ
 times_64 = concat (eight ∷ eight ∷ eight ∷ eight ∷ eight ∷ eight ∷ eight ∷ eight ∷ [])
 
-often-label : (draft 1 Exact >>= state 0ℚ >>= label_often times_64) ≡ Ok
-    (record (new_draft 1 Exact (cost ∷ [])) { labels = init ∷ []; state = Some (record { rewards = 0ℚ ∷ []; labels = 0 ∷ []; label_calls = 64; choices = []; choice = None }) })
-often-label = refl
-
-too-often : (draft 1 Exact >>= state 0ℚ >>= label_often times_64 >>= label init) ≡ Err TooMany
-too-often = refl
+labels_often : AreEqual (
+  -- often label
+  ((draft 1 Exact >>= state 0ℚ >>= label_often times_64),
+   Ok (record (new_draft 1 Exact (cost ∷ [])) { labels = init ∷ []; state = Some (record { rewards = 0ℚ ∷ []; labels = 0 ∷ []; label_calls = 64; choices = []; choice = None }) })) ∷
+  ((draft 1 Exact >>= state 0ℚ >>= label_often times_64 >>= label init), Err TooMany) ∷ -- too often
+  []
+)
+labels_often = refl
 
 -- ---- entries given in other orders
 
-descending : in_order (entry 2 third ∷ entry 1 half ∷ entry 0 one ∷ []) ≡ entry 0 one ∷ entry 1 half ∷ entry 2 third ∷ []
-descending = refl
-
-first_last : in_order (entry 1 half ∷ entry 2 third ∷ entry 0 one ∷ []) ≡ entry 0 one ∷ entry 1 half ∷ entry 2 third ∷ []
-first_last = refl
+orders : AreEqual (
+  (in_order (entry 2 third ∷ entry 1 half ∷ entry 0 one ∷ []), entry 0 one ∷ entry 1 half ∷ entry 2 third ∷ []) ∷ -- descending
+  (in_order (entry 1 half ∷ entry 2 third ∷ entry 0 one ∷ []), entry 0 one ∷ entry 1 half ∷ entry 2 third ∷ []) ∷ -- first last
+  []
+)
+orders = refl

@@ -3,6 +3,7 @@ use Rattle.std.proofs.Common.{◌≡◌, ℕ, Bool, true, false, List, [], ◌�
 use Rattle.mdp_math.specs.Gcd.{gcd, gcd_with_fuel}
 use Rattle.mdp_math.specs.Rational.{ℚ, of_int, ratio, ◌+ℚ◌, ◌*ℚ◌}
 use Rattle.mdp_math.specs.Written.{narrow, narrow_ℚ, written_add, written_mul}
+use Rattle.mdp_math.proofs.Tables.{AreEqual}
 use Rattle.mdp_spec.specs.Mdp.{Entry, Choice, State, Mdp, row_at}
 use Rattle.mdp_spec.specs.Row.{row_sum}
 use Rattle.mdp_spec.specs.Labels.{initial_of, marks_of}
@@ -68,28 +69,19 @@ mixes = node (λ c. 1) (λ c e. leaf)
 mixes_fits : Fits three 2 1 mixes 0
 mixes_fits = (refl, ((tt, tt), ((tt, (tt, tt)), tt)))
 
--- half of the mixture goes on, and a third of that meets the goal
-hit-mixes : hit three goals 2 1 mixes 0 ≡ ratio (pos 1) 6
+hits : AreEqual (
+  -- half of the mixture goes on, and a third of that meets the goal
+  (hit three goals 2 1 mixes 0, ratio (pos 1) 6) ∷
+  -- at the goal a tree has met it; at the state that is left nowhere it never does
+  (hit three goals 2 1 mixes 1, one) ∷
+  (hit three goals 1 3 (unfolded three (0 ∷ 0 ∷ 0 ∷ []) 3 2) 2, of_int (pos 0)) ∷ -- hit lost
+  -- a policy that loops never meets the goal, one that goes on meets it with 1/3
+  (hit three goals 1 4 (unfolded three (0 ∷ 0 ∷ 0 ∷ []) 4 0) 0, of_int (pos 0)) ∷
+  (hit three goals 1 2 (unfolded three (1 ∷ 0 ∷ 0 ∷ []) 2 0) 0, third) ∷ -- hit goes on
+  []
+)
 unfolding gcd gcd_with_fuel ratio of_int unit_of hit
-hit-mixes = refl
-
--- at the goal a tree has met it; at the state that is left nowhere it never does
-hit-at_goal : hit three goals 2 1 mixes 1 ≡ one
-unfolding gcd gcd_with_fuel ratio of_int unit_of hit
-hit-at_goal = refl
-
-hit-lost : hit three goals 1 3 (unfolded three (0 ∷ 0 ∷ 0 ∷ []) 3 2) 2 ≡ of_int (pos 0)
-unfolding gcd gcd_with_fuel ratio of_int unit_of hit
-hit-lost = refl
-
--- a policy that loops never meets the goal, one that goes on meets it with 1/3
-hit-loops : hit three goals 1 4 (unfolded three (0 ∷ 0 ∷ 0 ∷ []) 4 0) 0 ≡ of_int (pos 0)
-unfolding gcd gcd_with_fuel ratio of_int unit_of hit
-hit-loops = refl
-
-hit-goes_on : hit three goals 1 2 (unfolded three (1 ∷ 0 ∷ 0 ∷ []) 2 0) 0 ≡ third
-unfolding gcd gcd_with_fuel ratio of_int unit_of hit
-hit-goes_on = refl
+hits = refl
 
 -- what that policy earns in two steps: 1/3 for the first, and 2/3 more where it comes to state 2, with 2/3; nothing from the goal on
 pay-goes_on : pay three 0 goals 1 2 (unfolded three (1 ∷ 0 ∷ 0 ∷ []) 2 0) 0 ≡ ratio (pos 7) 9

@@ -6,6 +6,7 @@ use Rattle.std.specs.List.{All}
 use Rattle.mdp_math.specs.Gcd.{gcd, gcd_with_fuel}
 use Rattle.mdp_math.specs.Rational.{ℚ, of_int, ratio, lt_ℚ, ◌+ℚ◌, ◌*ℚ◌, neg_ℚ, inv_ℚ}
 use Rattle.mdp_math.specs.Written.{written_add, written_mul, written_compare, narrow, narrow_ℚ}
+use Rattle.mdp_math.proofs.Tables.{AreEqual}
 use Rattle.mdp_spec.specs.Mdp.{Entry, State, Mdp, row_at}
 use Rattle.mdp_spec.specs.Tree.{is_marked}
 use Rattle.mdp_spec.proofs.Small.{choice, entry, half, nought, one, state, three_quarters}
@@ -157,33 +158,27 @@ not_closed is = let e : false ≡ true = is.closed.has_next 0 (omega arith) refl
 abbrev of_set : List Bool → Result Visited ℕ
 of_set set = visited five goals best 0 set
 
--- state 0 is visited once, state 1 half of the time, and the goal is reached with 1/2 + 1/4
-all_visits : of_set two_states ≡ Ok (record { visits = one ∷ half ∷ nought ∷ nought ∷ nought ∷ []; value = three_quarters })
+visits_of_sets : AreEqual (
+  -- state 0 is visited once, state 1 half of the time, and the goal is reached with 1/2 + 1/4
+  (of_set two_states, Ok (record { visits = one ∷ half ∷ nought ∷ nought ∷ nought ∷ []; value = three_quarters })) ∷
+  -- without state 1 the half to it is lost, and without the start there are no visits
+  (of_set start_alone, Ok (record { visits = one ∷ nought ∷ nought ∷ nought ∷ nought ∷ []; value = half })) ∷
+  (of_set one_alone, Ok (record { visits = nought ∷ nought ∷ nought ∷ nought ∷ nought ∷ []; value = nought })) ∷ -- no visits
+  []
+)
 unfolding equation_of eliminated divided_rest plus_equation evaluated written_add written_mul narrow narrow_ℚ ◌+ℚ◌ ◌*ℚ◌ neg_ℚ inv_ℚ ratio of_int gcd gcd_with_fuel
-all_visits = refl
-
--- without state 1 the half to it is lost, and without the start there are no visits
-start_visits : of_set start_alone ≡ Ok (record { visits = one ∷ nought ∷ nought ∷ nought ∷ nought ∷ []; value = half })
-unfolding equation_of eliminated divided_rest plus_equation evaluated written_add written_mul narrow narrow_ℚ ◌+ℚ◌ ◌*ℚ◌ neg_ℚ inv_ℚ ratio of_int gcd gcd_with_fuel
-start_visits = refl
-
-no_visits : of_set one_alone ≡ Ok (record { visits = nought ∷ nought ∷ nought ∷ nought ∷ nought ∷ []; value = nought })
-unfolding equation_of eliminated divided_rest plus_equation evaluated written_add written_mul narrow narrow_ℚ ◌+ℚ◌ ◌*ℚ◌ neg_ℚ inv_ℚ ratio of_int gcd gcd_with_fuel
-no_visits = refl
+visits_of_sets = refl
 
 -- ---- a set without a state; one that isn't in it, or is past the last, changes nothing
 
-without_one : without two_states 1 ≡ start_alone
-without_one = refl
-
-without_start : without two_states 0 ≡ one_alone
-without_start = refl
-
-without_other : without two_states 2 ≡ two_states
-without_other = refl
-
-without_past : without two_states 5 ≡ two_states
-without_past = refl
+sets_without : AreEqual (
+  (without two_states 1, start_alone) ∷ -- without one
+  (without two_states 0, one_alone) ∷ -- without start
+  (without two_states 2, two_states) ∷ -- without other
+  (without two_states 5, two_states) ∷ -- without past
+  []
+)
+sets_without = refl
 
 -- the set in which a state is tried has more, where a lesser state goes later: here 0
 tried_more : trial_set two_states one_alone 1 ≡ start_alone

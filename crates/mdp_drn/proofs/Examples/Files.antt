@@ -1,6 +1,6 @@
 -- Worked files.
-use Rattle.std.proofs.Common.{ℕ, List, [], ◌∷◌, ◌++◌, pos, negsuc, refl}
-use Rattle.std.specs.Prelude.{codes}
+use Rattle.std.proofs.Common.{◌≡◌, ℕ, List, [], ◌∷◌, ◌++◌, Err, pos, negsuc, refl}
+use Rattle.std.specs.Prelude.{codes, map}
 use Rattle.mdp_math.specs.Gcd.{gcd, gcd_with_fuel}
 use Rattle.mdp_math.specs.Rational.{ℚ, of_int, ratio, neg_ℚ, ◌+ℚ◌, ◌*ℚ◌, inv_ℚ, le_ℚ}
 use Rattle.mdp_math.specs.Written.{narrow, narrow_ℚ, written_add}
@@ -8,13 +8,14 @@ use Rattle.mdp_num.specs.Numeral.{numeral_of, parts_of}
 use Rattle.mdp_spec.specs.Mdp.{Mdp, State, Choice, Entry}
 use Rattle.mdp_spec.proofs.Small.{entry, half, labelled, number}
 use Rattle.mdp_rows.specs.declared.rule.RowRule.TheVariants.{Exact, Scaled}
+use Rattle.mdp_drn.specs.declared.error.DrnKind.{DrnKind}
 use Rattle.mdp_drn.specs.declared.error.DrnKind.TheVariants as kind
 use Rattle.mdp_drn.specs.Values.{value_of, reward_of, rewards_in}
 use Rattle.mdp_drn.specs.Header.{names_in}
 use Rattle.mdp_drn.specs.Header as header
 use Rattle.mdp_drn.specs.Labels.{labels_in}
 use Rattle.mdp_drn.specs.Body.{state_read, action_read, entry_read, model_line}
-use Rattle.mdp_drn.specs.Reading.{at_line, at_end, Refused, Reads}
+use Rattle.mdp_drn.specs.Reading.{at_line, at_end, outcome, Refused, Reads}
 
 -- ---- what is computed below
 
@@ -29,6 +30,12 @@ numbers = tt
 unfoldable computed : Unit {0}
 unfolding lines numbers
 computed = tt
+
+-- ---- how refusals are written below
+
+-- a text, and the rule that it breaks, with the line
+abbrev AreRefused : List (List ℕ × (DrnKind × ℕ)) → Type 0
+AreRefused rows = map (λ row. outcome Exact row.0) rows ≡ map (λ row. Err (record { kind = row.1.0; line = row.1.1 })) rows
 
 -- ---- how models are written below
 
@@ -52,11 +59,6 @@ thirds value =
     codes "@type: MDP\n@parameters\n\n@reward_models\n\n@nr_states\n4\n@model\nstate 0 init\naction a\n1 : " ++ value
     ++ codes "\n2 : 0.333333\n3 : 0.333333\nstate 1 goal\naction a\n1 : 1\nstate 2\naction a\n2 : 1\nstate 3\naction a\n3 : 1\n"
 
--- they don't add to 1
-exact_sum : Refused (thirds (codes "0.333333")) Exact kind.RowSum 10
-unfolding computed
-exact_sum = refl
-
 -- they differ from 1 by no more than 1/1000, and each is a third of their sum
 scaled_thirds : Reads (thirds (codes "0.333333")) Scaled (record {
   names = dash;
@@ -68,14 +70,19 @@ scaled_thirds : Reads (thirds (codes "0.333333")) Scaled (record {
 unfolding computed
 scaled_thirds = refl
 
-exact_other : Refused (thirds (codes "0.3")) Exact kind.RowSum 10
-unfolding computed
-exact_other = refl
-
 -- 0.966666 is too far from 1
 scaled_other : Refused (thirds (codes "0.3")) Scaled kind.RowSum 10
 unfolding computed
 scaled_other = refl
+
+sums_refused : AreRefused (
+  -- they don't add to 1
+  (thirds (codes "0.333333"), (kind.RowSum, 10)) ∷
+  (thirds (codes "0.3"), (kind.RowSum, 10)) ∷ -- exact other
+  []
+)
+unfolding computed
+sums_refused = refl
 
 -- ---- a file of 22 lines
 
@@ -101,35 +108,20 @@ three : Reads (file (codes "3")) Exact (record {
 unfolding computed
 three = refl
 
-one_more_announced : Refused (file (codes "4")) Exact kind.Count 23
+files_refused : AreRefused (
+  (file (codes "4"), (kind.Count, 23)) ∷ -- one more announced
+  (file (codes "1048577"), (kind.TooMany, 7)) ∷ -- too many announced
+  -- cut inside of line 15, behind line 13 and behind line 15
+  (front ++ codes "3" ++ middle ++ codes "1 : 1/", (kind.Number, 15)) ∷
+  (front ++ codes "3" ++ middle ++ codes "1", (kind.Shape, 15)) ∷ -- cut behind a target
+  -- what stands before line 14 is one choice, which is closed
+  (front ++ codes "3" ++ codes "\n@nr_choices\n4\n@model\nstate 0 init\naction a\n0 : 1\n", (kind.Count, 14)) ∷
+  (front ++ codes "3" ++ middle ++ codes "1 : 1/3\n", (kind.RowSum, 14)) ∷ -- cut in a row
+  ([], (kind.End, 1)) ∷ -- empty
+  []
+)
 unfolding computed
-one_more_announced = refl
-
-too_many_announced : Refused (file (codes "1048577")) Exact kind.TooMany 7
-unfolding computed
-too_many_announced = refl
-
--- cut inside of line 15, behind line 13 and behind line 15
-cut_in_a_fraction : Refused (front ++ codes "3" ++ middle ++ codes "1 : 1/") Exact kind.Number 15
-unfolding computed
-cut_in_a_fraction = refl
-
-cut_behind_a_target : Refused (front ++ codes "3" ++ middle ++ codes "1") Exact kind.Shape 15
-unfolding computed
-cut_behind_a_target = refl
-
--- what stands before line 14 is one choice, which is closed
-cut_before_the_second_choice : Refused (front ++ codes "3" ++ codes "\n@nr_choices\n4\n@model\nstate 0 init\naction a\n0 : 1\n") Exact kind.Count 14
-unfolding computed
-cut_before_the_second_choice = refl
-
-cut_in_a_row : Refused (front ++ codes "3" ++ middle ++ codes "1 : 1/3\n") Exact kind.RowSum 14
-unfolding computed
-cut_in_a_row = refl
-
-empty : Refused [] Exact kind.End 1
-unfolding computed
-empty = refl
+files_refused = refl
 
 -- ---- layouts
 
@@ -155,70 +147,40 @@ rich = refl
 abbrev two : List ℕ → List ℕ
 two rest = codes "@type: MDP\n@nr_states\n2\n@model\n" ++ rest
 
--- a row is closed before the next state or action is judged, and a state before the next state
-row_before_shape : Refused (two (codes "state 0\naction\n0 : 1/2\nstate 1x\n")) Exact kind.RowSum 6
+in_order : AreRefused (
+  -- a row is closed before the next state or action is judged, and a state before the next state
+  (two (codes "state 0\naction\n0 : 1/2\nstate 1x\n"), (kind.RowSum, 6)) ∷
+  (two (codes "state 0\nstate 0\n"), (kind.NoChoice, 5)) ∷ -- choice before order
+  -- but `state1` and `state -1` are no such lines
+  (two (codes "state 0\naction\n0 : 1/2\nstate -1\n"), (kind.Shape, 8)) ∷
+  -- a zero counts as an entry
+  (two (codes "state 0\naction\n0 : 0\n0 : 1\n"), (kind.Twice, 8)) ∷
+  -- the target is judged before the value
+  (two (codes "state 0\naction\n99 : abc\n"), (kind.Target, 7)) ∷
+  -- a bracket of an action runs from its last `[`
+  (two (codes "state 0\naction [1]]\n"), (kind.Number, 6)) ∷
+  -- the bracket of a state ends at its first `]`
+  (two (codes "state 0 [1]] \"\n"), (kind.Label, 5)) ∷
+  (two (codes "state 0\naction\n0 : -0.5\n"), (kind.Negative, 7)) ∷ -- negative
+  (two (codes "state 1\n"), (kind.Order, 5)) ∷ -- order
+  []
+)
 unfolding computed
-row_before_shape = refl
-
-choice_before_order : Refused (two (codes "state 0\nstate 0\n")) Exact kind.NoChoice 5
-unfolding computed
-choice_before_order = refl
-
--- but `state1` and `state -1` are no such lines
-not_closed : Refused (two (codes "state 0\naction\n0 : 1/2\nstate -1\n")) Exact kind.Shape 8
-unfolding computed
-not_closed = refl
-
--- a zero counts as an entry
-twice_zero : Refused (two (codes "state 0\naction\n0 : 0\n0 : 1\n")) Exact kind.Twice 8
-unfolding computed
-twice_zero = refl
-
--- the target is judged before the value
-target_first : Refused (two (codes "state 0\naction\n99 : abc\n")) Exact kind.Target 7
-unfolding computed
-target_first = refl
-
--- a bracket of an action runs from its last `[`
-last_bracket : Refused (two (codes "state 0\naction [1]]\n")) Exact kind.Number 6
-unfolding computed
-last_bracket = refl
-
--- the bracket of a state ends at its first `]`
-first_bracket : Refused (two (codes "state 0 [1]] \"\n")) Exact kind.Label 5
-unfolding computed
-first_bracket = refl
-
-negative : Refused (two (codes "state 0\naction\n0 : -0.5\n")) Exact kind.Negative 7
-unfolding computed
-negative = refl
-
-order : Refused (two (codes "state 1\n")) Exact kind.Order 5
-unfolding computed
-order = refl
+in_order = refl
 
 -- ---- headers
 
-twice_typed : Refused (codes "@type: MDP\n@type: MDP\n") Exact kind.Header 2
+headers_refused : AreRefused (
+  (codes "@type: MDP\n@type: MDP\n", (kind.Header, 2)) ∷ -- twice typed
+  (codes "@type: CTMC\n", (kind.Type, 1)) ∷ -- other type
+  (codes "@type: MDP\n@model\n", (kind.Header, 2)) ∷ -- early model
+  (codes "@placeholders\n", (kind.Parametric, 1)) ∷ -- placeholders
+  -- a comment and a blank line count as lines
+  (codes "// none\n\n@types\n", (kind.Header, 3)) ∷
+  []
+)
 unfolding computed
-twice_typed = refl
-
-other_type : Refused (codes "@type: CTMC\n") Exact kind.Type 1
-unfolding computed
-other_type = refl
-
-early_model : Refused (codes "@type: MDP\n@model\n") Exact kind.Header 2
-unfolding computed
-early_model = refl
-
-placeholders : Refused (codes "@placeholders\n") Exact kind.Parametric 1
-unfolding computed
-placeholders = refl
-
--- a comment and a blank line count as lines
-numbered : Refused (codes "// none\n\n@types\n") Exact kind.Header 3
-unfolding computed
-numbered = refl
+headers_refused = refl
 
 -- ---- Markov chains
 
@@ -234,23 +196,17 @@ one_choice_each : Reads (chain (codes "state 0 init\naction\n0 : 1/2\n1 : 1/2\ns
 unfolding computed
 one_choice_each = refl
 
-second_choice : Refused (chain (codes "state 0\naction\n0 : 1\nstate 1\naction\n1 : 1\naction\n1 : 1\n")) Exact kind.Choices 11
+chains_refused : AreRefused (
+  (chain (codes "state 0\naction\n0 : 1\nstate 1\naction\n1 : 1\naction\n1 : 1\n"), (kind.Choices, 11)) ∷ -- second choice
+  -- the row before is closed first, and the bracket is judged first
+  (chain (codes "state 0\naction\n0 : 1/2\naction\n"), (kind.RowSum, 6)) ∷
+  (chain (codes "state 0\naction\n0 : 1\naction [x]\n"), (kind.Number, 8)) ∷ -- bracket before choices
+  -- too large a sum comes behind it
+  (chain (codes "state 0 [1e36]\naction\n0 : 1\naction [1]\n"), (kind.Choices, 8)) ∷
+  []
+)
 unfolding computed
-second_choice = refl
-
--- the row before is closed first, and the bracket is judged first
-row_before_choices : Refused (chain (codes "state 0\naction\n0 : 1/2\naction\n")) Exact kind.RowSum 6
-unfolding computed
-row_before_choices = refl
-
-bracket_before_choices : Refused (chain (codes "state 0\naction\n0 : 1\naction [x]\n")) Exact kind.Number 8
-unfolding computed
-bracket_before_choices = refl
-
--- too large a sum comes behind it
-choices_before_large : Refused (chain (codes "state 0 [1e36]\naction\n0 : 1\naction [1]\n")) Exact kind.Choices 8
-unfolding computed
-choices_before_large = refl
+chains_refused = refl
 
 -- ---- rewards of either sign
 
@@ -268,26 +224,6 @@ minus_zero : Reads (with_reward (codes "-0")) Exact (loop_of (number 0))
 unfolding computed
 minus_zero = refl
 
-two_signs : Refused (with_reward (codes "--1")) Exact kind.Number 6
-unfolding computed
-two_signs = refl
-
-blank_behind_sign : Refused (with_reward (codes "- 1")) Exact kind.Number 6
-unfolding computed
-blank_behind_sign = refl
-
-sign_alone : Refused (with_reward (codes "-")) Exact kind.Number 6
-unfolding computed
-sign_alone = refl
-
-plus : Refused (with_reward (codes "+1")) Exact kind.Number 6
-unfolding computed
-plus = refl
-
-large_below : Refused (with_reward (codes "-1e37")) Exact kind.Large 6
-unfolding computed
-large_below = refl
-
 least : Reads (with_reward (codes "-1e36")) Exact (loop_of (of_int (negsuc 999999999999999999999999999999999999)))
 unfolding computed
 least = refl
@@ -301,10 +237,15 @@ both_signs : Reads (codes "@type: MDP\n@reward_models\ncost gain\n@nr_states\n1\
 unfolding computed
 both_signs = refl
 
-large_sum : Refused (two (codes "state 0 [1e36]\naction [1]\n")) Exact kind.Large 6
+rewards_refused : AreRefused (
+  (with_reward (codes "--1"), (kind.Number, 6)) ∷ -- two signs
+  (with_reward (codes "- 1"), (kind.Number, 6)) ∷ -- blank behind sign
+  (with_reward (codes "-"), (kind.Number, 6)) ∷ -- sign alone
+  (with_reward (codes "+1"), (kind.Number, 6)) ∷ -- plus
+  (with_reward (codes "-1e37"), (kind.Large, 6)) ∷ -- large below
+  (two (codes "state 0 [1e36]\naction [1]\n"), (kind.Large, 6)) ∷ -- large sum
+  (two (codes "state 0 [-1e36]\naction [-1]\n"), (kind.Large, 6)) ∷ -- large sum below
+  []
+)
 unfolding computed
-large_sum = refl
-
-large_sum_below : Refused (two (codes "state 0 [-1e36]\naction [-1]\n")) Exact kind.Large 6
-unfolding computed
-large_sum_below = refl
+rewards_refused = refl
