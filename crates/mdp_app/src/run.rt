@@ -2,8 +2,7 @@ ghost use Rattle.std.specs.Fn.{FnReturnsAt};
 ghost use Rattle.std.specs.Prelude.{◌≡◌};
 ghost use Rattle.mdp_job.specs.Words.{job_of, model_path, second_path};
 ghost use Rattle.mdp_command.specs.Opened.{OnFiles};
-ghost use Rattle.mdp_command.specs.Said.{said};
-ghost use Rattle.mdp_command.specs.Streams.{input, output};
+ghost use Rattle.mdp_command.specs.Prelude.{said, input, output};
 ghost use Rattle.mdp_app.specs.Run.{IsAnswered, IsWorkDone, IsComplete, HasRun};
 ghost use Rattle.mdp_app.specs.Decided.{IsDecided};
 

@@ -1,8 +1,7 @@
 ghost use Rattle.std.specs.Fn.{FnReturnsAt};
 ghost use Rattle.std.specs.Prelude.{◌≡◌};
 ghost use Rattle.mdp_command.specs.Opened.{OnFiles};
-ghost use Rattle.mdp_command.specs.Said.{said};
-ghost use Rattle.mdp_command.specs.Streams.{input, output};
+ghost use Rattle.mdp_command.specs.Prelude.{said, input, output};
 ghost use Rattle.mdp_checker.specs.Run.{IsDecided, IsAnswered, IsYesTrue, IsComplete, HasRun};
 ghost use Rattle.mdp_checker.specs.Words.{asked, model_path, cert_path};
 

@@ -1,10 +1,7 @@
 ghost use Rattle.std.specs.Prelude.{◌≡◌, ◌⊎◌, false, Err, OnOk, IsTrue};
-ghost use Rattle.std.specs.Io.KnownBytes.{IsAtEnd};
-ghost use Rattle.mdp_job.specs.Refusal.{no_memory, read_certificate};
+ghost use Rattle.mdp_command.specs.Prelude.{IsAtEnd, no_memory, read_certificate, said, input};
 ghost use Rattle.mdp_command.specs.Accepted.{exact};
 ghost use Rattle.mdp_command.specs.Read.{IsReadAs, is_of_model};
-ghost use Rattle.mdp_command.specs.Said.{said};
-ghost use Rattle.mdp_command.specs.Streams.{input};
 ghost use Rattle.mdp_checking.specs.Due.{said_to_text, IsCheckDue};
 ghost use Rattle.mdp_checking.specs.Kinds.{as_answer, discounted, between, discounted_between, checker_for};
 ghost use Rattle.mdp_checking.specs.Shown.{IsCheckRead};

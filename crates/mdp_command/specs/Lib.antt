@@ -1,3 +1,4 @@
+pub mod Prelude
 pub mod Said
 pub mod Streams
 pub mod Files

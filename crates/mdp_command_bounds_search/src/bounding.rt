@@ -1,7 +1,7 @@
 ghost use Rattle.std.specs.Prelude.{◌≡◌, ◌⊎◌, Some, None, OnOk, IfOk, IfErr};
 ghost use Rattle.mdp_bounds_text.specs.Cert.{plain_body};
-ghost use Rattle.mdp_job.specs.Job.{plain_query, reach, reward, mean};
-ghost use Rattle.mdp_job.specs.Refusal.{plain_refusal, no_memory};
+ghost use Rattle.mdp_command.specs.Prelude.{plain_query, no_memory, plain_refusal};
+ghost use Rattle.mdp_job.specs.Job.{reach, reward, mean};
 ghost use Rattle.mdp_command_bounds_search.specs.Certificate.{AreBounds};
 ghost use Rattle.mdp_command_bounds_search.specs.Due.{claim_of, fault_of};
 

@@ -1,11 +1,8 @@
 ghost use Rattle.std.specs.Prelude.{◌≡◌, ◌⊎◌, Ok, Err, OnOk, IfOk};
-ghost use Rattle.std.specs.Io.KnownBytes.{IsAtEnd};
+ghost use Rattle.mdp_command.specs.Prelude.{IsAtEnd, no_memory, said, input};
 ghost use Rattle.mdp_discount_rules.specs.Rules.{IsFactor};
 ghost use Rattle.mdp_discount_bounds.specs.Plain.{plain};
 ghost use Rattle.mdp_discount_bounds_text.specs.Spelling.{text_of};
-ghost use Rattle.mdp_job.specs.Refusal.{no_memory};
-ghost use Rattle.mdp_command.specs.Said.{said};
-ghost use Rattle.mdp_command.specs.Streams.{input};
 ghost use Rattle.mdp_command_bounds_search.specs.DiscountDue.{IsDiscountBoundsDue};
 ghost use Rattle.mdp_command_bounds_search.specs.DiscountShown.{IsDiscountBoundsPrinted, IsDiscountBoundsRead};
 

@@ -1,11 +1,7 @@
 ghost use Rattle.std.specs.Prelude.{◌≡◌, ◌⊎◌, Ok, Err, OnOk, IfOk};
-ghost use Rattle.std.specs.Io.KnownBytes.{IsAtEnd};
+ghost use Rattle.mdp_command.specs.Prelude.{IsAtEnd, plain_query, no_memory, said, input};
 ghost use Rattle.mdp_bounds_text.specs.Plain.{plain};
 ghost use Rattle.mdp_bounds_text.specs.Spelling.{text_of};
-ghost use Rattle.mdp_job.specs.Job.{plain_query};
-ghost use Rattle.mdp_job.specs.Refusal.{no_memory};
-ghost use Rattle.mdp_command.specs.Said.{said};
-ghost use Rattle.mdp_command.specs.Streams.{input};
 ghost use Rattle.mdp_command_bounds_search.specs.Due.{claim_of, IsBoundsDue};
 ghost use Rattle.mdp_command_bounds_search.specs.Shown.{IsBoundsPrinted, IsBoundsRead};
 

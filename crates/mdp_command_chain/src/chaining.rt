@@ -1,11 +1,8 @@
 ghost use Rattle.std.specs.Prelude.{◌≡◌, ◌⊎◌, ◌==◌, length, false, Ok, Err, OnOk, IsTrue};
-ghost use Rattle.std.specs.Io.KnownBytes.{IsAtEnd};
+ghost use Rattle.mdp_command.specs.Prelude.{IsAtEnd, no_memory, read_certificate, said, input};
 ghost use Rattle.mdp_spec.specs.Mdp.{states_of};
 ghost use Rattle.mdp_drn.specs.Writing.{text_of};
-ghost use Rattle.mdp_job.specs.Refusal.{no_memory, read_certificate};
 ghost use Rattle.mdp_command.specs.Read.{IsReadAs, is_of_model};
-ghost use Rattle.mdp_command.specs.Said.{said};
-ghost use Rattle.mdp_command.specs.Streams.{input};
 ghost use Rattle.mdp_command_chain.specs.Due.{choices_in, IsSizeDue, IsTextDue, IsChainDue};
 ghost use Rattle.mdp_command_chain.specs.Shown.{IsChainRead};
 

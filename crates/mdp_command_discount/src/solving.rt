@@ -1,12 +1,9 @@
 ghost use Rattle.std.specs.Prelude.{◌≡◌, ◌⊎◌, ◌<◌, Err, OnOk, IfOk};
-ghost use Rattle.std.specs.Io.KnownBytes.{IsAtEnd};
+ghost use Rattle.mdp_command.specs.Prelude.{IsAtEnd, no_memory, said, input};
 ghost use Rattle.mdp_discount_rules.specs.Cert.{IsInitNarrow, Fits};
 ghost use Rattle.mdp_discount_rules.specs.Plain.{plain};
 ghost use Rattle.mdp_discount_rules.specs.Rules.{IsFactor};
 ghost use Rattle.mdp_discount_text.specs.Spelling.{text_of};
-ghost use Rattle.mdp_job.specs.Refusal.{no_memory};
-ghost use Rattle.mdp_command.specs.Said.{said};
-ghost use Rattle.mdp_command.specs.Streams.{input};
 ghost use Rattle.mdp_command_discount.specs.Due.{IsDiscountDue};
 ghost use Rattle.mdp_command_discount.specs.Shown.{IsDiscountPrinted, IsDiscountRead};
 

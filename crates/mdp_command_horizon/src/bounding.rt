@@ -1,13 +1,10 @@
 ghost use Rattle.std.specs.Prelude.{◌≡◌, ◌⊎◌, ◌<◌, ◌≤◌, length, Ok, Err, OnOk};
-ghost use Rattle.std.specs.Io.KnownBytes.{IsAtEnd};
+ghost use Rattle.mdp_command.specs.Prelude.{IsAtEnd, no_memory, said, input};
 ghost use Rattle.mdp_spec.specs.Mdp.{states_of};
 ghost use Rattle.mdp_horizon.specs.Objective.Objective.{until as until_objective, total as total_objective};
 ghost use Rattle.mdp_horizon_bounds.specs.Answer.{plain};
 ghost use Rattle.mdp_horizon_bounds.specs.Spelling.{plain_claim, bounds_text};
 ghost use Rattle.mdp_horizon_bounds.specs.Spelling.PlainClaim.{until as until_claim, total as total_claim};
-ghost use Rattle.mdp_job.specs.Refusal.{no_memory};
-ghost use Rattle.mdp_command.specs.Said.{said};
-ghost use Rattle.mdp_command.specs.Streams.{input};
 ghost use Rattle.mdp_command_horizon.specs.BoundsDue.{said_of_bounds, IsUntilBoundsDue, IsTotalBoundsDue};
 ghost use Rattle.mdp_command_horizon.specs.BoundsShown.{AreUntilBoundsRead, AreTotalBoundsRead};
 ghost use Rattle.mdp_command_horizon.specs.Code.{names_of};

@@ -1,9 +1,6 @@
 ghost use Rattle.std.specs.Prelude.{◌≡◌, ◌⊎◌, ◌<◌, length, Ok, Err, OnOk, IfOk};
-ghost use Rattle.std.specs.Io.KnownBytes.{IsAtEnd};
+ghost use Rattle.mdp_command.specs.Prelude.{IsAtEnd, no_memory, said, input};
 ghost use Rattle.mdp_spec.specs.Mdp.{states_of};
-ghost use Rattle.mdp_job.specs.Refusal.{no_memory};
-ghost use Rattle.mdp_command.specs.Said.{said};
-ghost use Rattle.mdp_command.specs.Streams.{input};
 ghost use Rattle.mdp_horizon.specs.Answer.{plain};
 ghost use Rattle.mdp_horizon.specs.Spelling.{total_text};
 ghost use Rattle.mdp_command_horizon.specs.Due.{said_of_name, IsHorizonRewardDue};

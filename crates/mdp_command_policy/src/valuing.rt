@@ -1,11 +1,8 @@
 ghost use Rattle.std.specs.Prelude.{◌≡◌, ◌⊎◌, ◌==◌, length, true, false, Err, OnOk, IfOk, IsTrue};
-ghost use Rattle.std.specs.Io.KnownBytes.{IsAtEnd};
+ghost use Rattle.mdp_command.specs.Prelude.{IsAtEnd, no_memory, read_certificate, said, input};
 ghost use Rattle.mdp_spec.specs.Mdp.{states_of};
 ghost use Rattle.mdp_spec.specs.Tree.{IsPolicy};
-ghost use Rattle.mdp_job.specs.Refusal.{no_memory, read_certificate};
 ghost use Rattle.mdp_command.specs.Read.{IsReadAs, is_of_model};
-ghost use Rattle.mdp_command.specs.Said.{said};
-ghost use Rattle.mdp_command.specs.Streams.{input};
 ghost use Rattle.mdp_policy.specs.Answer.{plain};
 ghost use Rattle.mdp_policy.specs.Spelling.{value_text};
 ghost use Rattle.mdp_policy.specs.Text.{policy_outcome};

@@ -1,7 +1,6 @@
 ghost use Rattle.std.specs.Prelude.{◌≡◌, ◌⊎◌, Err, IfOk};
 ghost use Rattle.mdp_spec.specs.Labels.{place_of};
-ghost use Rattle.mdp_job.specs.Refusal.{no_memory};
-ghost use Rattle.mdp_command.specs.Said.{said};
+ghost use Rattle.mdp_command.specs.Prelude.{no_memory, said};
 ghost use Rattle.mdp_command_solve.specs.Due.{IsReachDue};
 ghost use Rattle.mdp_command_solve.specs.Solved.{IsReachPrinted};
 

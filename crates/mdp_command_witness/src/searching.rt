@@ -1,10 +1,7 @@
 ghost use Rattle.std.specs.Prelude.{◌≡◌, ◌⊎◌, Some, Err, OnOk, IfOk, pos};
-ghost use Rattle.std.specs.Io.KnownBytes.{IsAtEnd};
+ghost use Rattle.mdp_command.specs.Prelude.{IsAtEnd, no_memory, plain_refusal, said, input};
 ghost use Rattle.mdp_math.specs.Rational.{◌≤ℚ◌, of_int};
 ghost use Rattle.mdp_spec.specs.Labels.{place_of, initial_of};
-ghost use Rattle.mdp_job.specs.Refusal.{no_memory, plain_refusal};
-ghost use Rattle.mdp_command.specs.Said.{said};
-ghost use Rattle.mdp_command.specs.Streams.{input};
 ghost use Rattle.mdp_command_witness.specs.Code.{refusal_of};
 ghost use Rattle.mdp_command_witness.specs.Due.{IsEndDue, IsWitnessDue};
 ghost use Rattle.mdp_command_witness.specs.Shown.{IsWitnessPrinted, IsWitnessRead};
