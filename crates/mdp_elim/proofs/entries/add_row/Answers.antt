@@ -1,4 +1,4 @@
-use Rattle.std.proofs.Common.{◌≡◌, ◌∙◌, [], List, Some, None, Err, sym, ap, subst, rules, arith}
+use Rattle.std.proofs.Common.{◌≡◌, ◌∙◌, List, Some, Err, sym, ap, subst, rules, arith}
 use Rattle.std.proofs.lemmas.List.{with_items_is}
 use Rattle.mdp_spec.specs.Mdp.{Entry}
 use Rattle.mdp_wide.specs.declared.unfinished.Unfinished.TheVariants as error
