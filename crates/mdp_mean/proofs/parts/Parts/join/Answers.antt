@@ -1,4 +1,4 @@
-use Rattle.std.proofs.Common.{◌≡◌, ◌∙◌, Ok, Err, length, sym, ap, subst}
+use Rattle.std.proofs.Common.{◌∙◌, Err, length, sym, ap, subst}
 use Rattle.mdp_wide.specs.Errors.{SolveError}
 use Rattle.mdp_policy_iteration.specs.Queries.{Solves}
 use Rattle.mdp_mean.specs.Code.{shown}
