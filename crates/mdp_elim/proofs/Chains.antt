@@ -1,8 +1,8 @@
 -- The equations of a chain, made from its rows one after the other.
 use Rattle.std.proofs.Common.{◌≡◌, ℕ, zero, suc, ◌+◌, ◌<◌, Bool, true, false, List, [], ◌∷◌, ◌++◌, length}
-use Rattle.std.proofs.Common.{drop, get_or, refl, sym, ◌∙◌, ap, ap₂, subst, arith, if◌then◌else◌, Result, Ok, Err, pos}
+use Rattle.std.proofs.Common.{drop, get_or, refl, sym, ◌∙◌, ap, ap₂, subst, arith, if◌then◌else◌, Result, Ok, Err}
 use Rattle.std.proofs.lemmas.List.{append_assoc}
-use Rattle.mdp_math.specs.Rational.{ℚ, of_int}
+use Rattle.mdp_math.specs.Rational.{ℚ}
 use Rattle.mdp_spec.specs.Mdp.{Entry}
 use Rattle.mdp_spec.specs.Row.{entries}
 use Rattle.mdp_elim.specs.Equation.{Equation, Values, no_equation}
@@ -41,15 +41,11 @@ module _ (active : List Bool) (ts : List ℕ) (ps : List ℚ) (i t : ℕ) (p : �
       (next ∙ ap (λ (b : Bool). if b then this ∷ inner active (entries (drop (i + 1) ts) (drop (i + 1) ps)) else inner active (entries (drop (i + 1) ts) (drop (i + 1) ps))) a)
 
 module _ (rows : List (List Entry)) (active : List Bool) (columns : List (List ℚ)) (s : ℕ) where
-  pub equation_of-inactive : (e : Equation) (es : List Entry) (a b : ℚ) → is_active active s ≡ false → e ≡ (let x : Equation = record { entries = es; first = a; second = b } in x)
-      → es ≡ [] → a ≡ of_int (pos 0) → b ≡ of_int (pos 0) → e ≡ equation_of rows active columns s
+  pub equation_of-inactive : (e : Equation) → is_active active s ≡ false → e ≡ no_equation → e ≡ equation_of rows active columns s
   unfolding equation_of
-  equation_of-inactive e es a b off is p q r =
-      is ∙ ap₃_ p q r ∙ sym (ap (λ (c : Bool). let x : Equation
+  equation_of-inactive e off is =
+      is ∙ sym (ap (λ (c : Bool). let x : Equation
       = record { entries = inner active (row_of rows s); first = column_at columns 0 s; second = column_at columns 1 s } in if c then x else no_equation) off)
-    where
-      ap₃_ : es ≡ [] → a ≡ of_int (pos 0) → b ≡ of_int (pos 0) → (let x : Equation = record { entries = es; first = a; second = b } in x) ≡ no_equation
-      ap₃_ p q r = rw (p, q, r) refl
 
   pub equation_of-active : (e : Equation) (es : List Entry) (a b : ℚ) → is_active active s ≡ true → e ≡ (let x : Equation = record { entries = es; first = a; second = b } in x)
       → es ≡ inner active (row_of rows s) → a ≡ column_at columns 0 s → b ≡ column_at columns 1 s → e ≡ equation_of rows active columns s

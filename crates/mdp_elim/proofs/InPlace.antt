@@ -1,8 +1,9 @@
 -- An addition to an entry that a row has is made in place.
 use Rattle.std.proofs.Common.{◌≡◌, ℕ, zero, suc, ◌<◌, ◌≤◌, Bool, true, false, List, [], ◌∷◌, length, get_or}
-use Rattle.std.proofs.Common.{refl, sym, ◌∙◌, ap, subst, arith, eqb, nat_le, Option, Some, None, if◌then◌else◌, pos}
+use Rattle.std.proofs.Common.{refl, sym, ◌∙◌, ap, subst, arith, ◌==◌, eqb, nat_le, Option, Some, None, if◌then◌else◌, pos}
 use Rattle.std.proofs.Math.ListN.{set}
 use Rattle.std.proofs.lemmas.Bool.{le-leb}
+use Rattle.std.proofs.lemmas.Bool.Decides.{nat_tests}
 use Rattle.mdp_math.specs.Rational.{ℚ, of_int}
 use Rattle.mdp_math.specs.Written.{written_add, written_mul, ◌>>=◌}
 use Rattle.mdp_spec.specs.Mdp.{Entry}
@@ -84,3 +85,8 @@ module _ (w : ℚ) (x : Entry) (source left row : List Entry) (all : Option (Lis
 -- behind the first one
 pub between-rest : (high : ℕ) (x : Entry) (rest left : List Entry) → left ≡ x ∷ rest → Between 0 high left → Between 0 high rest
 between-rest high x rest left is h = let k = rw is at h in between-lower (suc x.target) 0 high rest (omega arith) k.2
+
+-- nothing is left
+pub none-left : (left : List Entry) (b : Bool) → b ≡ (length left == 0) → b ≡ true → left ≡ []
+none-left [] b is none = refl
+none-left (x ∷ left) b is none = let e : length (x ∷ left) ≡ 0 = grind (arith, nat_tests) in absurd (omega arith)

@@ -6,7 +6,10 @@ use Rattle.std.proofs.lemmas.List.{get_or-set_same, get_or-set_other, length-set
 use Rattle.std.proofs.lemmas.List.Elements.{Contains-append_left, Contains-append_right, Contains-append_cases}
 use Rattle.smallvec.specs.SmallVec.{SmallVec}
 use Rattle.mdp_elim.specs.Predecessors.{no_states, IsListed, HoldSmaller, ListsMore, ListsTargets, at}
+use Rattle.mdp_spec.specs.Mdp.{Entry}
+use Rattle.mdp_elim.specs.Entries.{Between}
 use Rattle.mdp_elim.specs.Equation.{Equation}
+use Rattle.mdp_elim.specs.Kept.{LeadToSmaller}
 
 same_or : (t u : ℕ) (b : Bool) → eqb u t ≡ b → (u ≡ t) ⊎ (u ≢ t)
 same_or t u true e = inl (let k : u ≡ t = grind arith in k)
@@ -25,6 +28,19 @@ empty-more [] new h e zero = e
 empty-more [] new h e (suc v) = refl
 empty-more (l ∷ lists) new h e zero = h 0
 empty-more (l ∷ lists) new h e (suc v) = empty-more lists new (λ u. h (suc u)) e v
+
+-- no equation has an entry
+abbrev pub HaveNoEntries : List Equation → Type 0
+HaveNoEntries equations = (s : ℕ) → Equation.entries (at equations s) ≡ []
+
+pub no_entries-more : (equations : List Equation) (new : Equation) → HaveNoEntries equations → new.entries ≡ [] → HaveNoEntries (equations ++ new ∷ [])
+no_entries-more [] new h e zero = e
+no_entries-more [] new h e (suc s) = refl
+no_entries-more (x ∷ equations) new h e zero = h 0
+no_entries-more (x ∷ equations) new h e (suc s) = no_entries-more equations new (λ u. h (suc u)) e s
+
+pub no_entries-down : (equations : List Equation) → HaveNoEntries equations → LeadToSmaller equations
+no_entries-down equations h s l = subst (λ (row : List Entry). Between 0 s row) (sym (h s)) tt
 
 pub empty-smaller : (lists : List (SmallVec ℕ)) → AreEmpty lists → HoldSmaller lists
 empty-smaller lists h v t k = absurd (let c : Contains [] t = subst (λ (xs : List ℕ). Contains xs t) (h v) k in let l = c.1 in omega (arith, l))

@@ -1,6 +1,6 @@
 -- Two rows that are merged: an addition at a target leaves the entries to smaller states as they are.
 use Rattle.std.specs.Option.{unwrap_or, option_to_list, IsSome}
-use Rattle.std.proofs.Math.Seq.{drop-cons}
+use Rattle.std.proofs.Math.Seq.{drop-cons, drop-length}
 use Rattle.std.proofs.Common.{◌≡◌, ◌≢◌, ℕ, zero, suc, ◌+◌, ◌<◌, ◌≤◌, Bool, true, false, List, [], ◌∷◌, ◌++◌, length, take}
 use Rattle.std.proofs.Common.{drop, get_or, refl, sym, ◌∙◌, ap, ap₂, subst, arith, eqb, nat_le, Option, Some, None, if◌then◌else◌, pos}
 use Rattle.std.proofs.lemmas.List.{append_assoc}
@@ -252,6 +252,12 @@ module _ (w : ℚ) (source : List Entry) (j : ℕ) (x : Entry) (rest sums : List
   merged-more high behind new k h =
       let m : suc j ≡ j + 1 = omega arith in
       so_far_this ∙ h high (drop (suc j) source) (subst (Between 0 high) this (between-drop 0 high j source k)) ∙ ap (λ (i : ℕ). after new (plus_row w (drop i source) behind)) m
+
+-- behind the last entry
+pub merged-all : (w : ℚ) (source : List Entry) (j : ℕ) (rest sums new : List Entry) (all : Option (List Entry)) → j ≡ length source
+    → all ≡ after sums (plus_row w (drop j source) rest) → new ≡ sums ++ rest → all ≡ Some new
+merged-all w source j rest sums new all n h e =
+    h ∙ ap (λ (xs : List Entry). after sums (plus_row w xs rest)) (ap (λ i. drop i source) n ∙ drop-length source) ∙ ap Some (sym e)
 
 -- ---- the entry to s can only be the last one
 

@@ -63,7 +63,7 @@ pub(crate) fn equation_at<R: RowsOf>(
     ensures { IfOk result (λ e. e ≡ equation_of (R.rows rows.now) active.now (map (λ c. c.items) columns.now) s) }
 {
     if !active.at(s) {
-        return Ok(Equation::new(Vec::new(alloc), Frac::whole(0), Frac::whole(0)));
+        return Ok(Equation::none(alloc));
     }
     let terms = inner_terms(alloc, rows.row(s), active)?;
     Ok(Equation::new(terms, constant(columns, 0, s), constant(columns, 1, s)))

@@ -236,9 +236,10 @@ pub(crate) fn add_row(
     ensures wide { result ≡ Err (Unfinished.TooWide tt) → plus_row times.now source.now row.old.items ≡ None }
 {
     let left = add_known(row, times, source)?;
-    if !left.is_empty() {
-        *row = merged(alloc, row, times, left)?;
+    if left.is_empty() {
+        return Ok(());
     }
+    *row = merged(alloc, row, times, left)?;
     Ok(())
 }
 

@@ -3,6 +3,7 @@ ghost use Rattle.std.specs.List.{All};
 ghost use Rattle.mdp_math.specs.Rational.{of_int};
 ghost use Rattle.mdp_spec.specs.Written.{written_sum};
 ghost use Rattle.mdp_elim.specs.Entries.{Between, entry_to};
+ghost use Rattle.mdp_elim.specs.Equation.{no_equation};
 ghost use Rattle.mdp_elim.specs.Elimination.{divided, divided_rest, plus_equation, substituted, evaluated};
 
 use crate::entries::{Term, add_row, divide_row, row_sum, take_entry};
@@ -84,6 +85,13 @@ impl Equation {
             first,
             second,
         }
+    }
+
+    /// The equation of a value that is 0.
+    pub(crate) fn none(alloc: Global) -> Equation
+        ensures { result ≡ no_equation }
+    {
+        Equation::new(Vec::new(alloc), Frac::whole(0), Frac::whole(0))
     }
 
     /// The entries.

@@ -181,7 +181,7 @@ fn no_equations(alloc: Global, states: u32) -> Result<Vec<Equation>, AllocError>
 {
     let mut equations = Vec::with_capacity(alloc, states as usize)?;
     for _ in 0..states {
-        equations.push(Equation::new(Vec::new(alloc), Frac::whole(0), Frac::whole(0)))?;
+        equations.push(Equation::none(alloc))?;
     }
     Ok(equations)
 }

@@ -1,5 +1,5 @@
 -- The two columns of a policy, as the code hands them over and gets them back.
-use Rattle.std.proofs.Common.{◌≡◌, ℕ, zero, suc, ◌<◌, Bool, List, [], ◌∷◌, ◌++◌, length, map, get_or, Result, Ok, pos, refl, sym, ◌∙◌, ap, ap₂, subst, arith}
+use Rattle.std.proofs.Common.{◌≡◌, ℕ, zero, suc, ◌<◌, Bool, List, [], ◌∷◌, length, map, get_or, Result, Ok, pos, refl, sym, ◌∙◌, ap, ap₂, subst, arith}
 use Rattle.std.specs.List.{All, range_with_len}
 use Rattle.std.specs.Prelude.{slice_index, slice_index_or}
 use Rattle.std.proofs.lemmas.List.Elements.{All-nil, All-cons}
@@ -22,9 +22,6 @@ use Rattle.mdp_gain.specs.declared.referred.Referred.{Referred}
 use Rattle.mdp_gain.proofs.Given.{count-is, is-component, row-of-policy}
 
 module _ {V : Type 0} (f : V → List ℚ) where
-  pub two_pushed : (C A B : List V) (x y : V) → C ≡ A ++ y ∷ [] → A ≡ B ++ x ∷ [] → B ≡ [] → C ≡ x ∷ y ∷ []
-  two_pushed C A B x y c a b = c ∙ ap (λ (vs : List V). vs ++ y ∷ []) (a ∙ ap (λ (vs : List V). vs ++ x ∷ []) b)
-
   pub each_long : (vs : List V) (n : ℕ) → ((k : ℕ) → k < length (map f vs) → length (slice_index_or (map f vs) k []) ≡ n) → All (λ v. length (f v) ≡ n) vs
   each_long [] n h = All-nil (λ v. length (f v) ≡ n)
   each_long (v ∷ vs) n h = All-cons (λ v. length (f v) ≡ n) v vs (h 0 (omega arith)) (each_long vs n (λ k l. h (suc k) (omega arith)))

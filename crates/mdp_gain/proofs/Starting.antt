@@ -50,7 +50,8 @@ module _ (x : EndComponent) (ends : AreEndsOf x.model.now x.ends.now) where
       → IsFirst (is_state (component_in x)) (count (component_in x)) t
   first_state t is = subst (λ (t : ℕ). IsFirst (is_state p) (count p) t) (sym is) least-first
 
-  module _ (t : ℕ) (is : t ≡ unwrap_or (find (is_state (component_in x)) (range_with_len 0 (count (component_in x)))) 0) (target : List Bool) (target_is : target ≡ map (λ s. s == t) (range_with_len 0 (count p))) where
+  module _ (t : ℕ) (is : t ≡ unwrap_or (find (is_state (component_in x)) (range_with_len 0 (count (component_in x)))) 0)
+      (target : List Bool) (target_is : target ≡ map (λ s. s == t) (range_with_len 0 (count p))) where
     f : IsFirst (is_state p) (count p) t
     f = first_state t is
 

@@ -160,7 +160,8 @@ impl Chosen<'_> {
         requires below { All (λ k. k < length parts.now) parts.now }
         ensures count { IfOk result (λ marks. length marks ≡ count (component_in self.now.component)) }
         ensures left { IfOk result (λ marks. (k : ℕ) → k < count (component_in self.now.component) → marked marks k
-            ≡ has_flag (map (leaves (component_in self.now.component) self.now.policy.now parts.now) (range_with_len 0 (count (component_in self.now.component)))) parts.now (count (component_in self.now.component)) k) }
+            ≡ has_flag (map (leaves (component_in self.now.component) self.now.policy.now parts.now) (range_with_len 0 (count (component_in self.now.component))))
+            parts.now (count (component_in self.now.component)) k) }
     {
         let flags = self.leaving(alloc, parts)?;
         flagged_parts(alloc, &flags, parts)

@@ -144,9 +144,9 @@ impl Referred<'_> {
         ensures columns { IfOk result (λ sides. map (λ x. x.items) sides.items ≡ columns_of (component_in self.now.chosen.component) self.now.chosen.policy.now) }
         ensures count { IfOk result (λ sides. length sides.items ≡ 2) }
     {
-        let mut sides = Vec::new(alloc);
-        sides.push(self.chosen.rewards(alloc)?)?;
-        sides.push(self.chosen.component.steps(alloc)?)?;
+        let rewards = self.chosen.rewards(alloc)?;
+        let steps = self.chosen.component.steps(alloc)?;
+        let sides = vec![in alloc; rewards, steps]?;
         Ok(sides)
     }
 

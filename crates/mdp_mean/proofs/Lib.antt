@@ -4,6 +4,7 @@ mod Putting
 mod BiasOf
 mod ExcessOf
 mod Meets
+mod FoundParts
 mod Adding
 mod Passing
 pub mod OneEnd

@@ -73,7 +73,8 @@ middle = refl
 
 -- 1/10^20 and 1/3^60 add up past width: in the evaluation where the policy takes that choice, in the comparison where it takes the other
 abbrev past_width : Mdp
-past_width = model_of (labelled (0 ∷ []) (choice (entry 1 (number 1) ∷ []) ∷ choice (entry 1 (ratio (pos 1) (10 ^ 20)) ∷ entry 2 (ratio (pos 1) (3 ^ 60)) ∷ []) ∷ []) ∷ stays 1 (1 ∷ []) ∷ stays 2 (1 ∷ []) ∷ [])
+past_width = model_of (labelled (0 ∷ []) (choice (entry 1 (number 1) ∷ []) ∷ choice (entry 1 (ratio (pos 1) (10 ^ 20)) ∷ entry 2 (ratio (pos 1) (3 ^ 60)) ∷ []) ∷ [])
+    ∷ stays 1 (1 ∷ []) ∷ stays 2 (1 ∷ []) ∷ [])
 
 abbrev goals : List Bool
 goals = false ∷ true ∷ true ∷ []

@@ -14,6 +14,7 @@ use mdp_policy_iteration::{NodePlace, RoundError, at_node, outer_sum};
 use mdp_rows::{Marks, Model, PolicyRows};
 use mdp_wide::Kind;
 use std::alloc::{AllocError, Global};
+use std::slice;
 
 /// A policy, its goals, and the marks of the states from which it can reach one.
 #[derive(Clone, Copy)]
@@ -128,21 +129,19 @@ impl Evaluation<'_, '_> {
         self,
         alloc: Global,
         active: &Marks,
-        constants: Vec<Frac>,
+        constants: &Vec<Frac>,
     ) -> Result<Vec<Frac>, RoundError>
         requires leaves { (ranks : List ℕ) × Leaves (policy_rows self.model.now self.policy.now) active.now ranks }
         requires active { active.now ≡ under_way self.model.now self.goals.now self.marks.now }
-        requires constants { length constants.items ≡ states_of self.model.now }
-        ensures value { Answers (λ x. x.items ∷ []) result (eliminated self.entry.model.now self.entry.goals.now self.entry.marks.now self.entry.policy.now constants.items) }
+        requires constants { length constants.now.items ≡ states_of self.model.now }
+        ensures value { Answers (λ x. x.items ∷ []) result (eliminated self.entry.model.now self.entry.goals.now self.entry.marks.now self.entry.policy.now constants.now.items) }
         ensures count { IfOk result (λ x. length x.items ≡ states_of self.entry.model.now) }
     {
         let rows = PolicyRows {
             model: self.model,
             policy: self.policy,
         };
-        let mut columns = Vec::new(alloc);
-        columns.push(constants)?;
-        match solve_leaving(alloc, &rows, active, &columns) {
+        match solve_leaving(alloc, &rows, active, slice::from_ref(constants)) {
             Ok(solutions) => {
                 let mut solutions = solutions;
                 Ok(solutions.remove(0))
@@ -163,7 +162,7 @@ impl Evaluation<'_, '_> {
     {
         let active = self.under_way(alloc)?;
         let constants = self.constants(alloc, &active)?;
-        let solution = self.solution(alloc, &active, constants)?;
+        let solution = self.solution(alloc, &active, &constants)?;
         Ok(self.values_by(alloc, &solution)?)
     }
 }

@@ -9,9 +9,9 @@ ghost use Rattle.mdp_policy_iteration.specs.Ends.{Ends, EndsWithLast};
 
 use crate::comparison::take_changes;
 use crate::evaluation::Evaluation;
-use crate::loops::{Loops, all_nodes};
+use crate::loops::Loops;
 use crate::readers::readers_of;
-use crate::round::round_of;
+use crate::round::{first_round, round_of};
 use crate::scope::Scope;
 use crate::shortest_path::ShortestPath;
 use crate::solution::{PathError, Solution, path_error};
@@ -87,11 +87,7 @@ fn last_of<P: ShortestPath>(
 {
     solution_law();
     let loops = Loops::new(alloc, problem.count())?;
-    let scope = Scope {
-        affected: all_nodes(alloc, problem.count())?,
-        compared: all_nodes(alloc, problem.count())?,
-    };
-    match round_of(alloc, problem, &start, &loops, evaluation, &scope) {
+    match first_round(alloc, problem, &start, &loops, evaluation) {
         Ok(changes) if changes.is_empty() => Ok(Last {
             round: 0,
             policy: start,

@@ -235,11 +235,15 @@ impl Evaluation {
     pub(crate) fn new(alloc: Global, nodes: u32) -> Result<Evaluation, Memory>
         ensures { IfOk result (λ e. HasRoom nodes e) }
     {
+        let active = Marks::empty(alloc, nodes)?;
+        let constants = vec![in alloc; Frac::whole(0); nodes as usize]?;
+        let values = vec![in alloc; Frac::whole(0); nodes as usize]?;
+        let kept = Kept::new(alloc, nodes)?;
         Ok(Evaluation {
-            active: Marks::empty(alloc, nodes)?,
-            constants: vec![in alloc; Frac::whole(0); nodes as usize]?,
-            kept: Kept::new(alloc, nodes)?,
-            values: vec![in alloc; Frac::whole(0); nodes as usize]?,
+            active,
+            constants,
+            kept,
+            values,
         })
     }
 

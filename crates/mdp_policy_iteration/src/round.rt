@@ -4,7 +4,7 @@ ghost use Rattle.mdp_policy_iteration.specs.Problem.{IsPolicy, count};
 ghost use Rattle.mdp_policy_iteration.specs.Values.{CanLeave};
 ghost use Rattle.mdp_policy_iteration.specs.Path.{improvements, path_step};
 ghost use Rattle.mdp_policy_iteration.specs.Changes.{Ascend, IsChangeOf, spread, nodes_of};
-ghost use Rattle.mdp_policy_iteration.specs.Evaluated.{IsEvaluated, CanServe};
+ghost use Rattle.mdp_policy_iteration.specs.Evaluated.{HasRoom, IsEvaluated, CanServe};
 ghost use Rattle.mdp_policy_iteration.specs.Scope.{NoneImprovesElsewhere};
 ghost use Rattle.mdp_policy_iteration.specs.Ends.{Makes};
 
@@ -44,4 +44,26 @@ pub(crate) fn round_of<P: ShortestPath>(
 {
     evaluation.evaluate(alloc, problem, policy, loops, &scope.affected)?;
     improvements(alloc, problem, evaluation.values(), &scope.compared)
+}
+
+/// The first round of a path: the policy is evaluated at all nodes, and choices are compared at all.
+pub(crate) fn first_round<P: ShortestPath>(
+    alloc: Global,
+    problem: &P,
+    policy: &[u32],
+    loops: &Loops,
+    evaluation: &mut Evaluation,
+) -> Result<Vec<Pred>, RoundError>
+    requires policy { IsPolicy (P.problem problem.now) policy.now }
+    requires leaves { CanLeave (P.problem problem.now) policy.now }
+    requires loops { length loops.now.nodes.items ≡ count (P.problem problem.now) }
+    requires room { HasRoom (count (P.problem problem.now)) evaluation.old }
+    ensures evaluated { OnOk result (IsEvaluated (P.problem problem.now) policy.now evaluation.new) }
+    ensures changes { IfOk result (λ changes. improvements (P.problem problem.now) evaluation.new.values ≡ Ok (spread (count (P.problem problem.now)) changes.items)) }
+    ensures each { IfOk result (λ changes. All (IsChangeOf (P.problem problem.now)) changes.items) }
+    ensures ascend { IfOk result (λ changes. Ascend (nodes_of changes.items)) }
+    ensures step { (n : ℕ) → Makes n policy.now evaluation.new.values result (path_step (P.problem problem.now) (record { number = n; policy = policy.now })) }
+{
+    let scope = Scope::all(alloc, problem.count())?;
+    round_of(alloc, problem, policy, loops, evaluation, &scope)
 }

@@ -1,11 +1,12 @@
 ghost use Rattle.std.specs.Prelude.{◌≡◌, false, replicate, IfOk, OnOk};
-ghost use Rattle.std.specs.List.{All};
+ghost use Rattle.std.specs.List.{All, range_with_len};
 ghost use Rattle.mdp_policy_iteration.specs.Problem.{IsPolicy, count};
 ghost use Rattle.mdp_policy_iteration.specs.ReadersOf.{AreReaders};
 ghost use Rattle.mdp_policy_iteration.specs.Changes.{IsChangeOf};
 ghost use Rattle.mdp_policy_iteration.specs.Scope.{IsScope};
 
 use crate::comparison::changed_nodes;
+use crate::loops::all_nodes;
 use crate::shortest_path::ShortestPath;
 use mdp_readers::Readers;
 use mdp_rows::{Marks, Pred};
@@ -28,6 +29,16 @@ impl Model for Scope {
 }
 
 impl Scope {
+    /// The scope of a first policy: all nodes.
+    pub(crate) fn all(alloc: Global, count: u32) -> Result<Scope, AllocError>
+        ensures affected { IfOk result (λ scope. scope.affected ≡ range_with_len 0 count) }
+        ensures compared { IfOk result (λ scope. scope.compared ≡ range_with_len 0 count) }
+    {
+        let affected = all_nodes(alloc, count)?;
+        let compared = all_nodes(alloc, count)?;
+        Ok(Scope { affected, compared })
+    }
+
     /// The scope of a policy that these changes have made. No mark may stand, and none does behind it.
     pub(crate) fn of_changes<P: ShortestPath>(
         alloc: Global,

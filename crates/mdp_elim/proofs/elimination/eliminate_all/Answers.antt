@@ -1,11 +1,11 @@
-use Rattle.std.proofs.Common.{◌≡◌, ◌∙◌, ◌-◌, suc, List, [], ◌∷◌, Err, Some, length, subst, ap, sym, rules, arith}
+use Rattle.std.proofs.Common.{◌≡◌, ◌∙◌, ◌-◌, ◌+◌, ◌<◌, ◌^◌, suc, List, [], ◌∷◌, Err, Some, length, subst, ap, sym, rules, arith}
 use Rattle.std.proofs.lemmas.List.{length-append}
 use Rattle.std.proofs.lemmas.Result.{MatchResult-at_ok}
 use Rattle.mdp_elim.specs.Equation as spec
 use Rattle.mdp_wide.specs.declared.unfinished.Unfinished.TheVariants as error
 use Rattle.mdp_elim.specs.Elimination.{Eliminated, eliminated, solution}
 use Rattle.mdp_elim.specs.Finish.{finish, LeadDown}
-use Rattle.mdp_elim.specs.Predecessors.{IsLinked}
+use Rattle.mdp_elim.specs.Predecessors.{IsLinked, LeadBelow}
 use Rattle.mdp_elim.proofs.Finish.{all_stop, all_step, can_step, down_step, placed-wide, placed-ok}
 use Rattle.mdp_elim.proofs.elimination.eliminate_all.Goals as goal
 
@@ -34,3 +34,14 @@ loop-s-preserved c =
           (down_step c.loop-s.s (c.loop-s.s - 1) n c.loop-s.left.equations.items c.loop-s.done.items c.in_ok-pivot.pivot more.0 c.loop-s.invariant.down);
       count = omega (arith, ap length push, length-append c.loop-s.done.items (c.in_ok-pivot.pivot ∷ []), c.loop-s.invariant.count);
     }
+
+pub predecessors-requires-clause-few : goal.predecessors-requires-clause-few
+predecessors-requires-clause-few c = subst (λ (es : List spec.Equation). length es < 2 ^ 32) (sym c.deref.ensures.value) c.requires.few
+
+pub predecessors-requires-clause-down : goal.predecessors-requires-clause-down
+predecessors-requires-clause-down c = subst (λ (es : List spec.Equation). LeadBelow (length es) (length es) es) (sym c.deref.ensures.value) c.requires.down
+
+pub eliminate-requires-clause-linked : goal.eliminate-requires-clause-linked
+eliminate-requires-clause-linked c =
+    let n : c.loop-s.s ≡ c.loop-s.s - 1 + 1 = omega arith in
+    subst (λ k. IsLinked k k c.loop-s.left.lists.items c.loop-s.left.equations.items) n c.loop-s.invariant.linked

@@ -105,3 +105,26 @@ returns-in-None-clause-ok g c =
     tried_solved c.args.states.now (system rows active columns) (length rows) len c.loop-i.solved c.loop-i.invariant.count
     (subst (λ j. AreTried c.args.states.now (system rows active columns) (length rows) j c.loop-i.solved None) z
     (subst (λ o. AreTried c.args.states.now (system rows active columns) (length rows) c.loop-i.i c.loop-i.solved o) c.in-None.is c.loop-i.invariant.tried)) c.loop-i.invariant.down
+
+pub equation_at-requires-clause-state : goal.equation_at-requires-clause-state
+equation_at-requires-clause-state g c = c.requires.in_range (c.loop-i.i - 1) 0 (omega (arith, c.loop-i.invariant.within, c.loop-i-test.true))
+
+pub equation_at-requires-clause-active : goal.equation_at-requires-clause-active
+equation_at-requires-clause-active g c = c.requires.active
+
+pub equation_at-requires-clause-columns : goal.equation_at-requires-clause-columns
+equation_at-requires-clause-columns g c = λ k d l.
+    let n = c.requires.columns k d l in
+    let h = c.requires.in_range (c.loop-i.i - 1) 0 (omega (arith, c.loop-i.invariant.within, c.loop-i-test.true)) in
+    omega (arith, n, h)
+
+pub solve_state-requires-clause-state : goal.solve_state-requires-clause-state
+solve_state-requires-clause-state g c =
+    let h = c.requires.in_range (c.loop-i.i - 1) 0 (omega (arith, c.loop-i.invariant.within, c.loop-i-test.true)) in
+    omega (arith, h, c.loop-i.invariant.count)
+
+pub solve_state-requires-clause-down : goal.solve_state-requires-clause-down
+solve_state-requires-clause-down g c = c.loop-i.invariant.down
+
+pub returns-in-None-clause-others : goal.returns-in-None-clause-others
+returns-in-None-clause-others g c = c.loop-i.invariant.others

@@ -37,3 +37,12 @@ pub returns-clause-solves : goal.returns-clause-solves
 returns-clause-solves g c =
     are_visits (g.R.RowsOf.rows c.args.chain.now.rows.now) c.args.chain.now.active.now c.args.chain.now.ranks.now c.known.ensures c.requires.active
     c.requires.leaves c.args.start c.in_ok-system.system.items (c.in_ok-system.ensures {u = tt}).value _ (c.in_ok-first.ensures {u = tt}).ok
+
+pub visits_system-requires-clause-active : goal.visits_system-requires-clause-active
+visits_system-requires-clause-active g c = c.requires.active
+
+pub visits_system-requires-clause-start : goal.visits_system-requires-clause-start
+visits_system-requires-clause-start g c = c.requires.start
+
+pub solve_system-requires-clause-few : goal.solve_system-requires-clause-few
+solve_system-requires-clause-few g c = (c.in_ok-system.ensures {u = tt}).few

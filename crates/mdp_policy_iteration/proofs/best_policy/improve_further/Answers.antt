@@ -113,8 +113,12 @@ pub returns-in-Ok-clause-path : goal.returns-in-Ok-clause-path
 returns-in-Ok-clause-path g c =
     let p = g.P.ShortestPath.problem c.args.problem.now in
     let n = c.rounds.invariant.stands.0 in
-    let found : Found = record { number = n + 1; policy = c.next_policy-policy.result.items; values = c.round_of.new.evaluation.values } in
-    (n + 1, omega (arith, c.rounds.invariant.stands.1, c.saturating_add-round.ensures), rest g (goal.at.returns-in-Ok-clause-path g c).After-marks-in-rounds-1 (Ok found) (ends-done (path_step p) (after n c.next_policy-policy.result.items) found (stepped g c)))
+    let found : Found = record { number = n + 1; policy = c.next_policy-policy.result.items; values = c.round_of.new.evaluation.values } in (
+      n + 1,
+      omega (arith, c.rounds.invariant.stands.1, c.saturating_add-round.ensures),
+      rest g (goal.at.returns-in-Ok-clause-path g c).After-marks-in-rounds-1
+          (Ok found) (ends-done (path_step p) (after n c.next_policy-policy.result.items) found (stepped g c)),
+    )
 
 pub returns-in-Ok-clause-best : goal.returns-in-Ok-clause-best
 returns-in-Ok-clause-best g c =

@@ -38,4 +38,6 @@ pub fits-requires-clause-node : goal.fits-requires-clause-node
 fits-requires-clause-node g c = c.requires.in_range c.loop-s.s-index 0 c.loop-s-test.true
 
 pub fits-requires-clause-choice : goal.fits-requires-clause-choice
-fits-requires-clause-choice g c = can_take (g.P.ShortestPath.problem c.args.problem.now) c.args.policy.now c.requires.policy (get_or c.args.nodes.now c.loop-s.s-index 0) (c.requires.in_range c.loop-s.s-index 0 c.loop-s-test.true)
+fits-requires-clause-choice g c =
+    can_take (g.P.ShortestPath.problem c.args.problem.now) c.args.policy.now c.requires.policy (get_or c.args.nodes.now c.loop-s.s-index 0)
+    (c.requires.in_range c.loop-s.s-index 0 c.loop-s-test.true)

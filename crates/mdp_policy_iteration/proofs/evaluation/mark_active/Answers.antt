@@ -34,4 +34,6 @@ pub goes_on-requires-clause-node : goal.goes_on-requires-clause-node
 goes_on-requires-clause-node g c = c.requires.in_range c.loop-s.s-index 0 c.loop-s-test.true
 
 pub goes_on-requires-clause-choice : goal.goes_on-requires-clause-choice
-goes_on-requires-clause-choice g c = can_take (g.P.ShortestPath.problem c.args.problem.now) c.args.policy.now c.requires.policy (get_or c.args.nodes.now c.loop-s.s-index 0) (c.requires.in_range c.loop-s.s-index 0 c.loop-s-test.true)
+goes_on-requires-clause-choice g c =
+    can_take (g.P.ShortestPath.problem c.args.problem.now) c.args.policy.now c.requires.policy (get_or c.args.nodes.now c.loop-s.s-index 0)
+    (c.requires.in_range c.loop-s.s-index 0 c.loop-s-test.true)

@@ -1,6 +1,10 @@
-use Rattle.std.proofs.Common.{◌∙◌, length, sym, arith, rules}
+use Rattle.std.proofs.Common.{◌∙◌, ◌∷◌, [], ℕ, Bool, List, Vec, length, map, sym, ap, subst, arith, rules}
+use Rattle.std.specs.Global.{Global}
+use Rattle.mdp_num.specs.declared.frac.Frac.{Frac}
+use Rattle.mdp_elim.specs.Kept as elimination
+use Rattle.mdp_elim.specs.System.{Leaves, system}
 use Rattle.mdp_policy_iteration.specs.Problem.{rows_of}
-use Rattle.mdp_policy_iteration.proofs.Chain.{rows-len}
+use Rattle.mdp_policy_iteration.proofs.Chain.{rows-len, active-len}
 use Rattle.mdp_policy_iteration.proofs.Solving.{one_column, solution-below}
 use Rattle.mdp_policy_iteration.proofs.evaluation.solve_at.Goals as goal
 
@@ -21,3 +25,22 @@ bounds-rows-state g c =
     let n = rows-len (g.P.ShortestPath.problem c.args.rows.problem.now) c.args.rows.policy.now in
     let m = c.args.rows.is.one_each in
     omega arith
+
+pub solve_again-requires-clause-active : goal.solve_again-requires-clause-active
+solve_again-requires-clause-active g c =
+    let p = g.P.ShortestPath.problem c.args.rows.problem.now in
+    ap length c.requires.active ∙ active-len p c.args.rows.policy.now ∙ sym (rows-len p c.args.rows.policy.now)
+
+pub solve_again-requires-clause-leaves : goal.solve_again-requires-clause-leaves
+solve_again-requires-clause-leaves g c =
+    let p = g.P.ShortestPath.problem c.args.rows.problem.now in
+    subst (λ (a : List Bool). (ranks : List ℕ) × Leaves (rows_of p c.args.rows.policy.now) a ranks) (sym c.requires.active) (c.requires.leaves.0, c.requires.leaves.2)
+
+pub solve_again-requires-clause-ascend : goal.solve_again-requires-clause-ascend
+solve_again-requires-clause-ascend g c = record { each = c.requires.ascend }
+
+pub solve_again-requires-clause-others : goal.solve_again-requires-clause-others
+solve_again-requires-clause-others g c =
+    let rows = rows_of (g.P.ShortestPath.problem c.args.rows.problem.now) c.args.rows.policy.now in
+    subst (λ (xs : List (Vec Frac Global)). elimination.CanServe c.args.nodes.now (system rows c.args.active.now (map (λ c. c.items) xs)) c.args.kept.now) (sym c.from_ref.ensures.value)
+    (subst (λ (a : List Bool). elimination.CanServe c.args.nodes.now (system rows a (c.args.constants.now.items ∷ [])) c.args.kept.now) (sym c.requires.active) c.requires.others)

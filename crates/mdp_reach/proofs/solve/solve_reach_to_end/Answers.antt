@@ -57,7 +57,8 @@ returns-in-Yes-clause-path c =
     let end = (c.in-Ok.ensures {u = tt}).path in (
       end.0,
       end.1,
-      ends-answered c.args.dir c.args.model.now c.args.goals.now c.in_ok-start.start.marks c.in_ok-start.start.choices.items (c.in_ok-start.ensures {u = tt}) end.0 c.in-Ok.found.policy.items c.in_ok-ranks.ranks.items c.in-Ok.found.values.items end.2
+      ends-answered c.args.dir c.args.model.now c.args.goals.now c.in_ok-start.start.marks c.in_ok-start.start.choices.items (c.in_ok-start.ensures {u = tt})
+          end.0 c.in-Ok.found.policy.items c.in_ok-ranks.ranks.items c.in-Ok.found.values.items end.2
           (are_ranks (goal.at.returns-in-Yes-clause-path c).After-cert-1) (sym c.in-Yes.is ∙ c.holds_reach.ensures.verdict),
     )
 
@@ -74,7 +75,8 @@ returns-in-Yes-clause-each c =
 pub unreachable-requires : goal.unreachable-requires
 unreachable-requires c =
     reach_never_no c.args.model.now c.args.goals.now c.in-Ok.found.values.items c.in-Ok.found.policy.items c.in_ok-ranks.ranks.items c.args.dir
-    (meets-reach c.args.dir c.args.model.now c.args.goals.now c.in_ok-start.start.marks c.in_ok-start.start.choices.items c.in-Ok.found.policy.items c.in_ok-ranks.ranks.items c.in-Ok.found.values.items c.known.ensures.mdp (c.in_ok-start.ensures {u = tt}) (c.in-Ok.ensures {u = tt}).best
+    (meets-reach c.args.dir c.args.model.now c.args.goals.now c.in_ok-start.start.marks c.in_ok-start.start.choices.items c.in-Ok.found.policy.items c.in_ok-ranks.ranks.items
+    c.in-Ok.found.values.items c.known.ensures.mdp (c.in_ok-start.ensures {u = tt}) (c.in-Ok.ensures {u = tt}).best
     (are_ranks (goal.at.unreachable-requires c).After-cert-1) c.reach_law.ensures.rest c.along_law.ensures.falls c.along_law.ensures.rest c.meet_law.ensures.rest)
     c.in-No.field-0 (sym c.holds_reach.ensures.verdict ∙ c.in-No.is)
 
@@ -83,7 +85,8 @@ returns-clause-path c =
     let end = (c.in-Ok.ensures {u = tt}).path in (
       end.0,
       end.1,
-      ends-wide c.args.dir c.args.model.now c.args.goals.now c.in_ok-start.start.marks c.in_ok-start.start.choices.items (c.in_ok-start.ensures {u = tt}) end.0 c.in-Ok.found.policy.items c.in_ok-ranks.ranks.items c.in-Ok.found.values.items end.2
+      ends-wide c.args.dir c.args.model.now c.args.goals.now c.in_ok-start.start.marks c.in_ok-start.start.choices.items (c.in_ok-start.ensures {u = tt})
+          end.0 c.in-Ok.found.policy.items c.in_ok-ranks.ranks.items c.in-Ok.found.values.items end.2
           (are_ranks (goal.at.returns-clause-path c).After-cert-1) c.in-Wide.state c.in-Wide.choice (sym c.in-Wide.is ∙ c.holds_reach.ensures.verdict),
     )
 

@@ -80,9 +80,11 @@ returns-in-Yes-clause-path c =
     let end = (c.in-Ok.ensures {u = tt}).path in
     subst (λ (v : List (Option ℚ)). EndsSo c.args.dir c.args.model.now c.args.m c.args.goals.now
     (let a : Result Answer WideTerm = Ok (record { values = v; choices = c.in-Ok.found.policy.items; ranks = c.in_ok-ranks.ranks.items }) in a)) (sym values)
-    (ends-answered c.args.dir c.args.model.now c.args.m c.args.goals.now c.in_ok-start.start.finite c.in_ok-start.start.policy.items c.in_ok-start.start.known.items (c.in_ok-start.ensures {u = tt}) end.0 c.in-Ok.found.policy.items c.in_ok-ranks.ranks.items c.in-Ok.found.values.items end.2
+    (ends-answered c.args.dir c.args.model.now c.args.m c.args.goals.now c.in_ok-start.start.finite c.in_ok-start.start.policy.items c.in_ok-start.start.known.items (c.in_ok-start.ensures {u = tt})
+    end.0 c.in-Ok.found.policy.items c.in_ok-ranks.ranks.items c.in-Ok.found.values.items end.2
     (are_ranks (goal.at.returns-in-Yes-clause-path c).After-cert-2-1)
-    (subst (λ (v : List (Option ℚ)). Yes ≡ verdict_of (reward_checks c.args.dir c.args.model.now c.args.m c.args.goals.now v c.in-Ok.found.policy.items c.in_ok-ranks.ranks.items)) values (sym c.in-Yes.is ∙ c.holds_reward.ensures.verdict)))
+    (subst (λ (v : List (Option ℚ)). Yes ≡ verdict_of (reward_checks c.args.dir c.args.model.now c.args.m c.args.goals.now v c.in-Ok.found.policy.items c.in_ok-ranks.ranks.items))
+    values (sym c.in-Yes.is ∙ c.holds_reward.ensures.verdict)))
 
 pub returns-in-Yes-clause-each : goal.returns-in-Yes-clause-each
 returns-in-Yes-clause-each c = record {
@@ -98,12 +100,14 @@ unreachable-requires c =
     let values = c.in_ok-rewards_of.ensures {u = tt} ∙ ap (rewards_of c.args.model.now c.in_ok-start.start.finite) c.deref-2.ensures.value in
     reward_never_no c.args.model.now c.args.m c.args.goals.now (rewards_of c.args.model.now c.in_ok-start.start.finite c.in-Ok.found.values.items) c.in-Ok.found.policy.items c.in_ok-ranks.ranks.items
     (λ s k. reward-nonneg c.args.model.now c.args.m c.requires.none_negative s k) c.args.dir
-    (meets-reward c.args.dir c.args.model.now c.args.m c.args.goals.now c.in_ok-start.start.finite c.in_ok-start.start.policy.items c.in_ok-start.start.known.items c.in-Ok.found.policy.items c.in_ok-ranks.ranks.items c.in-Ok.found.values.items
+    (meets-reward c.args.dir c.args.model.now c.args.m c.args.goals.now c.in_ok-start.start.finite c.in_ok-start.start.policy.items c.in_ok-start.start.known.items
+    c.in-Ok.found.policy.items c.in_ok-ranks.ranks.items c.in-Ok.found.values.items
     (record { model = c.known.ensures.mdp; named = c.requires.name; none_negative = c.requires.none_negative })
     (pass_laws c.sure_all_law.ensures.stays c.meet_law.ensures.rest c.along_law.ensures.falls c.along_law.ensures.rest c.rounds_law.ensures.fall c.rounds_law.ensures.zero)
     (c.in_ok-start.ensures {u = tt}) (c.in-Ok.ensures {u = tt}).best (are_ranks (goal.at.unreachable-requires c).After-cert-2-1))
     c.in-No.field-0
-    (subst (λ (v : List (Option ℚ)). verdict_of (reward_checks c.args.dir c.args.model.now c.args.m c.args.goals.now v c.in-Ok.found.policy.items c.in_ok-ranks.ranks.items) ≡ No c.in-No.field-0) values (sym c.holds_reward.ensures.verdict ∙ c.in-No.is))
+    (subst (λ (v : List (Option ℚ)). verdict_of (reward_checks c.args.dir c.args.model.now c.args.m c.args.goals.now v c.in-Ok.found.policy.items c.in_ok-ranks.ranks.items) ≡ No c.in-No.field-0)
+    values (sym c.holds_reward.ensures.verdict ∙ c.in-No.is))
 
 pub returns-clause-path : goal.returns-clause-path
 returns-clause-path c =
@@ -111,9 +115,12 @@ returns-clause-path c =
     let end = (c.in-Ok.ensures {u = tt}).path in (
       end.0,
       end.1,
-      ends-wide c.args.dir c.args.model.now c.args.m c.args.goals.now c.in_ok-start.start.finite c.in_ok-start.start.policy.items c.in_ok-start.start.known.items (c.in_ok-start.ensures {u = tt}) end.0 c.in-Ok.found.policy.items c.in_ok-ranks.ranks.items c.in-Ok.found.values.items end.2
+      ends-wide c.args.dir c.args.model.now c.args.m c.args.goals.now c.in_ok-start.start.finite c.in_ok-start.start.policy.items c.in_ok-start.start.known.items (c.in_ok-start.ensures {u = tt})
+          end.0 c.in-Ok.found.policy.items c.in_ok-ranks.ranks.items c.in-Ok.found.values.items end.2
           (are_ranks (goal.at.returns-clause-path c).After-cert-2-1) c.in-Wide.state c.in-Wide.choice
-          (subst (λ (v : List (Option ℚ)). Wide c.in-Wide.state c.in-Wide.choice ≡ verdict_of (reward_checks c.args.dir c.args.model.now c.args.m c.args.goals.now v c.in-Ok.found.policy.items c.in_ok-ranks.ranks.items)) values (sym c.in-Wide.is ∙ c.holds_reward.ensures.verdict)),
+          (subst (λ (v : List (Option ℚ)). Wide c.in-Wide.state c.in-Wide.choice
+          ≡ verdict_of (reward_checks c.args.dir c.args.model.now c.args.m c.args.goals.now v c.in-Ok.found.policy.items c.in_ok-ranks.ranks.items))
+          values (sym c.in-Wide.is ∙ c.holds_reward.ensures.verdict)),
     )
 
 pub start_of-requires : goal.start_of-requires

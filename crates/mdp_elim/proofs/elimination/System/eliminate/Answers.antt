@@ -1,14 +1,14 @@
 use Rattle.std.proofs.Common.{◌≡◌, ◌∙◌, ◌<◌, ◌+◌, ℕ, List, None, Some, Err, get_or, subst, sym, ap, rules, arith}
-use Rattle.std.specs.List.{All, remove}
+use Rattle.std.specs.List.{All, Contains, remove}
 use Rattle.std.proofs.lemmas.List.{get_or_default}
 use Rattle.smallvec.specs.SmallVec.{SmallVec}
 use Rattle.mdp_wide.specs.declared.unfinished.Unfinished.TheVariants as error
 use Rattle.mdp_elim.specs.Equation as spec
 use Rattle.mdp_elim.specs.Entries.{each}
 use Rattle.mdp_elim.specs.Elimination.{substituted}
-use Rattle.mdp_elim.specs.Predecessors.{no_states, IsLinked}
+use Rattle.mdp_elim.specs.Predecessors.{no_states, IsLinked, LeadsTo, at}
 use Rattle.mdp_elim.proofs.Equations.{eliminated-none_pivot}
-use Rattle.mdp_elim.proofs.Putting.{linked_suc, rest_linked, taken_smaller, pivot_below, whole, whole_linked, whole_none}
+use Rattle.mdp_elim.proofs.Putting.{linked_suc, rest_linked, rest_complete, taken_smaller, pivot_below, whole, whole_linked, whole_none}
 use Rattle.mdp_elim.proofs.elimination.System.eliminate.Goals as goal
 
 pub take_pivot-requires-clause-last : goal.take_pivot-requires-clause-last
@@ -41,6 +41,16 @@ substitute_in_each-requires-clause-smaller c =
     let same : c.deref.result.now ≡ SmallVec.items (get_or c.args.self.now.lists.items c.args.s no_states) = c.deref.ensures ∙ ap SmallVec.items list in
     subst (λ (xs : List ℕ). All (λ t. t < c.args.s) xs) (sym same)
     (taken_smaller c.args.s c.args.self.now.lists.items c.args.self.now.equations.items (linked_suc c.args.s c.args.self.now.lists.items c.args.self.now.equations.items c.requires.linked))
+
+pub substitute_in_each-requires-clause-complete : goal.substitute_in_each-requires-clause-complete
+substitute_in_each-requires-clause-complete c =
+    let list : c.remove-states.result ≡ get_or c.args.self.now.lists.items c.args.s no_states = c.remove-states.ensures.value
+    ∙ get_or_default c.args.self.now.lists.items c.args.s _ no_states (omega (arith, c.requires.linked.as_many)) in
+    let same : c.deref.result.now ≡ SmallVec.items (get_or c.args.self.now.lists.items c.args.s no_states) = c.deref.ensures ∙ ap SmallVec.items list in
+    λ t l h.
+    subst (λ (xs : List ℕ). Contains xs t) (sym same)
+    (rest_complete c.args.s c.args.self.now.lists.items c.args.self.now.equations.items c.requires.linked t l
+    (subst (λ (es : List spec.Equation). LeadsTo (at es t).entries c.args.s) (c.in_ok-pivot.ensures {u = tt}).rest h))
 
 pub returns-in_err-substitute_in_each-clause-wide : goal.returns-in_err-substitute_in_each-clause-wide
 returns-in_err-substitute_in_each-clause-wide c = λ h.

@@ -1,4 +1,4 @@
-use Rattle.std.proofs.Common.{sym, ◌∙◌, arith, ℕ}
+use Rattle.std.proofs.Common.{sym, ◌∙◌, arith}
 use Rattle.mdp_unichain.specs.Classes.{is_in_class}
 use Rattle.mdp_gain.specs.Code.{component_in}
 use Rattle.mdp_graph.proofs.Collecting.{find_found, find_none, none_more}

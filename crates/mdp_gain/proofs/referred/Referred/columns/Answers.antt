@@ -1,4 +1,5 @@
-use Rattle.std.proofs.Common.{◌∙◌, Ok, Err, map, ap, arith, rules}
+use Rattle.std.proofs.Common.{◌∙◌, Ok, Err, inr, length, map, sym, ap, arith, rules}
+use Rattle.std.proofs.lemmas.List.FromFn.{length-map-range_with_len}
 use Rattle.mdp_elim.specs.System.{IsSolution}
 use Rattle.mdp_gain.proofs.Given.{model-policy}
 use Rattle.mdp_gain.proofs.Columns.{sides_long, each_long, rows-count, leave, solution-told}
@@ -36,3 +37,9 @@ pub returns-in-Err-TooWide-clause-value : goal.returns-in-Err-TooWide-clause-val
 returns-in-Err-TooWide-clause-value c =
     solution-told c.args.self.now c.requires.given c.requires.leads c.in_ok-active.active (c.in_ok-active.ensures {u = tt}) (map (λ x. x.items) c.deref.result.now)
     (ap (map (λ x. x.items)) c.deref.ensures.value ∙ (c.in_ok-sides.ensures {u = tt}).columns) (Err c.in-Err-TooWide.state) ((c.in-Err-TooWide.ensures {u = tt}).wide c.in-Err-TooWide.state (search rules))
+
+pub solve_leaving-requires-clause-active : goal.solve_leaving-requires-clause-active
+solve_leaving-requires-clause-active c = ap length (c.in_ok-active.ensures {u = tt}) ∙ length-map-range_with_len _ 0 _ ∙ sym (rows-count c.args.self.now)
+
+pub solve_leaving-requires-clause-some_columns : goal.solve_leaving-requires-clause-some_columns
+solve_leaving-requires-clause-some_columns c = inr (ap length c.deref.ensures.value ∙ (c.in_ok-sides.ensures {u = tt}).count)
