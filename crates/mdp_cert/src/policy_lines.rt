@@ -117,10 +117,7 @@ impl<V: Copy + Drop> Column<PolicyEntry<V>> for Rank {
 }
 
 /// The values, the choices and the ranks of these entries.
-pub(crate) fn reach_body(
-    alloc: Global,
-    entries: &[PolicyEntry<Frac>],
-) -> Result<Body, AllocError>
+pub(crate) fn reach_body(alloc: Global, entries: &[PolicyEntry<Frac>]) -> Result<Body, AllocError>
     ensures { IfOk result (λ b. plain_body b ≡ policy_body entries.now) }
 {
     Ok(Body::Reach(ReachCert {

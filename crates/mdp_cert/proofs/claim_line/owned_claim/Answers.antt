@@ -1,4 +1,4 @@
-use Rattle.std.proofs.Common.{ap, ap₂, sym, ◌∙◌}
+use Rattle.std.proofs.Common.{ap, ap₂}
 use Rattle.mdp_cert.specs.Cert.{upper, reach, reward, mean, witness}
 use Rattle.mdp_cert.proofs.claim_line.owned_claim.Goals as goal
 

@@ -1,4 +1,4 @@
-use Rattle.std.proofs.Common.{◌≡◌, ℕ, ◌-◌, ◌++◌, Bool, true, false, cond, eqb, List, [], ◌∷◌, ◌+◌, decimal, OnOk, ap, subst, ◌∙◌, append_assoc}
+use Rattle.std.proofs.Common.{◌≡◌, ℕ, ◌-◌, ◌++◌, Bool, true, false, cond, eqb, List, [], ◌∷◌, ◌+◌, decimal, OnOk, ap, subst, append_assoc}
 use Rattle.std.specs.Prelude.{codes}
 use Rattle.mdp_text.specs.Spelling.{line, ◌␣◌}
 use Rattle.mdp_cert.specs.Runs.{Columns, run}
