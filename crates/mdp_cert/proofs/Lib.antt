@@ -15,3 +15,4 @@ pub mod Parts
 pub mod FirstBroken
 mod Examples
 pub mod RunLengths
+pub mod Written

@@ -1,7 +1,8 @@
 ghost use Rattle.std.specs.Prelude.{◌≡◌, IfOk, option_map};
-ghost use Rattle.mdp_cert.specs.Cert.{floor};
+ghost use Rattle.mdp_cert.specs.Cert.{plain_body};
 ghost use Rattle.mdp_cert.specs.Witness.{floor_line_at, floor_listed, floor_lines, floor_body};
 
+use crate::body::Body;
 use crate::column::{Column, column_of};
 use crate::floor_line::FloorLine;
 use crate::flow_lines::is_in_order;
@@ -142,13 +143,13 @@ impl Column<FloorLine> for Rank {
 }
 
 /// The kept states with their marks, values and ranks, of these lines.
-pub(crate) fn floor_cert(alloc: Global, lines: &[FloorLine]) -> Result<FloorCert, AllocError>
-    ensures { IfOk result (λ c. floor c.kept.items c.wide.items c.values.items c.ranks.items ≡ floor_body lines.now) }
+pub(crate) fn floor_body(alloc: Global, lines: &[FloorLine]) -> Result<Body, AllocError>
+    ensures { IfOk result (λ b. plain_body b ≡ floor_body lines.now) }
 {
-    Ok(FloorCert {
+    Ok(Body::Floor(FloorCert {
         kept: column_of::<KeptState, _>(alloc, lines)?,
         wide: column_of::<Mark, _>(alloc, lines)?,
         values: column_of::<Value, _>(alloc, lines)?,
         ranks: column_of::<Rank, _>(alloc, lines)?,
-    })
+    }))
 }

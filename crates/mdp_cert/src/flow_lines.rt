@@ -2,9 +2,10 @@ ghost use Rattle.std.specs.Prelude.{◌≡◌, ◌&&◌, ◌++◌, nat_lt, IfOk,
 ghost use Rattle.std.specs.List.{join_with_byte};
 ghost use Rattle.mdp_text.specs.Answer.{Keeps};
 ghost use Rattle.mdp_cert.specs.declared.flow_line.FlowLine.TheVariants.{Keep, Send};
-ghost use Rattle.mdp_cert.specs.Cert.{is_next, is_next_flow, flow};
+ghost use Rattle.mdp_cert.specs.Cert.{is_next, is_next_flow, plain_body};
 ghost use Rattle.mdp_cert.specs.Witness.{keep_at, flow_at, flow_line_at, kept_in, mark_in, flow_in, flow_line_words, flow_listed, keep_lines, flow_lines, flow_body};
 
+use crate::body::Body;
 use crate::flow_line::FlowLine;
 use crate::listed::{Line, Lines};
 use crate::mark::{mark_at, mark_word};
@@ -248,12 +249,12 @@ fn flows_of(alloc: Global, lines: &[FlowLine]) -> Result<Vec<Flow>, AllocError>
 }
 
 /// The kept states with their marks, and the flows, of these lines.
-pub(crate) fn flow_cert(alloc: Global, lines: &[FlowLine]) -> Result<FlowCert, AllocError>
-    ensures { IfOk result (λ c. flow c.kept.items c.wide.items c.flows.items ≡ flow_body lines.now) }
+pub(crate) fn flow_body(alloc: Global, lines: &[FlowLine]) -> Result<Body, AllocError>
+    ensures { IfOk result (λ b. plain_body b ≡ flow_body lines.now) }
 {
-    Ok(FlowCert {
+    Ok(Body::Flow(FlowCert {
         kept: kept_of(alloc, lines)?,
         wide: marks_of(alloc, lines)?,
         flows: flows_of(alloc, lines)?,
-    })
+    }))
 }

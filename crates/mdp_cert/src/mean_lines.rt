@@ -1,8 +1,9 @@
 ghost use Rattle.std.specs.Prelude.{◌≡◌, IfOk};
-ghost use Rattle.mdp_cert.specs.Cert.{gains};
+ghost use Rattle.mdp_cert.specs.Cert.{plain_body};
 ghost use Rattle.mdp_cert.specs.Claims.{mean_columns, means};
 ghost use Rattle.mdp_cert.specs.Reading.{mean_body, spread_at};
 
+use crate::body::Body;
 use crate::column::{Column, column_of};
 use crate::entries::{Entry, Lists};
 use crate::mean_entry::MeanEntry;
@@ -124,20 +125,20 @@ impl Column<MeanEntry> for Choice {
 }
 
 /// The gains, the bounds, the biases and the choices of these entries, and the spread.
-pub(crate) fn mean_cert(
+pub(crate) fn mean_body(
     alloc: Global,
     spread: Frac,
     entries: &[MeanEntry],
-) -> Result<MeanCert, AllocError>
-    ensures { IfOk result (λ c. gains c.gains.items c.bound.items c.bias.items c.choices.items c.spread ≡ mean_body spread entries.now) }
+) -> Result<Body, AllocError>
+    ensures { IfOk result (λ b. plain_body b ≡ mean_body spread entries.now) }
 {
-    Ok(MeanCert {
+    Ok(Body::Mean(MeanCert {
         gains: column_of::<Gain, _>(alloc, entries)?,
         bound: column_of::<Bound, _>(alloc, entries)?,
         bias: column_of::<Bias, _>(alloc, entries)?,
         choices: column_of::<Choice, _>(alloc, entries)?,
         spread,
-    })
+    }))
 }
 
 /// The spread of the line `spread K`.

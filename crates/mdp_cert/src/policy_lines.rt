@@ -1,8 +1,9 @@
 ghost use Rattle.std.specs.Prelude.{◌≡◌, ◌<◌, IfOk, length, slice_index_or};
-ghost use Rattle.mdp_cert.specs.Cert.{policy, rewards};
+ghost use Rattle.mdp_cert.specs.Cert.{plain_body};
 ghost use Rattle.mdp_cert.specs.Claims.{policy_columns, policies};
 ghost use Rattle.mdp_cert.specs.Reading.{policy_body, reward_body};
 
+use crate::body::Body;
 use crate::column::{Column, column_of};
 use crate::entries::{Entry, Lists};
 use crate::policy_entry::PolicyEntry;
@@ -116,29 +117,26 @@ impl<V: Copy + Drop> Column<PolicyEntry<V>> for Rank {
 }
 
 /// The values, the choices and the ranks of these entries.
-pub(crate) fn reach_cert(
-    alloc: Global,
-    entries: &[PolicyEntry<Frac>],
-) -> Result<ReachCert, AllocError>
-    ensures { IfOk result (λ c. policy c.values.items c.choices.items c.ranks.items ≡ policy_body entries.now) }
+pub(crate) fn reach_body(alloc: Global, entries: &[PolicyEntry<Frac>]) -> Result<Body, AllocError>
+    ensures { IfOk result (λ b. plain_body b ≡ policy_body entries.now) }
 {
-    Ok(ReachCert {
+    Ok(Body::Reach(ReachCert {
         values: column_of::<StateValue, _>(alloc, entries)?,
         choices: column_of::<Choice, _>(alloc, entries)?,
         ranks: column_of::<Rank, _>(alloc, entries)?,
-    })
+    }))
 }
 
 /// The values, the choices and the ranks of these entries.
-pub(crate) fn reward_cert(
+pub(crate) fn reward_body(
     alloc: Global,
     entries: &[PolicyEntry<Option<Frac>>],
-) -> Result<RewardCert, AllocError>
-    ensures { IfOk result (λ c. rewards c.values.items c.choices.items c.ranks.items ≡ reward_body entries.now) }
+) -> Result<Body, AllocError>
+    ensures { IfOk result (λ b. plain_body b ≡ reward_body entries.now) }
 {
-    Ok(RewardCert {
+    Ok(Body::Reward(RewardCert {
         values: column_of::<StateValue, _>(alloc, entries)?,
         choices: column_of::<Choice, _>(alloc, entries)?,
         ranks: column_of::<Rank, _>(alloc, entries)?,
-    })
+    }))
 }

@@ -4,22 +4,34 @@ ghost use Rattle.mdp_cert.specs.Plain.{plain};
 ghost use Rattle.mdp_text.specs.Lines.{place, nothing_behind};
 ghost use Rattle.mdp_cert.specs.Reading.{mean_from, kept_from, body_from, outcome};
 ghost use Rattle.mdp_text.specs.Answer.{Refuses};
+ghost use Rattle.mdp_text.specs.declared.error.CertError.TheVariants.{Memory};
 
 use crate::body::Body;
 use crate::cert::Cert;
 use crate::claim::Claim;
-use crate::floor_lines::floor_cert;
-use crate::flow_lines::flow_cert;
+use crate::floor_lines::floor_body;
+use crate::flow_lines::flow_body;
 use crate::head_lines::{head_from, version_at};
 use crate::listed::listed_to_end;
-use crate::mean_lines::{mean_cert, spread_at};
-use crate::policy_lines::{reach_cert, reward_cert};
+use crate::mean_lines::{mean_body, spread_at};
+use crate::policy_lines::{reach_body, reward_body};
 use crate::state_lines::entries_to_end;
 use crate::version::Version;
 use mdp_claims::UpperCert;
 use mdp_rows::Dir;
 use mdp_text::{CertError, next_line, nothing_behind};
-use std::alloc::Global;
+use std::alloc::{AllocError, Global};
+
+/// A body that was read, with the number of the line behind it and the bytes from there on.
+fn placed(
+    body: Result<Body, AllocError>,
+    line: u64,
+    rest: &[u8],
+) -> Result<(Body, u64, &[u8]), CertError>
+    ensures { MatchResult result (λ p. (body ≡ Ok p.0) × (p.1 ≡ line) × (p.2.now ≡ rest.now)) (λ e. e ≡ Memory) }
+{
+    Ok((body?, line, rest))
+}
 
 /// Reads the lines from line 5 on of a mean payoff, with the line `end`, and gives the number of the line behind it and the bytes from there on.
 fn mean_from(
@@ -33,7 +45,7 @@ fn mean_from(
     let (text, rest) = next_line(5, bytes)?;
     let spread = spread_at(5, text)?;
     let (entries, line, rest) = entries_to_end(alloc, version, states, 6, rest)?;
-    Ok((Body::Mean(mean_cert(alloc, spread, &entries)?), line, rest))
+    placed(mean_body(alloc, spread, &entries), line, rest)
 }
 
 /// The same of a subsystem.
@@ -48,11 +60,11 @@ fn kept_from(
     match dir {
         Dir::Max => {
             let (lines, line, rest) = listed_to_end(alloc, states, 5, bytes)?;
-            Ok((Body::Flow(flow_cert(alloc, &lines)?), line, rest))
+            placed(flow_body(alloc, &lines), line, rest)
         }
         Dir::Min => {
             let (lines, line, rest) = listed_to_end(alloc, states, 5, bytes)?;
-            Ok((Body::Floor(floor_cert(alloc, &lines)?), line, rest))
+            placed(floor_body(alloc, &lines), line, rest)
         }
     }
 }
@@ -75,11 +87,11 @@ fn body_from<'a>(
         }
         Claim::Reach { .. } => {
             let (entries, line, rest) = entries_to_end(alloc, version, states, 5, bytes)?;
-            Ok((Body::Reach(reach_cert(alloc, &entries)?), line, rest))
+            placed(reach_body(alloc, &entries), line, rest)
         }
         Claim::Reward { .. } => {
             let (entries, line, rest) = entries_to_end(alloc, version, states, 5, bytes)?;
-            Ok((Body::Reward(reward_cert(alloc, &entries)?), line, rest))
+            placed(reward_body(alloc, &entries), line, rest)
         }
         Claim::Mean { .. } => mean_from(alloc, version, states, bytes),
         Claim::Witness { dir, .. } => kept_from(alloc, *dir, states, bytes),
