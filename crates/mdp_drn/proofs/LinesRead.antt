@@ -7,5 +7,6 @@ pub mod HeaderKeeps
 pub mod LabelNames
 pub mod LabelsFrom
 pub mod LabelsOneByOne
+pub mod LineKinds
 pub mod Listing
 pub mod RewardsFrom

@@ -1,6 +1,8 @@
 -- What the lines so far have spelled, in the code.
 use Rattle.std.specs.Prelude.{ℕ, ◌≤◌, ◌^◌, List, [], ◌∷◌, Option, Some, None}
 use Rattle.mdp_rows.specs.Name.{AreRewardNames}
+use Rattle.mdp_drn.specs.declared.header.Header.{Header}
+use Rattle.mdp_drn.specs.declared.header.NextLine.{NextLine}
 use Rattle.mdp_drn.specs.declared.document.Part.{Part}
 use Rattle.mdp_drn.specs.declared.document.Part.TheVariants as code
 use Rattle.mdp_drn.specs.declared.document.Document.{Document}
@@ -14,6 +16,14 @@ use Rattle.mdp_drn.specs.Reading as spec
 abbrev pub part_in : Part → spec.Part
 part_in (code.Header header next) = InHeader (header_view.view header) (header_view.view_next next)
 part_in (code.Model choices body) = InModel choices (body_view.view body)
+
+abbrev pub header_part : Header → NextLine → spec.Part
+header_part header next = InHeader (header_view.view header) (header_view.view_next next)
+
+-- the part with the model, where it has begun
+abbrev pub part_behind : Header → NextLine → Option Part → spec.Part
+part_behind header next None = header_part header next
+part_behind header next (Some part) = part_in part
 
 abbrev pub document_in : Document → spec.Document
 document_in d = record { lines = d.lines; part = part_in d.part }
@@ -45,3 +55,7 @@ pub record IsHeader (header : header.Header) (next : Next) : Type 0 where
 abbrev pub IsPart : Part → Type 0
 IsPart (code.Header header next) = IsHeader (header_view.view header) (header_view.view_next next)
 IsPart (code.Model choices body) = body_view.IsBody body
+
+abbrev pub IsBehind : Header → NextLine → Option Part → Type 0
+IsBehind header next None = IsHeader (header_view.view header) (header_view.view_next next)
+IsBehind header next (Some part) = IsPart part

@@ -3,11 +3,12 @@ ghost use Rattle.mdp_drn.specs.Header.{names_or_one, or_else};
 ghost use Rattle.mdp_drn.specs.Header as header_spec;
 ghost use Rattle.mdp_drn.specs.HeaderView as header_view;
 ghost use Rattle.mdp_drn.specs.BodyView.{IsOneLine};
+ghost use Rattle.mdp_drn.specs.BodyView as body_view;
 ghost use Rattle.mdp_drn.specs.Ending.{ended, with_last};
 ghost use Rattle.mdp_drn.specs.Lines.{is_comment};
 ghost use Rattle.mdp_drn.specs.Labels.{begins_blank};
-ghost use Rattle.mdp_drn.specs.Reading.{named, at_line, at_end, begun, nothing_read, kept_line};
-ghost use Rattle.mdp_drn.specs.DocumentView.{document_in, part_in, IsPart, IsHeader};
+ghost use Rattle.mdp_drn.specs.Reading.{InModel, named, at_line, at_end, begun, nothing_read, kept_line};
+ghost use Rattle.mdp_drn.specs.DocumentView.{document_in, part_in, header_part, part_behind, IsPart, IsHeader, IsBehind};
 ghost use Rattle.mdp_drn.specs.Feeding.{Answers, Gives};
 
 use crate::body::Body;
@@ -15,6 +16,7 @@ use crate::error::{DrnError, DrnKind};
 use crate::header::{Header, NextLine};
 use crate::kept_values::KeptValues;
 use crate::line::{content_of, is_comment};
+use mdp_num::Memory;
 use mdp_rows::{Builder, Model, RowRule};
 use std::alloc::{AllocError, Global};
 
@@ -51,33 +53,73 @@ fn names_or_one(alloc: Global, names: Option<Vec<Vec<u8>>>) -> Result<Vec<Vec<u8
     }
 }
 
-/// Begins the model behind the header.
-fn begin(alloc: Global, rule: RowRule, header: &mut Header) -> Result<Part, DrnError>
+/// The model behind the header, without states.
+fn begin_body(alloc: Global, rule: RowRule, header: &mut Header) -> Result<Body, Memory>
     requires { IsHeader (header_view.view header.old) header_spec.Model }
-    ensures begun { IfOk result (λ part. part_in part ≡ begun rule (header_view.view header.old) header_spec.Model) }
-    ensures part { IfOk result IsPart }
-    ensures memory { IfErr result (λ e. e ≡ DrnError.Memory) }
+    ensures body { IfOk result (λ body. InModel header.old.choices (body_view.view body) ≡ begun rule (header_view.view header.old) header_spec.Model) }
+    ensures keeps { IfOk result body_view.IsBody }
 {
-    let states = header.states.unwrap_or(0);
-    let choices = header.choices;
+    let announced = header.states.unwrap_or(0);
     let is_chain = header.is_chain();
-    let Ok(names) = names_or_one(alloc, header.names.take()) else {
-        return Err(DrnError::Memory);
-    };
+    let names = names_or_one(alloc, header.names.take())?;
     let models = names.len();
-    let Ok(builder) = Builder::new(alloc, states, rule, names) else {
-        return Err(DrnError::Memory);
-    };
-    let body = Body {
+    let builder = Builder::new(alloc, announced, rule, names)?;
+    Ok(Body {
         builder,
-        announced: states,
+        announced,
         models,
         is_chain,
         has_action: false,
         state_line: 0,
         action_line: 0,
-    };
-    Ok(Part::Model { choices, body })
+    })
+}
+
+/// The part with the model, where it begins behind this header.
+fn begin(
+    alloc: Global,
+    rule: RowRule,
+    header: &mut Header,
+    next: NextLine,
+) -> Result<Option<Part>, DrnError>
+    requires { IsHeader (header_view.view header.old) (header_view.view_next next) }
+    ensures begun { IfOk result (λ part. part_behind header.new next part ≡ begun rule (header_view.view header.old) (header_view.view_next next)) }
+    ensures part { IfOk result (λ part. IsBehind header.new next part) }
+    ensures memory { IfErr result (λ e. e ≡ DrnError.Memory) }
+{
+    if !next.is_model() {
+        return Ok(None);
+    }
+    let choices = header.choices;
+    match begin_body(alloc, rule, header) {
+        Ok(body) => Ok(Some(Part::Model { choices, body })),
+        Err(Memory) => Err(DrnError::Memory),
+    }
+}
+
+/// Takes a line of the header that is no comment, and gives the part with the model, where it begins behind this line.
+fn take_header_line(
+    alloc: Global,
+    rule: RowRule,
+    header: &mut Header,
+    next: &mut NextLine,
+    line: u64,
+    text: &[u8],
+) -> Result<Option<Part>, DrnError>
+    requires header { IsHeader (header_view.view header.old) (header_view.view_next next.old) }
+    requires plain { IsOneLine text.now }
+    requires comment { is_comment text.now ≡ false }
+    requires trimmed { begins_blank text.now ≡ false }
+    ensures taken { Gives (λ part now. part_behind header.new next.new part ≡ now) result (kept_line rule line text.now (header_part header.old next.old)) }
+    ensures part { IfOk result (λ part. IsBehind header.new next.new part) }
+{
+    match header.take_line(alloc, *next, text) {
+        Ok(after) => {
+            *next = after;
+            begin(alloc, rule, header, after)
+        }
+        Err(error) => Err(error.at(line)),
+    }
 }
 
 impl Part {
@@ -99,23 +141,18 @@ impl Part {
     {
         match self {
             Part::Header { header, next } => {
-                let after = match header.take_line(alloc, *next, text) {
-                    Ok(after) => after,
-                    Err(error) => return Err(error.at(line)),
-                };
-                if after.is_model() {
-                    *self = begin(alloc, rule, header)?;
-                } else {
-                    *next = after;
+                match take_header_line(alloc, rule, header, next, line, text) {
+                    Ok(None) => Ok(()),
+                    Ok(Some(model)) => {
+                        *self = model;
+                        Ok(())
+                    }
+                    Err(refused) => Err(refused),
                 }
             }
-            Part::Model { choices: _, body } => {
-                if !text.is_empty() {
-                    body.take_line(alloc, values, line, text)?;
-                }
-            }
+            Part::Model { .. } if text.is_empty() => Ok(()),
+            Part::Model { choices: _, body } => body.take_line(alloc, values, line, text),
         }
-        Ok(())
     }
 }
 

@@ -42,12 +42,20 @@ impl Feed {
         ensures fed { IfOk result (λ feed. HasRead feed []) }
         ensures given { IsOk result }
     {
-        Ok(Feed {
+        Ok(Feed::fresh(alloc, rule))
+    }
+
+    /// A feed that has been given nothing.
+    pub(crate) fn fresh(alloc: Global, rule: RowRule) -> Feed
+        ensures rule { result.rule ≡ rule }
+        ensures fed { HasRead result [] }
+    {
+        Feed {
             alloc,
             document: Document::new(alloc, rule),
             tail: Vec::new(alloc),
             refused: None,
-        })
+        }
     }
 
     /// Takes bytes of the open line.

@@ -1,4 +1,4 @@
-ghost use Rattle.std.specs.Prelude.{◌≡◌, ◌⊎◌, ◌+◌, ◌<◌, ◌≤◌, ◌^◌, ℕ, List, length, IsErrOf, IfSome};
+ghost use Rattle.std.specs.Prelude.{◌≡◌, ◌⊎◌, ◌+◌, ◌<◌, ◌≤◌, ◌^◌, ℕ, List, [], length, true, false, IfOk, OnOk, OnErr, IsErrOf, IfSome};
 ghost use Rattle.std.specs.Io.KnownBytes.{IsAtEnd};
 ghost use Rattle.mdp_edge.specs.Faults.{FaultCounted};
 ghost use Rattle.mdp_edge.specs.Bytes.{GaveAtMost};
@@ -8,7 +8,7 @@ ghost use Rattle.mdp_drn.specs.Feeding.{HasRead};
 
 use crate::error::{DrnError, DrnKind};
 use crate::feed::Feed;
-use mdp_edge::{MOST_PIECE, Source};
+use mdp_edge::{Failed, MOST_PIECE, Source};
 use mdp_rows::{Model, RowRule};
 use std::alloc::Global;
 use std::fmt;
@@ -51,6 +51,33 @@ fn finish_feed(feed: Feed) -> Result<Model, FromError>
     }
 }
 
+/// Gives a feed that has read nothing the bytes that the source has left, in pieces, and says whether it came to their end. It stops once more than
+/// `limit` bytes came.
+fn feed_all<S: Source>(source: &mut S, limit: usize, feed: &mut Feed) -> Result<bool, Failed>
+    requires limit { limit ≤ 2 ^ 32 }
+    requires fresh { HasRead feed.old [] }
+    ensures rule { feed.new.rule ≡ feed.old.rule }
+    ensures all { IfOk result (λ ended. ended ≡ true → (bytes : List ℕ) × HadLeft (S.left source.old) bytes × (length bytes ≤ limit) × HasRead feed.new bytes) }
+    ensures end { IfOk result (λ ended. ended ≡ true → IsAtEnd (S.left source.new)) }
+    ensures long { IfOk result (λ ended. ended ≡ false → (bytes : List ℕ) × HadLeft (S.left source.old) bytes × (limit < length bytes)) }
+    ensures rest { GaveAtMost (S.left source.old) (S.left source.new) (limit + MOST_PIECE) }
+    ensures fault { OnErr result (FaultCounted (S.faults source.old) (S.faults source.new)) }
+    ensures still { OnOk result (S.faults source.new ≡ S.faults source.old) }
+    ensures later { S.faults source.old ≤ S.faults source.new }
+{
+    let mut piece = [0u8; MOST_PIECE];
+    let mut total = 0;
+    'reading: while total <= limit {
+        let count = source.read(&mut piece)?;
+        if count == 0 {
+            return Ok(true);
+        }
+        let _ = feed.push(&piece[..count]);
+        total += count;
+    }
+    Ok(false)
+}
+
 /// Reads the bytes that the source has left, of which there may be at most `limit`, in pieces and to their end, also behind a broken rule.
 /// It stops at the first fault, and once more than `limit` bytes came.
 pub fn read_from<S: Source>(
@@ -75,20 +102,10 @@ pub fn read_from<S: Source>(
     ensures still { IsErrOf result FromError.ReadFault ⊎ (S.faults source.new ≡ S.faults source.old) }
     ensures later { S.faults source.old ≤ S.faults source.new }
 {
-    let Ok(mut feed) = Feed::new(alloc, rule) else {
-        return Err(FromError::Memory);
-    };
-    let mut piece = [0u8; MOST_PIECE];
-    let mut total = 0;
-    'reading: while total <= limit {
-        let Ok(count) = source.read(&mut piece) else {
-            return Err(FromError::ReadFault);
-        };
-        if count == 0 {
-            return finish_feed(feed);
-        }
-        let _ = feed.push(&piece[..count]);
-        total += count;
+    let mut feed = Feed::fresh(alloc, rule);
+    match feed_all(source, limit, &mut feed) {
+        Ok(true) => finish_feed(feed),
+        Ok(false) => Err(FromError::Long),
+        Err(Failed) => Err(FromError::ReadFault),
     }
-    Err(FromError::Long)
 }

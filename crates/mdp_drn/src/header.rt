@@ -5,7 +5,7 @@ ghost use Rattle.mdp_drn.specs.Header.{no_entries, names_line, states_line, choi
 ghost use Rattle.mdp_drn.specs.Header.{names_in, words_of, count_in, is_chain, type_named, type_entry, value_type_entry, parameters_entry};
 ghost use Rattle.mdp_drn.specs.Header.{reward_models_entry, nr_states_entry, nr_choices_entry, model_entry, with_states};
 ghost use Rattle.mdp_drn.specs.Lines.{is_blank};
-ghost use Rattle.mdp_drn.specs.HeaderView.{view, view_next, pair, is_model};
+ghost use Rattle.mdp_drn.specs.HeaderView.{view, view_next, pair, is_model, bare_entry, last_entry};
 ghost use Rattle.mdp_drn.specs.Parsing.{Says, told};
 
 use crate::digits::number_of;
@@ -206,6 +206,13 @@ impl Header {
         if text.starts_with(b"@value_type:") {
             return self.take_value_type(trim_start(&text[12..]));
         }
+        self.take_bare_entry(alloc, text)
+    }
+
+    /// Takes the line of an entry that is one word.
+    fn take_bare_entry(&mut self, alloc: Global, text: &[u8]) -> Result<NextLine, DrnKind>
+        ensures { told (pair self.new) result ≡ bare_entry (view self.old) text.now }
+    {
         if text == b"@parameters".as_slice() {
             return self.take_parameters();
         }
@@ -215,6 +222,13 @@ impl Header {
         if text == b"@nr_states".as_slice() {
             return self.take_nr_states();
         }
+        self.take_last_entry(text)
+    }
+
+    /// Takes the line of one of the other entries, or refuses it.
+    fn take_last_entry(&mut self, text: &[u8]) -> Result<NextLine, DrnKind>
+        ensures { told (pair self.new) result ≡ last_entry (view self.old) text.now }
+    {
         if text == b"@nr_choices".as_slice() {
             return self.take_nr_choices();
         }

@@ -30,6 +30,5 @@ pub use feed::Feed;
 pub use from_source::{FromError, read_from};
 pub use laws::{model_law, reading_law};
 pub use laws_of_writing::written_law;
-pub use push::{push_between, push_bytes, push_number};
 pub use reading::read;
 pub use writing::write;

@@ -225,7 +225,6 @@ impl Body {
     }
 
     /// Takes a line of the model that isn't blank and is no comment.
-    #[tactic(auto, unfolding(crate::specs::Body::model_line))]
     pub(crate) fn take_line(
         &mut self,
         alloc: Global,

@@ -7,7 +7,7 @@ use mdp_num::{Frac, Memory};
 use std::alloc::AllocError;
 
 /// Appends the bytes.
-pub fn push_bytes(bytes: &[u8], out: &mut Vec<u8>) -> Result<(), AllocError>
+pub(crate) fn push_bytes(bytes: &[u8], out: &mut Vec<u8>) -> Result<(), AllocError>
     ensures text { OnOk result (out.new.items ≡ out.old.items ++ bytes.now) }
     ensures front { take (length out.old.items) out.new.items ≡ out.old.items }
 {
@@ -15,7 +15,7 @@ pub fn push_bytes(bytes: &[u8], out: &mut Vec<u8>) -> Result<(), AllocError>
 }
 
 /// Appends a number in decimal. After `Err` a part of it may stand behind what was there; so with each function of this file.
-pub fn push_number(number: u32, out: &mut Vec<u8>) -> Result<(), AllocError>
+fn push_number(number: u32, out: &mut Vec<u8>) -> Result<(), AllocError>
     ensures text { OnOk result (out.new.items ≡ out.old.items ++ decimal number) }
     ensures front { take (length out.old.items) out.new.items ≡ out.old.items }
 {
@@ -24,7 +24,7 @@ pub fn push_number(number: u32, out: &mut Vec<u8>) -> Result<(), AllocError>
 }
 
 /// Appends a number between two pieces of text.
-pub fn push_between(
+pub(crate) fn push_between(
     before: &[u8],
     number: u32,
     behind: &[u8],

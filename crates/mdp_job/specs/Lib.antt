@@ -3,3 +3,4 @@ pub mod Words
 pub mod Refusal
 pub mod Text
 pub mod Status
+pub mod WideLines

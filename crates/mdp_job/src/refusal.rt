@@ -1,20 +1,21 @@
-ghost use Rattle.std.specs.Prelude.{◌≡◌, ◌≤◌, ◌++◌, length, take, decimal, codes, OnOk, OnErr};
+ghost use Rattle.std.specs.Prelude.{◌≡◌, ◌++◌, OnOk, OnErr};
 ghost use Rattle.mdp_job.specs.Refusal.{plain_refusal, no_job};
 ghost use Rattle.mdp_job.specs.Status.{status_of};
 ghost use Rattle.mdp_job.specs.Text.{text_of, words_word, at_line, place_text, number_or_dash, below_text};
-ghost use Rattle.mdp_job.specs.Text.{rule_text, denied_text, wide_text, depth_text, horizon_text, part_word, kind_word, policy_words, too_wide_text};
-ghost use Rattle.mdp_num.specs.Value.{spelling};
+ghost use Rattle.mdp_job.specs.Text.{denied_text, wide_text, horizon_text, part_word, kind_word, policy_words, too_wide_text};
+ghost use Rattle.mdp_job.specs.WideLines.{wide_place, policy_line};
+ghost use Rattle.mdp_text.specs.Answer.{Keeps};
+ghost use Rattle.mdp_text.specs.Parts.{part_text};
 ghost use Rattle.mdp_wide.specs.Term.{shown};
 
 use crate::status::Status;
 use crate::words_error::WordsError;
-use itoa::Buffer;
-use mdp_claims::{Fault, Rule};
+use mdp_claims::Fault;
 use mdp_drn::DrnKind;
 use mdp_num::{Frac, Memory};
-use mdp_text::CertKind;
+use mdp_text::Part::{Bytes, Fraction, Whole};
+use mdp_text::{CertKind, Part as TextPart, or_cut_back, push_parts, push_word};
 use mdp_wide::{Kind, Part, TooWide};
-use std::alloc::AllocError;
 
 /// An answer other than that the work was done, but for a fault of the sink.
 #[derive(Drop)]
@@ -129,90 +130,91 @@ fn words_word(error: WordsError) -> &'static str
     }
 }
 
-/// Appends a number, or `-` where there is none.
-fn push_number(number: Option<u32>, out: &mut Vec<u8>) -> Result<(), AllocError>
-    ensures text { OnOk result (out.new.items ≡ out.old.items ++ number_or_dash number) }
-    ensures front { take (length out.old.items) out.new.items ≡ out.old.items }
+/// A number, or `-` where there is none.
+fn number_or_dash(number: Option<u32>) -> TextPart<'static>
+    ensures { part_text result ≡ number_or_dash number }
 {
     match number {
-        Some(number) => {
-            let mut buffer = Buffer::new();
-            out.extend_from_slice(buffer.format(number).as_bytes())
-        }
-        None => out.extend_from_slice(b"-"),
+        Some(number) => Whole(u64::from(number)),
+        None => Bytes(b"-"),
     }
 }
 
 /// Appends ` state S choice C`, with `-` for a state or a choice that isn't there, and ends the line.
-fn push_place(state: Option<u32>, choice: Option<u32>, out: &mut Vec<u8>) -> Result<(), AllocError>
+fn push_place(state: Option<u32>, choice: Option<u32>, out: &mut Vec<u8>) -> Result<(), Memory>
     ensures text { OnOk result (out.new.items ≡ out.old.items ++ place_text state choice) }
-    ensures front { take (length out.old.items) out.new.items ≡ out.old.items }
+    ensures front { Keeps out.old.items out.new.items }
 {
-    out.extend_from_slice(b" state ")?;
-    push_number(state, out)?;
-    out.extend_from_slice(b" choice ")?;
-    push_number(choice, out)?;
-    out.extend_from_slice(b"\n")
+    push_parts(
+        out,
+        &[
+            Bytes(b" state "),
+            number_or_dash(state),
+            Bytes(b" choice "),
+            number_or_dash(choice),
+            Bytes(b"\n"),
+        ],
+    )
+}
+
+/// Appends a line that is the same for each refusal of its kind.
+fn push_line(line: &[u8], out: &mut Vec<u8>) -> Result<(), Memory>
+    ensures text { OnOk result (out.new.items ≡ out.old.items ++ line.now) }
+    ensures front { Keeps out.old.items out.new.items }
+{
+    push_parts(out, &[Bytes(line)])
 }
 
 /// Appends the line of words that are no job.
-fn push_words(error: WordsError, out: &mut Vec<u8>) -> Result<(), AllocError>
+fn push_words(error: WordsError, out: &mut Vec<u8>) -> Result<(), Memory>
     ensures text { OnOk result (out.new.items ≡ out.old.items ++ text_of (no_job error)) }
-    ensures front { take (length out.old.items) out.new.items ≡ out.old.items }
+    ensures front { Keeps out.old.items out.new.items }
 {
-    out.extend_from_slice(b"words ")?;
-    out.extend_from_slice(words_word(error).as_bytes())?;
-    out.extend_from_slice(b"\n")
+    let word = words_word(error).as_bytes();
+    push_parts(out, &[Bytes(b"words "), Bytes(word), Bytes(b"\n")])
 }
 
 /// Appends `WHAT line L WHY`, and ends the line.
-fn push_at(what: &str, line: u64, why: &str, out: &mut Vec<u8>) -> Result<(), AllocError>
+fn push_at<'a>(what: &'a str, line: u64, why: &'a str, out: &mut Vec<u8>) -> Result<(), Memory>
     ensures text { OnOk result (out.new.items ≡ out.old.items ++ at_line what.now line why.now) }
-    ensures front { take (length out.old.items) out.new.items ≡ out.old.items }
+    ensures front { Keeps out.old.items out.new.items }
 {
-    let mut buffer = Buffer::new();
-    out.extend_from_slice(what.as_bytes())?;
-    out.extend_from_slice(b" line ")?;
-    out.extend_from_slice(buffer.format(line).as_bytes())?;
-    out.extend_from_slice(b" ")?;
-    out.extend_from_slice(why.as_bytes())?;
-    out.extend_from_slice(b"\n")
-}
-
-/// Appends `denied rule R`.
-fn push_rule(rule: Rule, out: &mut Vec<u8>) -> Result<(), AllocError>
-    ensures text { OnOk result (out.new.items ≡ out.old.items ++ rule_text rule) }
-    ensures front { take (length out.old.items) out.new.items ≡ out.old.items }
-{
-    out.extend_from_slice(b"denied rule ")?;
-    push_number(Some(u32::from(rule.number())), out)
+    push_parts(
+        out,
+        &[
+            Bytes(what.as_bytes()),
+            Bytes(b" line "),
+            Whole(line),
+            Bytes(b" "),
+            Bytes(why.as_bytes()),
+            Bytes(b"\n"),
+        ],
+    )
 }
 
 /// Appends the line of a rule that is false.
-fn push_denied(fault: &Fault, out: &mut Vec<u8>) -> Result<(), AllocError>
+fn push_denied(fault: &Fault, out: &mut Vec<u8>) -> Result<(), Memory>
     ensures text { OnOk result (out.new.items ≡ out.old.items ++ denied_text fault.now) }
-    ensures front { take (length out.old.items) out.new.items ≡ out.old.items }
+    ensures front { Keeps out.old.items out.new.items }
 {
-    push_rule(fault.rule, out)?;
+    let number = u64::from(fault.rule.number());
+    push_parts(out, &[Bytes(b"denied rule "), Whole(number)])?;
     push_place(fault.state, fault.choice, out)
 }
 
 /// Appends the word for a part of what is solved.
-fn push_part(part: Part, out: &mut Vec<u8>) -> Result<(), AllocError>
+fn push_part(part: Part, out: &mut Vec<u8>) -> Result<(), Memory>
     ensures text { OnOk result (out.new.items ≡ out.old.items ++ part_word part) }
-    ensures front { take (length out.old.items) out.new.items ≡ out.old.items }
+    ensures front { Keeps out.old.items out.new.items }
 {
     match part {
-        Part::Whole => out.extend_from_slice(b"whole"),
-        Part::Inner(number) => {
-            out.extend_from_slice(b"inner-")?;
-            push_number(Some(number), out)
-        }
-        Part::Outer => out.extend_from_slice(b"outer"),
-        Part::Steps => out.extend_from_slice(b"steps"),
-        Part::Join => out.extend_from_slice(b"join"),
-        Part::Flow => out.extend_from_slice(b"flow"),
-        Part::Floor => out.extend_from_slice(b"floor"),
+        Part::Whole => push_line(b"whole", out),
+        Part::Inner(number) => push_parts(out, &[Bytes(b"inner-"), Whole(u64::from(number))]),
+        Part::Outer => push_line(b"outer", out),
+        Part::Steps => push_line(b"steps", out),
+        Part::Join => push_line(b"join", out),
+        Part::Flow => push_line(b"flow", out),
+        Part::Floor => push_line(b"floor", out),
     }
 }
 
@@ -228,115 +230,97 @@ fn kind_word(kind: Kind) -> &'static str
 }
 
 /// Appends the choices of a policy, each behind one blank.
-fn push_policy(policy: &[u32], out: &mut Vec<u8>) -> Result<(), AllocError>
+fn push_policy(policy: &[u32], out: &mut Vec<u8>) -> Result<(), Memory>
     ensures text { OnOk result (out.new.items ≡ out.old.items ++ policy_words policy.now) }
-    ensures front { take (length out.old.items) out.new.items ≡ out.old.items }
+    ensures front { Keeps out.old.items out.new.items }
 {
     for choice in policy {
-        out.extend_from_slice(b" ")?;
-        push_number(Some(*choice), out)?;
+        push_word(out, u64::from(*choice))?;
     }
     Ok(())
 }
 
-/// Appends the number of a round and what was computed in it.
-fn push_round(round: u64, kind: Kind, out: &mut Vec<u8>) -> Result<(), AllocError>
-    ensures text { OnOk result (out.new.items ≡ out.old.items ++ (codes " round " ++ decimal round ++ codes " kind " ++ kind_word kind)) }
-    ensures front { take (length out.old.items) out.new.items ≡ out.old.items }
+/// Appends the place of a term past width, down to the end of the line.
+fn push_wide_place(wide: &TooWide, out: &mut Vec<u8>) -> Result<(), Memory>
+    ensures text { OnOk result (out.new.items ≡ out.old.items ++ wide_place (shown wide.now wide.now.round)) }
+    ensures front { Keeps out.old.items out.new.items }
 {
-    let mut buffer = Buffer::new();
-    out.extend_from_slice(b" round ")?;
-    out.extend_from_slice(buffer.format(round).as_bytes())?;
-    out.extend_from_slice(b" kind ")?;
-    out.extend_from_slice(kind_word(kind).as_bytes())
+    let kind = kind_word(wide.kind).as_bytes();
+    push_part(wide.part, out)?;
+    push_parts(
+        out,
+        &[
+            Bytes(b" round "),
+            Whole(wide.round),
+            Bytes(b" kind "),
+            Bytes(kind),
+        ],
+    )?;
+    push_place(wide.state, wide.choice, out)
+}
+
+/// Appends the line of a policy.
+fn push_policy_line(policy: &[u32], out: &mut Vec<u8>) -> Result<(), Memory>
+    ensures text { OnOk result (out.new.items ≡ out.old.items ++ policy_line policy.now) }
+    ensures front { Keeps out.old.items out.new.items }
+{
+    push_line(b"policy", out)?;
+    push_policy(policy, out)?;
+    push_line(b"\n", out)
 }
 
 /// Appends the two lines of a term past width in what was to be solved.
-fn push_too_wide(wide: &TooWide, out: &mut Vec<u8>) -> Result<(), AllocError>
+fn push_too_wide(wide: &TooWide, out: &mut Vec<u8>) -> Result<(), Memory>
     ensures text { OnOk result (out.new.items ≡ out.old.items ++ too_wide_text (shown wide.now wide.now.round)) }
-    ensures front { take (length out.old.items) out.new.items ≡ out.old.items }
+    ensures front { Keeps out.old.items out.new.items }
 {
-    out.extend_from_slice(b"too-wide part ")?;
-    push_part(wide.part, out)?;
-    push_round(wide.round, wide.kind, out)?;
-    push_place(wide.state, wide.choice, out)?;
-    out.extend_from_slice(b"policy")?;
-    push_policy(&wide.policy, out)?;
-    out.extend_from_slice(b"\n")
+    push_line(b"too-wide part ", out)?;
+    push_wide_place(wide, out)?;
+    push_policy_line(&wide.policy, out)
 }
 
 /// Appends the line of a term of the check past width.
-fn push_check_wide(
-    state: Option<u32>,
-    choice: Option<u32>,
-    out: &mut Vec<u8>,
-) -> Result<(), AllocError>
+fn push_check_wide(state: Option<u32>, choice: Option<u32>, out: &mut Vec<u8>) -> Result<(), Memory>
     ensures text { OnOk result (out.new.items ≡ out.old.items ++ wide_text state choice) }
-    ensures front { take (length out.old.items) out.new.items ≡ out.old.items }
+    ensures front { Keeps out.old.items out.new.items }
 {
-    out.extend_from_slice(b"too-wide check")?;
+    push_line(b"too-wide check", out)?;
     push_place(state, choice, out)
 }
 
-/// Appends `too-wide horizon depth I`.
-fn push_depth(depth: u32, out: &mut Vec<u8>) -> Result<(), AllocError>
-    ensures text { OnOk result (out.new.items ≡ out.old.items ++ depth_text depth) }
-    ensures front { take (length out.old.items) out.new.items ≡ out.old.items }
-{
-    out.extend_from_slice(b"too-wide horizon depth ")?;
-    push_number(Some(depth), out)
-}
-
 /// Appends the line of a sum of `horizon` that is past width.
-fn push_horizon_wide(
-    depth: u32,
-    state: u32,
-    choice: u32,
-    out: &mut Vec<u8>,
-) -> Result<(), AllocError>
+fn push_horizon_wide(depth: u32, state: u32, choice: u32, out: &mut Vec<u8>) -> Result<(), Memory>
     ensures text { OnOk result (out.new.items ≡ out.old.items ++ horizon_text depth state choice) }
-    ensures front { take (length out.old.items) out.new.items ≡ out.old.items }
+    ensures front { Keeps out.old.items out.new.items }
 {
-    push_depth(depth, out)?;
+    let depth = u64::from(depth);
+    push_parts(out, &[Bytes(b"too-wide horizon depth "), Whole(depth)])?;
     push_place(Some(state), Some(choice), out)
 }
 
-/// Appends `below V`.
-fn push_value(value: &Frac, out: &mut Vec<u8>) -> Result<(), AllocError>
-    ensures text { OnOk result (out.new.items ≡ out.old.items ++ (codes "below " ++ spelling value.now)) }
-    ensures front { take (length out.old.items) out.new.items ≡ out.old.items }
-{
-    out.extend_from_slice(b"below ")?;
-    match value.push_text(out) {
-        Ok(()) => Ok(()),
-        Err(_) => Err(AllocError),
-    }
-}
-
 /// Appends the line of the best probability, where it is below the threshold.
-fn push_below(value: &Frac, out: &mut Vec<u8>) -> Result<(), AllocError>
+fn push_below(value: &Frac, out: &mut Vec<u8>) -> Result<(), Memory>
     ensures text { OnOk result (out.new.items ≡ out.old.items ++ below_text value.now) }
-    ensures front { take (length out.old.items) out.new.items ≡ out.old.items }
+    ensures front { Keeps out.old.items out.new.items }
 {
-    push_value(value, out)?;
-    out.extend_from_slice(b"\n")
+    push_parts(out, &[Bytes(b"below "), Fraction(*value), Bytes(b"\n")])
 }
 
 /// Appends the refusal's line, where what stands before it may have grown by a part of it on `Err`.
-fn push_parts(refusal: &Refusal, out: &mut Vec<u8>) -> Result<(), AllocError>
+fn push_text(refusal: &Refusal, out: &mut Vec<u8>) -> Result<(), Memory>
     ensures text { OnOk result (out.new.items ≡ out.old.items ++ text_of (plain_refusal refusal.now)) }
-    ensures front { take (length out.old.items) out.new.items ≡ out.old.items }
+    ensures front { Keeps out.old.items out.new.items }
 {
     match refusal {
         Refusal::Words(error) => push_words(*error, out),
         Refusal::Model { line, kind } => push_at("model", *line, kind.word(), out),
-        Refusal::QuerySize => out.extend_from_slice(b"query size\n"),
-        Refusal::QueryReward => out.extend_from_slice(b"query reward\n"),
-        Refusal::QueryLabel => out.extend_from_slice(b"query label\n"),
-        Refusal::QueryInit => out.extend_from_slice(b"query init\n"),
-        Refusal::QueryNegative => out.extend_from_slice(b"query negative\n"),
-        Refusal::QuerySteps => out.extend_from_slice(b"query steps\n"),
-        Refusal::QueryChoice => out.extend_from_slice(b"query choice\n"),
+        Refusal::QuerySize => push_line(b"query size\n", out),
+        Refusal::QueryReward => push_line(b"query reward\n", out),
+        Refusal::QueryLabel => push_line(b"query label\n", out),
+        Refusal::QueryInit => push_line(b"query init\n", out),
+        Refusal::QueryNegative => push_line(b"query negative\n", out),
+        Refusal::QuerySteps => push_line(b"query steps\n", out),
+        Refusal::QueryChoice => push_line(b"query choice\n", out),
         Refusal::TooWide(wide) => push_too_wide(wide, out),
         Refusal::CheckWide { state, choice } => push_check_wide(*state, *choice, out),
         Refusal::HorizonWide {
@@ -345,14 +329,14 @@ fn push_parts(refusal: &Refusal, out: &mut Vec<u8>) -> Result<(), AllocError>
             choice,
         } => push_horizon_wide(*depth, *state, *choice, out),
         Refusal::Denied(fault) => push_denied(fault, out),
-        Refusal::ReadModel => out.extend_from_slice(b"read-fault model\n"),
-        Refusal::ReadCertificate => out.extend_from_slice(b"read-fault certificate\n"),
-        Refusal::LongModel => out.extend_from_slice(b"long model\n"),
-        Refusal::LongCertificate => out.extend_from_slice(b"long certificate\n"),
+        Refusal::ReadModel => push_line(b"read-fault model\n", out),
+        Refusal::ReadCertificate => push_line(b"read-fault certificate\n", out),
+        Refusal::LongModel => push_line(b"long model\n", out),
+        Refusal::LongCertificate => push_line(b"long certificate\n", out),
         Refusal::CertText { line, kind } => push_at("cert", *line, kind.word(), out),
         Refusal::PolicyText { line, kind } => push_at("policy", *line, kind.word(), out),
         Refusal::Below(value) => push_below(value, out),
-        Refusal::Memory => out.extend_from_slice(MEMORY_TEXT),
+        Refusal::Memory => push_line(MEMORY_TEXT, out),
     }
 }
 
@@ -362,11 +346,6 @@ pub fn push_refusal(refusal: &Refusal, out: &mut Vec<u8>) -> Result<(), Memory>
     ensures unchanged { OnErr result (out.new.items ≡ out.old.items) }
 {
     let start = out.len();
-    match push_parts(refusal, out) {
-        Ok(()) => Ok(()),
-        Err(AllocError) => {
-            out.truncate(start);
-            Err(Memory)
-        }
-    }
+    let answer = push_text(refusal, out);
+    or_cut_back(out, start, answer)
 }

@@ -10,6 +10,8 @@ one-line front inside = simp append_assoc refl
 
 pub returns-clause-text : goal.returns-clause-text
 returns-clause-text c =
+    let front : List ℕ = codes "\taction " ++ decimal c.args.c in
+    let inside : List ℕ = joined (codes ", ") (map spelling (get_or (choices_at c.args.model.now c.args.s) c.args.c no_choice).rewards) in
     three-pieces c.push_bytes.result c.args.out.now.items c.push_between.new.out.items c.push_rewards.new.out.items c.push_bytes.new.out.items
-    (codes "\taction " ++ decimal c.args.c ++ codes " [") (joined (codes ", ") (map spelling (get_or (choices_at c.args.model.now c.args.s) c.args.c no_choice).rewards)) (codes "]\n") _ c.in_ok-push_between.ensures.text c.in_ok-push_rewards.ensures.text c.push_bytes.ensures.text
-    (one-line (codes "\taction " ++ decimal c.args.c) (joined (codes ", ") (map spelling (get_or (choices_at c.args.model.now c.args.s) c.args.c no_choice).rewards)))
+    (front ++ codes " [") inside (codes "]\n") _ c.in_ok-push_between.ensures.text c.in_ok-push_rewards.ensures.text c.push_bytes.ensures.text
+    (one-line front inside)

@@ -8,11 +8,11 @@ pub returns-clause-value : goal.returns-clause-value
 returns-clause-value c =
     let are : is_digits c.args.word.now ≡ true = sym c.are_digits.ensures ∙ c.if-not-are_digits.false in
     let few : nat_lt c.args.most (length c.args.word.now) ≡ false = grind (arith, nat_tests) in
-    let n = whole_word-is c.args.most c.args.word.now c.number_of.result c.requires are (omega (arith, c.if-word-most.false)) c.number_of.ensures in
+    let n = whole_word-is c.args.most c.args.word.now c.capped_after.result c.requires are (omega (arith, c.if-word-most.false)) c.capped_after.ensures in
     ap Some n ∙ ap (λ (b : Bool). if b then Some (number c.args.word.now) else None) (sym (ap (λ (b : Bool). b && not (nat_lt c.args.most (length c.args.word.now))) are ∙ ap not few))
 
 pub returns-clause-few : goal.returns-clause-few
 returns-clause-few c =
     let are : is_digits c.args.word.now ≡ true = sym c.are_digits.ensures ∙ c.if-not-are_digits.false in
     let below = number-below c.args.most c.args.word.now are (omega (arith, c.if-word-most.false)) in
-    omega (arith, below, c.number_of.ensures)
+    omega (arith, below, c.capped_after.ensures)
