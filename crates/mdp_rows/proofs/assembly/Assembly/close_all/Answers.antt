@@ -26,4 +26,6 @@ returns-else-is_whole-clause-again c = none_again c.args.self.now _ (closed_firs
 
 pub returns-else-is_whole-clause-refusal : goal.returns-else-is_whole-clause-refusal
 returns-else-is_whole-clause-refusal c = λ _.
-    inr (all_go c.args.self.now finished c.close_state.new.self (closed_first c.args.self.now c.close_state.new.self c.close_state.result c.close_state.ensures _ c.in-Ok.is).1 ∙ too_few c.close_state.new.self (sym c.is_whole.ensures ∙ c.if-is_whole.false))
+    inr (all_go c.args.self.now finished c.close_state.new.self
+    (closed_first c.args.self.now c.close_state.new.self c.close_state.result c.close_state.ensures _ c.in-Ok.is).1
+    ∙ too_few c.close_state.new.self (sym c.is_whole.ensures ∙ c.if-is_whole.false))
