@@ -1,11 +1,11 @@
 -- Nodes found, each with a mark: one more, in another order, and the marks taken away.
-use Rattle.std.proofs.Common.{◌≡◌, inl, inr, ℕ, zero, suc, ◌+◌, ◌<◌, Bool, true, false, not, ◌||◌, ◌&&◌, ◌==◌, cond, List, [], ◌∷◌, ◌++◌, length, get_or, replicate}
-use Rattle.std.proofs.Common.{refl, sym, ap, ap₂, ◌∙◌, subst, arith, eq-eqb, count_by}
+use Rattle.std.proofs.Common.{◌≡◌, inl, inr, ℕ, zero, suc, ◌+◌, ◌<◌, ◌≤◌, Bool, true, false, not, ◌||◌, ◌&&◌, ◌==◌, cond, List, [], ◌∷◌, ◌++◌, length, get_or, replicate}
+use Rattle.std.proofs.Common.{refl, sym, ap, ap₂, ◌∙◌, subst, arith, eq-eqb, count_by, append_assoc, take}
 use Rattle.std.specs.Prelude.{slice_set}
 use Rattle.std.specs.List.{All}
 use Rattle.std.specs.List.Sorted.{IsPermutation, IsNonDecreasing}
 use Rattle.std.proofs.lemmas.Bool.{cases_eq, cases_lt, ne_eqb, false≢true}
-use Rattle.std.proofs.lemmas.List.{get_or-set_same, get_or-set_other, get_or_past, length_push, length-set}
+use Rattle.std.proofs.lemmas.List.{get_or-set_same, get_or-set_other, get_or_past, length_push, length-set, append-nil, take_all}
 use Rattle.std.proofs.lemmas.List.Sums.{sum_by_push, sum_by-set}
 use Rattle.std.proofs.lemmas.List.Sorted.{sum_by-IsPermutation, length_permutation}
 use Rattle.std.proofs.lemmas.List.Folds.{list_any-append}
@@ -110,3 +110,30 @@ pub marks-cleared : (marks new : List Bool) (found : List ℕ) → AreMarked mar
     → ((s : ℕ) → get_or new s false ≡ (get_or marks s false && not (is_among s found))) → new ≡ replicate (length marks) false
 marks-cleared marks new found m e h =
     none_left new (length marks) e (λ s. h s ∙ ap (λ b. b && not (is_among s found)) (m.marked s) ∙ both-not (is_among s found))
+
+-- ---- a loop that finds the nodes of one element after the other
+
+or-assoc : (a b c : Bool) → ((a || b) || c) ≡ (a || (b || c))
+or-assoc true b c = refl
+or-assoc false b c = refl
+
+pub none_added : (marks : List Bool) (found : List ℕ) → AreMarked marks found → AreAdded (λ s. false) marks marks found found
+none_added marks found m = record {
+  count = refl;
+  marked = m;
+  front = ([], sym (append-nil found));
+  at = λ s. sym (or-false (is_among s found));
+}
+
+pub more_added : (p q r : ℕ → Bool) (marks mid new : List Bool) (old found more : List ℕ) → AreAdded p marks mid old found → AreAdded q mid new found more → ((s : ℕ) → r s ≡ (p s || q s))
+    → AreAdded r marks new old more
+more_added p q r marks mid new old found more a b e = record {
+  count = b.count ∙ a.count;
+  marked = b.marked;
+  front = (a.front.0 ++ b.front.0, b.front.1 ∙ ap (λ (xs : List ℕ). xs ++ b.front.0) a.front.1 ∙ append_assoc old a.front.0 b.front.0);
+  at = λ s. b.at s ∙ ap (λ x. x || q s) (a.at s) ∙ or-assoc (is_among s old) (p s) (q s) ∙ ap (λ x. is_among s old || x) (sym (e s));
+}
+
+pub all_added : {A : Type 0} → (test : List A → ℕ → Bool) (xs : List A) (i : ℕ) (marks new : List Bool) (old found : List ℕ) → AreAdded (test (take i xs)) marks new old found
+    → length xs ≤ i → AreAdded (test xs) marks new old found
+all_added {A} test xs i marks new old found a h = subst (λ (ys : List A). AreAdded (test ys) marks new old found) (take_all i xs h) a
