@@ -56,11 +56,11 @@ unfolding gcd gcd_with_fuel ratio of_int le_ℚ lt_ℚ ◌+ℚ◌ ◌*ℚ◌ nar
 between = refl
 
 reach_refused : AreEqual (
-  -- 1/2 is no lower value, and 1/4 no upper one
-  (reached half (number 1) (number 0), fault ValueOnPolicy 0 (Some 1)) ∷
-  (reached (ratio (pos 1) 4) (ratio (pos 1) 4) (number 0), fault ValueOnEachChoice 0 (Some 1)) ∷ -- upper too small
-  []
-)
+    -- 1/2 is no lower value, and 1/4 no upper one
+    (reached half (number 1) (number 0), fault ValueOnPolicy 0 (Some 1)) ∷
+    (reached (ratio (pos 1) 4) (ratio (pos 1) 4) (number 0), fault ValueOnEachChoice 0 (Some 1)) ∷  -- upper too small
+    []
+    )
 unfolding gcd gcd_with_fuel ratio of_int le_ℚ lt_ℚ ◌+ℚ◌ ◌*ℚ◌ narrow narrow_ℚ written_add written_mul
 reach_refused = refl
 
@@ -147,15 +147,15 @@ abbrev costs : Option ℚ → Option ℚ → Verdict
 costs low high = verdict_of (reward_bounds_checks Max trial 0 (false ∷ true ∷ []) (low ∷ Some (number 0) ∷ []) (high ∷ Some (number 0) ∷ []) (0 ∷ 0 ∷ []) (1 ∷ 0 ∷ []))
 
 costs_judged : AreEqual (
-  -- two trials are expected
-  (costs (Some (number 1)) (Some (number 3)), Yes) ∷
-  (costs (Some (number 3)) None, fault RewardOnPolicy 0 (Some 0)) ∷ -- costs less
-  (costs (Some (number 0)) None, Yes) ∷ -- costs something
-  -- an infinite lower value above a finite upper one
-  (costs None (Some (number 3)), fault RewardValue 0 None) ∷
-  (costs (Some (number 2)) (Some (number 2)), Yes) ∷ -- costs exactly
-  []
-)
+    -- two trials are expected
+    (costs (Some (number 1)) (Some (number 3)), Yes) ∷
+    (costs (Some (number 3)) None, fault RewardOnPolicy 0 (Some 0)) ∷  -- costs less
+    (costs (Some (number 0)) None, Yes) ∷  -- costs something
+    -- an infinite lower value above a finite upper one
+    (costs None (Some (number 3)), fault RewardValue 0 None) ∷
+    (costs (Some (number 2)) (Some (number 2)), Yes) ∷  -- costs exactly
+    []
+    )
 unfolding gcd gcd_with_fuel ratio of_int le_ℚ ◌+ℚ◌ ◌*ℚ◌ narrow narrow_ℚ written_add written_mul
 costs_judged = refl
 
@@ -197,12 +197,12 @@ abbrev earns : ℕ → ℕ → ℕ → Verdict
 earns low high choice = verdict_of (mean_bounds_checks Max loops 0 (number low ∷ []) (number high ∷ []) (number 0 ∷ []) (number 0 ∷ []) (number 0) (choice ∷ []))
 
 earns_judged : AreEqual (
-  (earns 1 3 0, Yes) ∷ -- earns trivially
-  (earns 2 3 0, fault BiasOnPolicy 0 (Some 0)) ∷ -- earns less
-  (earns 1 2 1, fault BoundOnEachChoice 0 (Some 1)) ∷ -- earns more
-  (earns 3 3 1, Yes) ∷ -- earns exactly
-  []
-)
+    (earns 1 3 0, Yes) ∷  -- earns trivially
+    (earns 2 3 0, fault BiasOnPolicy 0 (Some 0)) ∷  -- earns less
+    (earns 1 2 1, fault BoundOnEachChoice 0 (Some 1)) ∷  -- earns more
+    (earns 3 3 1, Yes) ∷  -- earns exactly
+    []
+    )
 unfolding gcd gcd_with_fuel ratio of_int le_ℚ neg_ℚ ◌+ℚ◌ ◌*ℚ◌ narrow narrow_ℚ written_add written_mul
 earns_judged = refl
 

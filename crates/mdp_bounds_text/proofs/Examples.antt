@@ -117,27 +117,27 @@ abbrev with-states : List ℕ → List ℕ
 with-states states = reached-with (codes "mdp-bounds 1") (codes "claim max reach \"goal\"") (codes "init 0 1/2 1") states
 
 texts-refused : AreEqual (
-  (outcome (reached-with (codes "mdp-bounds 2") (codes "claim max reach \"goal\"") (codes "init 0 1/2 1") reached-states), refused Version 1) ∷ -- another version
-  -- claims of certificates that are none of bounds
-  (outcome (with-claim (codes "claim max witness \"goal\" 1/2")), refused Claim 2) ∷ -- witness claim
-  (outcome (with-claim (codes "claim upper reach \"goal\"")), refused Claim 2) ∷ -- upper claim
-  (outcome (with-init (codes "init 4 1/2 1")), refused Count 4) ∷ -- start past end
-  (outcome (with-init (codes "init 0 1/2")), refused Shape 4) ∷ -- start alone
-  (outcome (with-init (codes "init - 1/2")), refused Shape 4) ∷ -- none with value
-  (outcome (with-init (codes "init - 1/2 1")), refused Number 4) ∷ -- none with values
-  (outcome (with-init (codes "init 0 1/2 inf")), refused Number 4) ∷ -- start infinite
-  -- a number comes before what it counts
-  (outcome (with-init (codes "init 4 1/2 2/2")), refused Number 4) ∷ -- number before count
-  (outcome (with-states (line (codes "state 0 1/2 inf 0 1"))), refused Number 5) ∷ -- state infinite
-  (outcome (with-states (line (codes "state 0 1/2 0 1"))), refused Shape 5) ∷ -- one value
-  (outcome (with-states (line (codes "state 1 1/2 1 0 1"))), refused Count 5) ∷ -- another state
-  -- the lines of the states 0 and 1 could be one
-  (outcome (with-states (line (codes "state 0 0 1 0 0") ++ line (codes "run 1 3 0 1 0 0"))), refused Run 6) ∷ -- shorter runs
-  (outcome (paid-with (codes "spread inf")), refused Number 5) ∷ -- spread infinite
-  (outcome (paid-with (codes "run 0 1 1/2 1 0 2 0")), refused Shape 5) ∷ -- spread missing
-  (outcome (reached-text ++ 10 ∷ []), refused End 9) ∷ -- bytes behind
-  []
-)
+    (outcome (reached-with (codes "mdp-bounds 2") (codes "claim max reach \"goal\"") (codes "init 0 1/2 1") reached-states), refused Version 1) ∷  -- another version
+    -- claims of certificates that are none of bounds
+    (outcome (with-claim (codes "claim max witness \"goal\" 1/2")), refused Claim 2) ∷  -- witness claim
+    (outcome (with-claim (codes "claim upper reach \"goal\"")), refused Claim 2) ∷  -- upper claim
+    (outcome (with-init (codes "init 4 1/2 1")), refused Count 4) ∷  -- start past end
+    (outcome (with-init (codes "init 0 1/2")), refused Shape 4) ∷  -- start alone
+    (outcome (with-init (codes "init - 1/2")), refused Shape 4) ∷  -- none with value
+    (outcome (with-init (codes "init - 1/2 1")), refused Number 4) ∷  -- none with values
+    (outcome (with-init (codes "init 0 1/2 inf")), refused Number 4) ∷  -- start infinite
+    -- a number comes before what it counts
+    (outcome (with-init (codes "init 4 1/2 2/2")), refused Number 4) ∷  -- number before count
+    (outcome (with-states (line (codes "state 0 1/2 inf 0 1"))), refused Number 5) ∷  -- state infinite
+    (outcome (with-states (line (codes "state 0 1/2 0 1"))), refused Shape 5) ∷  -- one value
+    (outcome (with-states (line (codes "state 1 1/2 1 0 1"))), refused Count 5) ∷  -- another state
+    -- the lines of the states 0 and 1 could be one
+    (outcome (with-states (line (codes "state 0 0 1 0 0") ++ line (codes "run 1 3 0 1 0 0"))), refused Run 6) ∷  -- shorter runs
+    (outcome (paid-with (codes "spread inf")), refused Number 5) ∷  -- spread infinite
+    (outcome (paid-with (codes "run 0 1 1/2 1 0 2 0")), refused Shape 5) ∷  -- spread missing
+    (outcome (reached-text ++ 10 ∷ []), refused End 9) ∷  -- bytes behind
+    []
+    )
 unfolding outcome next_line whole_of whole_at frac_at claim_to claim_of claim_at bounds_claim_at words_behind states_at between_at init_at head_from entry_at state_at run_at
     longest_at runs_from entries_from entries_to_end spread_at body_from nothing_behind canonical_of ratio gcd gcd_with_fuel
 texts-refused = refl

@@ -102,47 +102,49 @@ half-written = refl
 
 -- read as these certificates
 texts-read : AreEqual (
-  (outcome (in-two with-run), Ok bounds-of-three) ∷ -- bounds read
-  (outcome (in-one one-by-one), Ok bounds-of-three) ∷ -- bounds read old
-  -- all states in one line
-  (outcome (in-two (line (codes "run 0 2 1"))), Ok (upper_of (Finite 0 one) 3 (one ∷ one ∷ one ∷ []))) ∷ -- run of all
-  (outcome (one-state (codes "mdp-certificate 2")), Ok (upper_of Missing 1 (one ∷ []))) ∷ -- one read
-  (outcome (half-two (codes "state 0 1/2 0 1") (line (codes "end"))), Ok half-of-four) ∷ -- half read
-  -- equal values alone are not equal words
-  -- other rank
-  (outcome (line (codes "mdp-certificate 2") ++ line (codes "claim max reach \"goal\"") ++ line (codes "states 2") ++ line (codes "init -") ++ line (codes "state 0 0 0 1") ++ line (codes "state 1 0 0 0") ++ (line (codes "end"))),
-   Ok (record { claim = reach Max (codes "goal"); states = 2; init = Missing; body = policy (none ∷ none ∷ []) (0 ∷ 0 ∷ []) (1 ∷ 0 ∷ []) })) ∷
-  []
-)
+    (outcome (in-two with-run), Ok bounds-of-three) ∷  -- bounds read
+    (outcome (in-one one-by-one), Ok bounds-of-three) ∷  -- bounds read old
+    -- all states in one line
+    (outcome (in-two (line (codes "run 0 2 1"))), Ok (upper_of (Finite 0 one) 3 (one ∷ one ∷ one ∷ []))) ∷  -- run of all
+    (outcome (one-state (codes "mdp-certificate 2")), Ok (upper_of Missing 1 (one ∷ []))) ∷  -- one read
+    (outcome (half-two (codes "state 0 1/2 0 1") (line (codes "end"))), Ok half-of-four) ∷  -- half read
+    -- equal values alone are not equal words
+    -- other rank
+    (
+      outcome (line (codes "mdp-certificate 2") ++ line (codes "claim max reach \"goal\"") ++ codes "states 2\ninit -\nstate 0 0 0 1\nstate 1 0 0 0\nend\n"),
+      Ok (record { claim = reach Max (codes "goal"); states = 2; init = Missing; body = policy (none ∷ none ∷ []) (0 ∷ 0 ∷ []) (1 ∷ 0 ∷ []) }),
+    ) ∷
+    []
+    )
 unfolding outcome next_line version_at whole_of whole_at claim_to claim_of claim_at words_behind states_at given_at valued_at head_from entry_at state_at run_at longest_at
     runs_from entries_from entries_to_end body_from nothing_behind canonical_of ratio gcd gcd_with_fuel
 texts-read = refl
 
 -- refused
 texts-refused : AreEqual (
-  -- the lines of the states 0 and 1 could be one
-  (outcome (in-two one-by-one), refused Run 6) ∷ -- shorter runs
-  (outcome (in-two (line (codes "run 0 1 1") ++ line (codes "state 2 1"))), refused Run 6) ∷ -- run too short
-  (outcome (in-two (line (codes "run 0 0 1") ++ line (codes "state 1 1") ++ line (codes "state 2 0"))), refused Count 5) ∷ -- run of one
-  (outcome (in-two (line (codes "state 0 1") ++ line (codes "run 1 0 0"))), refused Count 6) ∷ -- run backwards
-  (outcome (in-two (line (codes "run 0 3 1"))), refused Count 5) ∷ -- run past end
-  (outcome (in-two (line (codes "run 1 2 1"))), refused Count 5) ∷ -- run of other state
-  -- in one line a count comes before a run
-  (outcome (in-two (line (codes "run 0 1 1") ++ line (codes "run 2 2 1"))), refused Count 6) ∷ -- count before run
-  (outcome (in-two (line (codes "run 0 0 01"))), refused Number 5) ∷ -- number before count
-  (outcome (in-two (line (codes "run 0 01"))), refused Shape 5) ∷ -- shape before number
-  -- version 1 has no runs
-  (outcome (in-one with-run), refused Shape 5) ∷ -- run in one
-  (outcome (in-two (with-run ++ line (codes "run 3 4 0"))), refused Shape 7) ∷ -- run at end
-  (outcome (half-two (codes "state 0 2/4 0 1") (line (codes "end"))), refused Number 5) ∷ -- not lowest
-  (outcome (half-two (codes "state 0 1/2 0 1") []), refused End 8) ∷ -- without end
-  (outcome (half-two (codes "state 0 1/2 0 1") (codes "ended")), refused End 8) ∷ -- without line feed
-  (outcome (half-two (codes "state 0 1/2 0 1") (line (codes "ended"))), refused Shape 8) ∷ -- another end
-  (outcome (half-two (codes "state 0 1/2 0 1") (line (codes "end") ++ 32 ∷ [])), refused End 9) ∷ -- bytes behind
-  (outcome (half-with (codes "mdp-certificate 9") (codes "state 0 1/2 0 1") (line (codes "end"))), refused kind.Version 1) ∷ -- another version
-  (outcome (half-two (codes "state 1 1/2 0 1") (line (codes "end"))), refused Count 5) ∷ -- another state
-  []
-)
+    -- the lines of the states 0 and 1 could be one
+    (outcome (in-two one-by-one), refused Run 6) ∷  -- shorter runs
+    (outcome (in-two (line (codes "run 0 1 1") ++ line (codes "state 2 1"))), refused Run 6) ∷  -- run too short
+    (outcome (in-two (line (codes "run 0 0 1") ++ line (codes "state 1 1") ++ line (codes "state 2 0"))), refused Count 5) ∷  -- run of one
+    (outcome (in-two (line (codes "state 0 1") ++ line (codes "run 1 0 0"))), refused Count 6) ∷  -- run backwards
+    (outcome (in-two (line (codes "run 0 3 1"))), refused Count 5) ∷  -- run past end
+    (outcome (in-two (line (codes "run 1 2 1"))), refused Count 5) ∷  -- run of other state
+    -- in one line a count comes before a run
+    (outcome (in-two (line (codes "run 0 1 1") ++ line (codes "run 2 2 1"))), refused Count 6) ∷  -- count before run
+    (outcome (in-two (line (codes "run 0 0 01"))), refused Number 5) ∷  -- number before count
+    (outcome (in-two (line (codes "run 0 01"))), refused Shape 5) ∷  -- shape before number
+    -- version 1 has no runs
+    (outcome (in-one with-run), refused Shape 5) ∷  -- run in one
+    (outcome (in-two (with-run ++ line (codes "run 3 4 0"))), refused Shape 7) ∷  -- run at end
+    (outcome (half-two (codes "state 0 2/4 0 1") (line (codes "end"))), refused Number 5) ∷  -- not lowest
+    (outcome (half-two (codes "state 0 1/2 0 1") []), refused End 8) ∷  -- without end
+    (outcome (half-two (codes "state 0 1/2 0 1") (codes "ended")), refused End 8) ∷  -- without line feed
+    (outcome (half-two (codes "state 0 1/2 0 1") (line (codes "ended"))), refused Shape 8) ∷  -- another end
+    (outcome (half-two (codes "state 0 1/2 0 1") (line (codes "end") ++ 32 ∷ [])), refused End 9) ∷  -- bytes behind
+    (outcome (half-with (codes "mdp-certificate 9") (codes "state 0 1/2 0 1") (line (codes "end"))), refused kind.Version 1) ∷  -- another version
+    (outcome (half-two (codes "state 1 1/2 0 1") (line (codes "end"))), refused Count 5) ∷  -- another state
+    []
+    )
 unfolding outcome next_line version_at whole_of whole_at claim_to claim_of claim_at words_behind states_at given_at valued_at head_from entry_at state_at run_at longest_at
     runs_from entries_from entries_to_end body_from nothing_behind canonical_of ratio gcd gcd_with_fuel
 texts-refused = refl
@@ -229,16 +231,16 @@ abbrev infinite-states : List ℕ
 infinite-states = line (codes "state 0 inf 0 0") ++ line (codes "state 1 inf 0 0")
 
 rewards-written : AreEqual (
-  (text_of least-of-two, least-lines Two) ∷ -- least two
-  (old_text_of least-of-two, least-lines One) ∷ -- least two old
-  (text_of greatest-of-two, greatest-lines Two) ∷ -- greatest two
-  (old_text_of greatest-of-two, greatest-lines One) ∷ -- greatest two old
-  (text_of least-of-three, least-three-lines Two) ∷ -- least three
-  (old_text_of least-of-three, least-three-lines One) ∷ -- least three old
-  (text_of infinite-of-three, infinite-three Two infinite-run) ∷ -- infinite
-  (old_text_of infinite-of-three, infinite-three One infinite-states) ∷ -- infinite old
-  []
-)
+    (text_of least-of-two, least-lines Two) ∷  -- least two
+    (old_text_of least-of-two, least-lines One) ∷  -- least two old
+    (text_of greatest-of-two, greatest-lines Two) ∷  -- greatest two
+    (old_text_of greatest-of-two, greatest-lines One) ∷  -- greatest two old
+    (text_of least-of-three, least-three-lines Two) ∷  -- least three
+    (old_text_of least-of-three, least-three-lines One) ∷  -- least three old
+    (text_of infinite-of-three, infinite-three Two infinite-run) ∷  -- infinite
+    (old_text_of infinite-of-three, infinite-three One infinite-states) ∷  -- infinite old
+    []
+    )
 unfolding text_in run_text run_lines longest_runs spelling ratio gcd gcd_with_fuel digits
 rewards-written = refl
 
@@ -253,33 +255,35 @@ reach-with init state-0 =
     ++ line (codes "end")
 
 rewards-read : AreEqual (
-  (outcome (least-lines Two), Ok least-of-two) ∷ -- least two
-  (outcome (least-lines One), Ok least-of-two) ∷ -- least two old
-  (outcome (greatest-lines Two), Ok greatest-of-two) ∷ -- greatest two
-  (outcome (greatest-lines One), Ok greatest-of-two) ∷ -- greatest two old
-  (outcome (least-three-lines Two), Ok least-of-three) ∷ -- least three
-  (outcome (least-three-lines One), Ok least-of-three) ∷ -- least three old
-  (outcome (infinite-three Two infinite-run), Ok infinite-of-three) ∷ -- infinite
-  (outcome (infinite-three One infinite-states), Ok infinite-of-three) ∷ -- infinite old
-  -- no init
-  (outcome (greatest-with (codes "-") (codes "state 0 inf 0 0")),
-   Ok (record { claim = reward Max (codes "-") (codes "goal"); states = 2; init = Missing; body = rewards (None ∷ Some none ∷ []) (0 ∷ 0 ∷ []) (0 ∷ 0 ∷ []) })) ∷
-  -- refused
-  (outcome (infinite-three Two infinite-states), refused Run 6) ∷ -- run of infinite
-  (outcome (infinite-three One infinite-run), refused Shape 5) ∷ -- run in one
-  (outcome (greatest-with (codes "0 inf") (codes "state 0 Inf 0 0")), refused Number 5) ∷ -- another word
-  (outcome (greatest-with (codes "0 inf") (codes "state 0 -inf 0 0")), refused Number 5) ∷ -- below zero
-  (outcome (greatest-with (codes "0 inf") (codes "state 0 inf 0")), refused Shape 5) ∷ -- without rank
-  (outcome (greatest-with (codes "0 inf") (codes "state 0 inf inf 0")), refused Number 5) ∷ -- infinite choice
-  (outcome (greatest-with (codes "0 infinite") (codes "state 0 inf 0 0")), refused Number 4) ∷ -- another init
-  (outcome (greatest-with (codes "2 inf") (codes "state 0 inf 0 0")), refused Count 4) ∷ -- init outside
-  (outcome (greatest-with (codes "inf") (codes "state 0 inf 0 0")), refused Shape 4) ∷ -- init alone
-  (outcome (greatest-with (codes "- inf") (codes "state 0 inf 0 0")), refused Number 4) ∷ -- init unnamed
-  -- a probability isn't infinite
-  (outcome (reach-with (codes "0 inf") (codes "state 0 1 0 1")), refused Number 4) ∷ -- reach init
-  (outcome (reach-with (codes "0 1") (codes "state 0 inf 0 1")), refused Number 5) ∷ -- reach state
-  []
-)
+    (outcome (least-lines Two), Ok least-of-two) ∷  -- least two
+    (outcome (least-lines One), Ok least-of-two) ∷  -- least two old
+    (outcome (greatest-lines Two), Ok greatest-of-two) ∷  -- greatest two
+    (outcome (greatest-lines One), Ok greatest-of-two) ∷  -- greatest two old
+    (outcome (least-three-lines Two), Ok least-of-three) ∷  -- least three
+    (outcome (least-three-lines One), Ok least-of-three) ∷  -- least three old
+    (outcome (infinite-three Two infinite-run), Ok infinite-of-three) ∷  -- infinite
+    (outcome (infinite-three One infinite-states), Ok infinite-of-three) ∷  -- infinite old
+    -- no init
+    (
+      outcome (greatest-with (codes "-") (codes "state 0 inf 0 0")),
+      Ok (record { claim = reward Max (codes "-") (codes "goal"); states = 2; init = Missing; body = rewards (None ∷ Some none ∷ []) (0 ∷ 0 ∷ []) (0 ∷ 0 ∷ []) }),
+    ) ∷
+    -- refused
+    (outcome (infinite-three Two infinite-states), refused Run 6) ∷  -- run of infinite
+    (outcome (infinite-three One infinite-run), refused Shape 5) ∷  -- run in one
+    (outcome (greatest-with (codes "0 inf") (codes "state 0 Inf 0 0")), refused Number 5) ∷  -- another word
+    (outcome (greatest-with (codes "0 inf") (codes "state 0 -inf 0 0")), refused Number 5) ∷  -- below zero
+    (outcome (greatest-with (codes "0 inf") (codes "state 0 inf 0")), refused Shape 5) ∷  -- without rank
+    (outcome (greatest-with (codes "0 inf") (codes "state 0 inf inf 0")), refused Number 5) ∷  -- infinite choice
+    (outcome (greatest-with (codes "0 infinite") (codes "state 0 inf 0 0")), refused Number 4) ∷  -- another init
+    (outcome (greatest-with (codes "2 inf") (codes "state 0 inf 0 0")), refused Count 4) ∷  -- init outside
+    (outcome (greatest-with (codes "inf") (codes "state 0 inf 0 0")), refused Shape 4) ∷  -- init alone
+    (outcome (greatest-with (codes "- inf") (codes "state 0 inf 0 0")), refused Number 4) ∷  -- init unnamed
+    -- a probability isn't infinite
+    (outcome (reach-with (codes "0 inf") (codes "state 0 1 0 1")), refused Number 4) ∷  -- reach init
+    (outcome (reach-with (codes "0 1") (codes "state 0 inf 0 1")), refused Number 5) ∷  -- reach state
+    []
+    )
 unfolding outcome next_line version_at whole_of whole_at claim_to claim_of claim_at words_behind states_at given_at valued_at head_from entry_at state_at run_at longest_at
     runs_from entries_from entries_to_end body_from nothing_behind canonical_of ratio gcd gcd_with_fuel
 rewards-read = refl
@@ -339,16 +343,16 @@ abbrev alike-states : List ℕ
 alike-states = line (codes "state 0 5 0 0 0") ++ line (codes "state 1 5 0 0 0") ++ line (codes "state 2 5 0 0 0")
 
 means-written : AreEqual (
-  (text_of turns, turn-lines Two) ∷ -- turns two
-  (old_text_of turns, turn-lines One) ∷ -- turns one
-  (text_of ends, end-lines Two) ∷ -- ends two
-  (old_text_of ends, end-lines One) ∷ -- ends one
-  (text_of once, once-lines Two) ∷ -- once two
-  (old_text_of once, once-lines One) ∷ -- once one
-  (text_of alike, alike-lines Two (line (codes "run 0 2 5 0 0 0"))) ∷ -- alike two
-  (old_text_of alike, alike-lines One alike-states) ∷ -- alike one
-  []
-)
+    (text_of turns, turn-lines Two) ∷  -- turns two
+    (old_text_of turns, turn-lines One) ∷  -- turns one
+    (text_of ends, end-lines Two) ∷  -- ends two
+    (old_text_of ends, end-lines One) ∷  -- ends one
+    (text_of once, once-lines Two) ∷  -- once two
+    (old_text_of once, once-lines One) ∷  -- once one
+    (text_of alike, alike-lines Two (line (codes "run 0 2 5 0 0 0"))) ∷  -- alike two
+    (old_text_of alike, alike-lines One alike-states) ∷  -- alike one
+    []
+    )
 unfolding text_in run_text run_lines longest_runs spelling ratio gcd gcd_with_fuel digits
 means-written = refl
 
@@ -357,29 +361,29 @@ abbrev one-mean : List ℕ → List ℕ
 one-mean rest = line (version_text Two) ++ line (codes "claim max mean \"-\"") ++ line (codes "states 1") ++ rest
 
 means-read : AreEqual (
-  (outcome (turn-lines Two), Ok turns) ∷ -- turns two
-  (outcome (turn-lines One), Ok turns) ∷ -- turns one
-  (outcome (end-lines Two), Ok ends) ∷ -- ends two
-  (outcome (end-lines One), Ok ends) ∷ -- ends one
-  (outcome (once-lines Two), Ok once) ∷ -- once two
-  (outcome (once-lines One), Ok once) ∷ -- once one
-  (outcome (alike-lines Two (line (codes "run 0 2 5 0 0 0"))), Ok alike) ∷ -- alike two
-  (outcome (alike-lines One alike-states), Ok alike) ∷ -- alike one
-  -- refused
-  (outcome (alike-lines Two alike-states), refused Run 7) ∷ -- equal states
-  (outcome (one-mean (line (codes "init 0 1") ++ line (codes "state 0 1 0 0 0") ++ line (codes "end"))), refused Shape 5) ∷ -- no spread
-  (outcome (one-mean (line (codes "init 0 1") ++ line (codes "spread") ++ line (codes "state 0 1 0 0 0") ++ line (codes "end"))), refused Shape 5) ∷ -- spread alone
-  (outcome (one-mean (line (codes "init 0 1") ++ line (codes "spread 0/1") ++ line (codes "state 0 1 0 0 0") ++ line (codes "end"))), refused Number 5) ∷ -- spread unreduced
-  (outcome (one-mean (line (codes "init 0 1") ++ line (codes "spread inf") ++ line (codes "state 0 1 0 0 0") ++ line (codes "end"))), refused Number 5) ∷ -- spread infinite
-  (outcome (one-mean (line (codes "init 0 1") ++ line (codes "spread 0") ++ line (codes "spread 0") ++ line (codes "state 0 1 0 0 0") ++ line (codes "end"))), refused Shape 6) ∷ -- spread twice
-  (outcome (one-mean (line (codes "init 0 1") ++ codes "spread 0")), refused End 5) ∷ -- spread last
-  (outcome (one-mean (line (codes "init 0 1") ++ line (codes "spread 0") ++ line (codes "state 0 1 0 0") ++ line (codes "end"))), refused Shape 6) ∷ -- no bias
-  (outcome (one-mean (line (codes "init 0 1") ++ line (codes "spread 0") ++ line (codes "state 0 inf 0 0 0") ++ line (codes "end"))), refused Number 6) ∷ -- infinite gain
-  (outcome (one-mean (line (codes "init 0 inf") ++ line (codes "spread 0") ++ line (codes "state 0 1 0 0 0") ++ line (codes "end"))), refused Number 4) ∷ -- infinite init
-  -- a line that is due to mean payoffs alone
-  (outcome (reward-text Two (codes "min") (codes "1") (codes "0 0") (line (codes "spread 0") ++ line (codes "state 0 0 0 0"))), refused Shape 5) ∷ -- spread of reward
-  []
-)
+    (outcome (turn-lines Two), Ok turns) ∷  -- turns two
+    (outcome (turn-lines One), Ok turns) ∷  -- turns one
+    (outcome (end-lines Two), Ok ends) ∷  -- ends two
+    (outcome (end-lines One), Ok ends) ∷  -- ends one
+    (outcome (once-lines Two), Ok once) ∷  -- once two
+    (outcome (once-lines One), Ok once) ∷  -- once one
+    (outcome (alike-lines Two (line (codes "run 0 2 5 0 0 0"))), Ok alike) ∷  -- alike two
+    (outcome (alike-lines One alike-states), Ok alike) ∷  -- alike one
+    -- refused
+    (outcome (alike-lines Two alike-states), refused Run 7) ∷  -- equal states
+    (outcome (one-mean (line (codes "init 0 1") ++ line (codes "state 0 1 0 0 0") ++ line (codes "end"))), refused Shape 5) ∷  -- no spread
+    (outcome (one-mean (line (codes "init 0 1") ++ line (codes "spread") ++ line (codes "state 0 1 0 0 0") ++ line (codes "end"))), refused Shape 5) ∷  -- spread alone
+    (outcome (one-mean (line (codes "init 0 1") ++ line (codes "spread 0/1") ++ line (codes "state 0 1 0 0 0") ++ line (codes "end"))), refused Number 5) ∷  -- spread unreduced
+    (outcome (one-mean (line (codes "init 0 1") ++ line (codes "spread inf") ++ line (codes "state 0 1 0 0 0") ++ line (codes "end"))), refused Number 5) ∷  -- spread infinite
+    (outcome (one-mean (line (codes "init 0 1") ++ line (codes "spread 0") ++ line (codes "spread 0") ++ line (codes "state 0 1 0 0 0") ++ line (codes "end"))), refused Shape 6) ∷  -- spread twice
+    (outcome (one-mean (line (codes "init 0 1") ++ codes "spread 0")), refused End 5) ∷  -- spread last
+    (outcome (one-mean (line (codes "init 0 1") ++ line (codes "spread 0") ++ line (codes "state 0 1 0 0") ++ line (codes "end"))), refused Shape 6) ∷  -- no bias
+    (outcome (one-mean (line (codes "init 0 1") ++ line (codes "spread 0") ++ line (codes "state 0 inf 0 0 0") ++ line (codes "end"))), refused Number 6) ∷  -- infinite gain
+    (outcome (one-mean (line (codes "init 0 inf") ++ line (codes "spread 0") ++ line (codes "state 0 1 0 0 0") ++ line (codes "end"))), refused Number 4) ∷  -- infinite init
+    -- a line that is due to mean payoffs alone
+    (outcome (reward-text Two (codes "min") (codes "1") (codes "0 0") (line (codes "spread 0") ++ line (codes "state 0 0 0 0"))), refused Shape 5) ∷  -- spread of reward
+    []
+    )
 unfolding outcome next_line version_at whole_of whole_at frac_at claim_to claim_of claim_at words_behind states_at given_at valued_at head_from entry_at state_at run_at longest_at
     runs_from entries_from entries_to_end spread_at body_from nothing_behind canonical_of ratio gcd gcd_with_fuel
 means-read = refl
@@ -387,23 +391,23 @@ means-read = refl
 -- ---- the line of a claim
 
 claims-read : AreEqual (
-  (claim_at 2 (codes "claim min mean \"my costs\""), Ok (mean Min (codes "my costs"))) ∷ -- one name
-  (claim_at 2 (codes "claim min reward \"my costs\" \"is done\""), Ok (reward Min (codes "my costs") (codes "is done"))) ∷ -- both names
-  -- refused
-  (claim_at 2 (codes "claim max reward \"-\""), refused Claim 2) ∷ -- label missing
-  (claim_at 2 (codes "claim max reward \"-\"\"goal\""), refused Claim 2) ∷ -- no blank
-  (claim_at 2 (codes "claim max reward \"-\"  \"goal\""), refused Claim 2) ∷ -- two blanks
-  (claim_at 2 (codes "claim max reward \"\" \"goal\""), refused Claim 2) ∷ -- no name
-  (claim_at 2 (codes "claim max reward \"a\"b\" \"goal\""), refused Claim 2) ∷ -- quote in name
-  (claim_at 2 (codes "claim max reward \"a\" \"b\" \"goal\""), refused Claim 2) ∷ -- three names
-  (claim_at 2 (codes "claim max reward \"-\" \"goal"), refused Claim 2) ∷ -- open label
-  (claim_at 2 (codes "claim upper reward \"-\" \"goal\""), refused Claim 2) ∷ -- upper reward
-  (claim_at 2 (codes "claim max mean \"-\" \"goal\""), refused Claim 2) ∷ -- label of mean
-  (claim_at 2 (codes "claim upper mean \"-\""), refused Claim 2) ∷ -- upper mean
-  -- a claim that isn't known
-  (claim_at 2 (codes "claim max survival \"goal\""), refused Claim 2) ∷ -- unknown
-  []
-)
+    (claim_at 2 (codes "claim min mean \"my costs\""), Ok (mean Min (codes "my costs"))) ∷  -- one name
+    (claim_at 2 (codes "claim min reward \"my costs\" \"is done\""), Ok (reward Min (codes "my costs") (codes "is done"))) ∷  -- both names
+    -- refused
+    (claim_at 2 (codes "claim max reward \"-\""), refused Claim 2) ∷  -- label missing
+    (claim_at 2 (codes "claim max reward \"-\"\"goal\""), refused Claim 2) ∷  -- no blank
+    (claim_at 2 (codes "claim max reward \"-\"  \"goal\""), refused Claim 2) ∷  -- two blanks
+    (claim_at 2 (codes "claim max reward \"\" \"goal\""), refused Claim 2) ∷  -- no name
+    (claim_at 2 (codes "claim max reward \"a\"b\" \"goal\""), refused Claim 2) ∷  -- quote in name
+    (claim_at 2 (codes "claim max reward \"a\" \"b\" \"goal\""), refused Claim 2) ∷  -- three names
+    (claim_at 2 (codes "claim max reward \"-\" \"goal"), refused Claim 2) ∷  -- open label
+    (claim_at 2 (codes "claim upper reward \"-\" \"goal\""), refused Claim 2) ∷  -- upper reward
+    (claim_at 2 (codes "claim max mean \"-\" \"goal\""), refused Claim 2) ∷  -- label of mean
+    (claim_at 2 (codes "claim upper mean \"-\""), refused Claim 2) ∷  -- upper mean
+    -- a claim that isn't known
+    (claim_at 2 (codes "claim max survival \"goal\""), refused Claim 2) ∷  -- unknown
+    []
+    )
 unfolding claim_at claim_of claim_to
 claims-read = refl
 
@@ -454,45 +458,45 @@ unfolding text_in listed_lines spelling ratio gcd gcd_with_fuel digits
 witnesses-written = record { flows-two = refl; flows-one = refl; floors-two = refl }
 
 witnesses-read : AreEqual (
-  (outcome (for-max (kept-lines ++ flows-lines ++ end-line)), Ok two-kept) ∷ -- flows two
-  (outcome (witness-text One (codes "max witness \"goal\" 1/4") (codes "0") (kept-lines ++ flows-lines ++ end-line)), Ok two-kept) ∷ -- flows one
-  (outcome (for-min (floors-lines ++ end-line)), Ok two-floors) ∷ -- floors two
-  -- no state is kept
-  (outcome (witness-text Two (codes "max witness \"goal\" 0") (codes "0") end-line), Ok (witness-of Max none (flow [] [] []))) ∷ -- none kept
-  -- refused: the line of the claim
-  (outcome (witness-text Two (codes "max witness \"goal\" -1/4") (codes "0") end-line), refused Claim 2) ∷ -- below zero
-  (outcome (witness-text Two (codes "max witness \"goal\"") (codes "0") end-line), refused Claim 2) ∷ -- no threshold
-  (outcome (witness-text Two (codes "min witness \"goal\" 2/4") (codes "0") end-line), refused Claim 2) ∷ -- threshold unreduced
-  -- the line `init`
-  (outcome (witness-text Two (codes "max witness \"goal\" 1/4") (codes "0 1/4") end-line), refused Shape 4) ∷ -- init with value
-  (outcome (witness-text Two (codes "max witness \"goal\" 1/4") (codes "-") end-line), refused Number 4) ∷ -- init missing
-  (outcome (witness-text Two (codes "max witness \"goal\" 1/4") (codes "4") end-line), refused Count 4) ∷ -- init past end
-  (outcome (witness-text Two (codes "max reach \"goal\"") (codes "0") end-line), refused Shape 4) ∷ -- init of reach
-  -- kept states
-  (outcome (for-max (line (codes "keep 2 kept") ++ line (codes "keep 2 kept") ++ end-line)), refused Count 6) ∷ -- kept twice
-  (outcome (for-max (line (codes "keep 4 kept") ++ end-line)), refused Count 5) ∷ -- kept past end
-  (outcome (for-max (line (codes "keep 04 held") ++ end-line)), refused Shape 5) ∷ -- wrong mark
-  (outcome (for-max (line (codes "keep 04 kept") ++ end-line)), refused Number 5) ∷ -- kept not number
-  (outcome (for-max (line (codes "keep 0 kept") ++ line (codes "flow 0 0 1") ++ line (codes "keep 2 kept") ++ end-line)), refused Shape 7) ∷ -- kept behind flow
-  -- flows; whether the flow's state is kept is a rule for the checker
-  (outcome (for-max (line (codes "flow 0 1 1") ++ line (codes "flow 0 1 1") ++ end-line)), refused Count 6) ∷ -- flow twice
-  (outcome (for-max (line (codes "flow 2 0 1") ++ line (codes "flow 0 1 1") ++ end-line)), refused Count 6) ∷ -- flow back
-  (outcome (for-max (line (codes "flow 4 0 1") ++ end-line)), refused Count 5) ∷ -- flow past end
-  (outcome (for-max (line (codes "flow 4 0 2/4") ++ end-line)), refused Number 5) ∷ -- flow unreduced
-  (outcome (for-min (line (codes "flow 0 0 1") ++ end-line)), refused Shape 5) ∷ -- flow of min
-  -- lines of other claims
-  (outcome (for-max (line (codes "state 0 1") ++ end-line)), refused Shape 5) ∷ -- state line
-  (outcome (for-min (line (codes "run 0 1 1") ++ end-line)), refused Shape 5) ∷ -- run line
-  -- the line `end`
-  (outcome (for-max kept-lines), refused End 7) ∷ -- end missing
-  (outcome (for-max (line (codes "end 0"))), refused Shape 5) ∷ -- end with word
-  (outcome (for-min (floors-lines ++ end-line ++ end-line)), refused End 8) ∷ -- bytes behind
-  -- floors
-  (outcome (for-min (line (codes "keep 0 kept") ++ end-line)), refused Shape 5) ∷ -- floor without value
-  (outcome (for-min (line (codes "keep 0 2/4 0 kept") ++ end-line)), refused Number 5) ∷ -- floor unreduced
-  (outcome (for-min (line (codes "keep 2 1 0 kept") ++ line (codes "keep 0 1 0 kept") ++ end-line)), refused Count 6) ∷ -- floor back
-  []
-)
+    (outcome (for-max (kept-lines ++ flows-lines ++ end-line)), Ok two-kept) ∷  -- flows two
+    (outcome (witness-text One (codes "max witness \"goal\" 1/4") (codes "0") (kept-lines ++ flows-lines ++ end-line)), Ok two-kept) ∷  -- flows one
+    (outcome (for-min (floors-lines ++ end-line)), Ok two-floors) ∷  -- floors two
+    -- no state is kept
+    (outcome (witness-text Two (codes "max witness \"goal\" 0") (codes "0") end-line), Ok (witness-of Max none (flow [] [] []))) ∷  -- none kept
+    -- refused: the line of the claim
+    (outcome (witness-text Two (codes "max witness \"goal\" -1/4") (codes "0") end-line), refused Claim 2) ∷  -- below zero
+    (outcome (witness-text Two (codes "max witness \"goal\"") (codes "0") end-line), refused Claim 2) ∷  -- no threshold
+    (outcome (witness-text Two (codes "min witness \"goal\" 2/4") (codes "0") end-line), refused Claim 2) ∷  -- threshold unreduced
+    -- the line `init`
+    (outcome (witness-text Two (codes "max witness \"goal\" 1/4") (codes "0 1/4") end-line), refused Shape 4) ∷  -- init with value
+    (outcome (witness-text Two (codes "max witness \"goal\" 1/4") (codes "-") end-line), refused Number 4) ∷  -- init missing
+    (outcome (witness-text Two (codes "max witness \"goal\" 1/4") (codes "4") end-line), refused Count 4) ∷  -- init past end
+    (outcome (witness-text Two (codes "max reach \"goal\"") (codes "0") end-line), refused Shape 4) ∷  -- init of reach
+    -- kept states
+    (outcome (for-max (line (codes "keep 2 kept") ++ line (codes "keep 2 kept") ++ end-line)), refused Count 6) ∷  -- kept twice
+    (outcome (for-max (line (codes "keep 4 kept") ++ end-line)), refused Count 5) ∷  -- kept past end
+    (outcome (for-max (line (codes "keep 04 held") ++ end-line)), refused Shape 5) ∷  -- wrong mark
+    (outcome (for-max (line (codes "keep 04 kept") ++ end-line)), refused Number 5) ∷  -- kept not number
+    (outcome (for-max (line (codes "keep 0 kept") ++ line (codes "flow 0 0 1") ++ line (codes "keep 2 kept") ++ end-line)), refused Shape 7) ∷  -- kept behind flow
+    -- flows; whether the flow's state is kept is a rule for the checker
+    (outcome (for-max (line (codes "flow 0 1 1") ++ line (codes "flow 0 1 1") ++ end-line)), refused Count 6) ∷  -- flow twice
+    (outcome (for-max (line (codes "flow 2 0 1") ++ line (codes "flow 0 1 1") ++ end-line)), refused Count 6) ∷  -- flow back
+    (outcome (for-max (line (codes "flow 4 0 1") ++ end-line)), refused Count 5) ∷  -- flow past end
+    (outcome (for-max (line (codes "flow 4 0 2/4") ++ end-line)), refused Number 5) ∷  -- flow unreduced
+    (outcome (for-min (line (codes "flow 0 0 1") ++ end-line)), refused Shape 5) ∷  -- flow of min
+    -- lines of other claims
+    (outcome (for-max (line (codes "state 0 1") ++ end-line)), refused Shape 5) ∷  -- state line
+    (outcome (for-min (line (codes "run 0 1 1") ++ end-line)), refused Shape 5) ∷  -- run line
+    -- the line `end`
+    (outcome (for-max kept-lines), refused End 7) ∷  -- end missing
+    (outcome (for-max (line (codes "end 0"))), refused Shape 5) ∷  -- end with word
+    (outcome (for-min (floors-lines ++ end-line ++ end-line)), refused End 8) ∷  -- bytes behind
+    -- floors
+    (outcome (for-min (line (codes "keep 0 kept") ++ end-line)), refused Shape 5) ∷  -- floor without value
+    (outcome (for-min (line (codes "keep 0 2/4 0 kept") ++ end-line)), refused Number 5) ∷  -- floor unreduced
+    (outcome (for-min (line (codes "keep 2 1 0 kept") ++ line (codes "keep 0 1 0 kept") ++ end-line)), refused Count 6) ∷  -- floor back
+    []
+    )
 unfolding outcome next_line version_at whole_of whole_at frac_at claim_to claim_of claim_at words_behind states_at start_at given_at valued_at head_from keep_at flow_at flow_line_at
     floor_line_at listed_at listed_from listed_to_end body_from nothing_behind canonical_of ratio gcd gcd_with_fuel
 witnesses-read = refl

@@ -36,21 +36,23 @@ abbrev upper_of : List ℕ → Init → List ℚ → Certificate
 upper_of label init values = record { claim = upper label; states = 3; init = init; body = bounds values }
 
 upper_answers : AreEqual (
-  -- 1 bounds state 0
-  (answer_to three (upper_of (codes "goal") (Finite 0 one) (one ∷ one ∷ nought ∷ [])), Yes) ∷
-  -- the loop alone carries the value 1 at state 0, so its rank doesn't fall
-  ( answer_to three (record { claim = reach Max (codes "goal"); states = 3; init = Finite 0 one; body = policy (one ∷ one ∷ nought ∷ []) (0 ∷ 0 ∷ 0 ∷ []) (1 ∷ 0 ∷ 0 ∷ []) }),
-   No (record { rule = RankFalls; state = Some 0; choice = Some 0 })) ∷
-  -- rule 1 comes before the others
-  (answer_to three (upper_of (codes "goal") Missing (nought ∷ nought ∷ nought ∷ [])), No (record { rule = InitialState; state = None; choice = None })) ∷
-  (answer_to three (upper_of (codes "goal") (Finite 0 nought) (one ∷ one ∷ nought ∷ [])), No (record { rule = InitialState; state = Some 0; choice = None })) ∷ -- other value
-  (answer_to three (upper_of (codes "done") (Finite 0 one) (one ∷ one ∷ nought ∷ [])), NoLabel) ∷ -- no label
-  -- the numbers of states come before the label
-  (answer_to three (record { claim = upper (codes "done"); states = 2; init = Missing; body = bounds (one ∷ one ∷ []) }), Size) ∷
-  -- a body without an entry per state stands in no certificate
-  (answer_to three (upper_of (codes "goal") (Finite 0 one) (one ∷ one ∷ [])), No (record { rule = InitialState; state = None; choice = None })) ∷
-  []
-)
+    -- 1 bounds state 0
+    (answer_to three (upper_of (codes "goal") (Finite 0 one) (one ∷ one ∷ nought ∷ [])), Yes) ∷
+    -- the loop alone carries the value 1 at state 0, so its rank doesn't fall
+    (
+      answer_to three (record { claim = reach Max (codes "goal"); states = 3; init = Finite 0 one; body = policy (one ∷ one ∷ nought ∷ []) (0 ∷ 0 ∷ 0 ∷ []) (1 ∷ 0 ∷ 0 ∷ []) }),
+      No (record { rule = RankFalls; state = Some 0; choice = Some 0 }),
+    ) ∷
+    -- rule 1 comes before the others
+    (answer_to three (upper_of (codes "goal") Missing (nought ∷ nought ∷ nought ∷ [])), No (record { rule = InitialState; state = None; choice = None })) ∷
+    (answer_to three (upper_of (codes "goal") (Finite 0 nought) (one ∷ one ∷ nought ∷ [])), No (record { rule = InitialState; state = Some 0; choice = None })) ∷  -- other value
+    (answer_to three (upper_of (codes "done") (Finite 0 one) (one ∷ one ∷ nought ∷ [])), NoLabel) ∷  -- no label
+    -- the numbers of states come before the label
+    (answer_to three (record { claim = upper (codes "done"); states = 2; init = Missing; body = bounds (one ∷ one ∷ []) }), Size) ∷
+    -- a body without an entry per state stands in no certificate
+    (answer_to three (upper_of (codes "goal") (Finite 0 one) (one ∷ one ∷ [])), No (record { rule = InitialState; state = None; choice = None })) ∷
+    []
+    )
 unfolding gcd gcd_with_fuel ratio of_int ◌+ℚ◌ ◌*ℚ◌ narrow narrow_ℚ written_add written_mul written_compare lt_ℚ
 upper_answers = refl
 
@@ -88,22 +90,26 @@ unfolding gcd gcd_with_fuel ratio of_int ◌+ℚ◌ ◌*ℚ◌ narrow narrow_ℚ
 greatest = refl
 
 reward_answers : AreEqual (
-  -- and not 3
-  (answer_to two (reward_of_two Max (codes "-") (Finite 0 three_) (Some three_ ∷ Some nought ∷ []) (1 ∷ 0 ∷ []) (1 ∷ 0 ∷ [])),
-   No (record { rule = FiniteRankFalls; state = Some 0; choice = Some 0 })) ∷
-  -- rule 1: an infinite value stands in the line `init` where the state's value is infinite, and only there
-  (answer_to two (reward_of_two Min (codes "-") (Infinite 0) (Some three_ ∷ Some nought ∷ []) (1 ∷ 0 ∷ []) (1 ∷ 0 ∷ [])), No (record { rule = InitialState; state = Some 0; choice = None })) ∷
-  -- finite init
-  (answer_to two (reward_of_two Max (codes "-") (Finite 0 three_) (None ∷ Some nought ∷ []) (0 ∷ 0 ∷ []) (0 ∷ 0 ∷ [])), No (record { rule = InitialState; state = Some 0; choice = None })) ∷
-  -- the reward model comes before the label, and the numbers of states before both
-  (answer_to two (record { claim = reward Min (codes "costs") (codes "done"); states = 2; init = Missing; body = rewards [] [] [] }), NoReward) ∷
-  (answer_to two (record { claim = reward Min (codes "-") (codes "done"); states = 2; init = Missing; body = rewards [] [] [] }), NoLabel) ∷ -- no goal
-  (answer_to two (record { claim = reward Min (codes "costs") (codes "done"); states = 3; init = Missing; body = rewards [] [] [] }), Size) ∷ -- other size
-  -- another claim's body stands in no certificate
-  (answer_to two (record { claim = reward Min (codes "-") (codes "goal"); states = 2; init = Finite 0 one; body = bounds (one ∷ one ∷ []) }),
-   No (record { rule = InitialState; state = None; choice = None })) ∷
-  []
-)
+    -- and not 3
+    (
+      answer_to two (reward_of_two Max (codes "-") (Finite 0 three_) (Some three_ ∷ Some nought ∷ []) (1 ∷ 0 ∷ []) (1 ∷ 0 ∷ [])),
+      No (record { rule = FiniteRankFalls; state = Some 0; choice = Some 0 }),
+    ) ∷
+    -- rule 1: an infinite value stands in the line `init` where the state's value is infinite, and only there
+    (answer_to two (reward_of_two Min (codes "-") (Infinite 0) (Some three_ ∷ Some nought ∷ []) (1 ∷ 0 ∷ []) (1 ∷ 0 ∷ [])), No (record { rule = InitialState; state = Some 0; choice = None })) ∷
+    -- finite init
+    (answer_to two (reward_of_two Max (codes "-") (Finite 0 three_) (None ∷ Some nought ∷ []) (0 ∷ 0 ∷ []) (0 ∷ 0 ∷ [])), No (record { rule = InitialState; state = Some 0; choice = None })) ∷
+    -- the reward model comes before the label, and the numbers of states before both
+    (answer_to two (record { claim = reward Min (codes "costs") (codes "done"); states = 2; init = Missing; body = rewards [] [] [] }), NoReward) ∷
+    (answer_to two (record { claim = reward Min (codes "-") (codes "done"); states = 2; init = Missing; body = rewards [] [] [] }), NoLabel) ∷  -- no goal
+    (answer_to two (record { claim = reward Min (codes "costs") (codes "done"); states = 3; init = Missing; body = rewards [] [] [] }), Size) ∷  -- other size
+    -- another claim's body stands in no certificate
+    (
+      answer_to two (record { claim = reward Min (codes "-") (codes "goal"); states = 2; init = Finite 0 one; body = bounds (one ∷ one ∷ []) }),
+      No (record { rule = InitialState; state = None; choice = None }),
+    ) ∷
+    []
+    )
 unfolding gcd gcd_with_fuel ratio of_int ◌+ℚ◌ ◌*ℚ◌ narrow narrow_ℚ written_add written_mul written_compare
 reward_answers = refl
 
@@ -125,14 +131,16 @@ mean_of_two name init gain bound bias choices spread =
     record { claim = mean Max name; states = 2; init = init; body = gains gain bound bias choices spread }
 
 mean_answers : AreEqual (
-  -- so the mean payoff is 1/2; no label is asked for
-  (answer_to turns (mean_of_two (codes "-") (Finite 0 half) (half ∷ half ∷ []) (nought ∷ below_half ∷ []) (nought ∷ below_half ∷ []) (0 ∷ 0 ∷ []) half), Yes) ∷
-  -- another gain in the line `init`
-  (answer_to turns (mean_of_two (codes "-") (Finite 0 one) (half ∷ half ∷ []) (nought ∷ below_half ∷ []) (nought ∷ below_half ∷ []) (0 ∷ 0 ∷ []) half),
-   No (record { rule = InitialState; state = Some 0; choice = None })) ∷
-  (answer_to turns (mean_of_two (codes "costs") (Finite 0 half) (half ∷ half ∷ []) (nought ∷ below_half ∷ []) (nought ∷ below_half ∷ []) (0 ∷ 0 ∷ []) half), NoReward) ∷ -- mean of none
-  []
-)
+    -- so the mean payoff is 1/2; no label is asked for
+    (answer_to turns (mean_of_two (codes "-") (Finite 0 half) (half ∷ half ∷ []) (nought ∷ below_half ∷ []) (nought ∷ below_half ∷ []) (0 ∷ 0 ∷ []) half), Yes) ∷
+    -- another gain in the line `init`
+    (
+      answer_to turns (mean_of_two (codes "-") (Finite 0 one) (half ∷ half ∷ []) (nought ∷ below_half ∷ []) (nought ∷ below_half ∷ []) (0 ∷ 0 ∷ []) half),
+      No (record { rule = InitialState; state = Some 0; choice = None }),
+    ) ∷
+    (answer_to turns (mean_of_two (codes "costs") (Finite 0 half) (half ∷ half ∷ []) (nought ∷ below_half ∷ []) (nought ∷ below_half ∷ []) (0 ∷ 0 ∷ []) half), NoReward) ∷  -- mean of none
+    []
+    )
 unfolding gcd gcd_with_fuel ratio of_int neg_ℚ ◌+ℚ◌ ◌*ℚ◌ narrow narrow_ℚ written_add written_mul written_compare
 mean_answers = refl
 
@@ -148,12 +156,14 @@ once = record {
 }
 
 bound_answers : AreEqual (
-  (answer_to once (mean_of_two (codes "-") (Finite 0 one) (one ∷ one ∷ []) (of_int (pos 4) ∷ nought ∷ []) (nought ∷ nought ∷ []) (0 ∷ 0 ∷ []) (of_int (pos 4))), Yes) ∷ -- mean once
-  -- mean without bound
-  (answer_to once (mean_of_two (codes "-") (Finite 0 one) (one ∷ one ∷ []) (nought ∷ nought ∷ []) (nought ∷ nought ∷ []) (0 ∷ 0 ∷ []) nought),
-   No (record { rule = BoundOnEachChoice; state = Some 0; choice = Some 1 })) ∷
-  []
-)
+    (answer_to once (mean_of_two (codes "-") (Finite 0 one) (one ∷ one ∷ []) (of_int (pos 4) ∷ nought ∷ []) (nought ∷ nought ∷ []) (0 ∷ 0 ∷ []) (of_int (pos 4))), Yes) ∷  -- mean once
+    -- mean without bound
+    (
+      answer_to once (mean_of_two (codes "-") (Finite 0 one) (one ∷ one ∷ []) (nought ∷ nought ∷ []) (nought ∷ nought ∷ []) (0 ∷ 0 ∷ []) nought),
+      No (record { rule = BoundOnEachChoice; state = Some 0; choice = Some 1 }),
+    ) ∷
+    []
+    )
 unfolding gcd gcd_with_fuel ratio of_int neg_ℚ ◌+ℚ◌ ◌*ℚ◌ narrow narrow_ℚ written_add written_mul written_compare
 bound_answers = refl
 
@@ -165,18 +175,18 @@ one_flow states label init choice t =
     record { claim = witness Max label t; states = states; init = init; body = flow (0 ∷ []) (false ∷ []) (record { state = 0; choice = choice; amount = one } ∷ []) }
 
 flow_answers : AreEqual (
-  -- choice 1 brings a third of it to the goal
-  (answer_to three (one_flow 3 (codes "goal") (Start 0) 1 third), Yes) ∷
-  -- and no half
-  (answer_to three (one_flow 3 (codes "goal") (Start 0) 1 half), No (record { rule = FlowsReachGoals; state = None; choice = None })) ∷
-  -- a choice that state 0 hasn't
-  (answer_to three (one_flow 3 (codes "goal") (Start 0) 2 third), No (record { rule = ChoiceExists; state = Some 0; choice = Some 2 })) ∷
-  -- the line `init` names another state
-  (answer_to three (one_flow 3 (codes "goal") (Start 1) 1 third), No (record { rule = InitialState; state = Some 1; choice = None })) ∷
-  (answer_to three (one_flow 2 (codes "goal") (Start 0) 1 third), Size) ∷ -- flow size
-  (answer_to three (one_flow 3 (codes "done") (Start 0) 1 third), NoLabel) ∷ -- flow label
-  []
-)
+    -- choice 1 brings a third of it to the goal
+    (answer_to three (one_flow 3 (codes "goal") (Start 0) 1 third), Yes) ∷
+    -- and no half
+    (answer_to three (one_flow 3 (codes "goal") (Start 0) 1 half), No (record { rule = FlowsReachGoals; state = None; choice = None })) ∷
+    -- a choice that state 0 hasn't
+    (answer_to three (one_flow 3 (codes "goal") (Start 0) 2 third), No (record { rule = ChoiceExists; state = Some 0; choice = Some 2 })) ∷
+    -- the line `init` names another state
+    (answer_to three (one_flow 3 (codes "goal") (Start 1) 1 third), No (record { rule = InitialState; state = Some 1; choice = None })) ∷
+    (answer_to three (one_flow 2 (codes "goal") (Start 0) 1 third), Size) ∷  -- flow size
+    (answer_to three (one_flow 3 (codes "done") (Start 0) 1 third), NoLabel) ∷  -- flow label
+    []
+    )
 unfolding gcd gcd_with_fuel ratio of_int lt_ℚ ◌+ℚ◌ ◌*ℚ◌ narrow narrow_ℚ written_add written_mul written_compare
 flow_answers = refl
 
@@ -193,10 +203,10 @@ one_floor value rank t =
     record { claim = witness Min (codes "goal") t; states = 3; init = Start 0; body = floor (0 ∷ []) (false ∷ []) (value ∷ []) (rank ∷ []) }
 
 floor_answers : AreEqual (
-  (answer_to three (one_floor nought 0 nought), Yes) ∷ -- floor zero
-  (answer_to three (one_floor third 1 third), No (record { rule = RankFalls; state = Some 0; choice = Some 0 })) ∷ -- floor third
-  (answer_to three (one_floor nought 0 third), No (record { rule = StartReachesThreshold; state = None; choice = None })) ∷ -- floor below
-  []
-)
+    (answer_to three (one_floor nought 0 nought), Yes) ∷  -- floor zero
+    (answer_to three (one_floor third 1 third), No (record { rule = RankFalls; state = Some 0; choice = Some 0 })) ∷  -- floor third
+    (answer_to three (one_floor nought 0 third), No (record { rule = StartReachesThreshold; state = None; choice = None })) ∷  -- floor below
+    []
+    )
 unfolding gcd gcd_with_fuel ratio of_int lt_ℚ ◌+ℚ◌ ◌*ℚ◌ narrow narrow_ℚ written_add written_mul written_compare
 floor_answers = refl

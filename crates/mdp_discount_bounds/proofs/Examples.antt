@@ -59,14 +59,14 @@ nothing = refl
 -- ---- what is refused
 
 bounds_judged : AreEqual (
-  -- to move on earns 7/2 by these upper values, which is more than 2
-  (says Max wait (some 2 ∷ some 5 ∷ []) (some 2 ∷ some 7 ∷ []) (number 7) (1 ∷ 0 ∷ []), fault DiscountedOnEachChoice 0 1) ∷
-  (says Max wait (some 4 ∷ some 5 ∷ []) (some 4 ∷ some 7 ∷ []) (number 7) (1 ∷ 0 ∷ []), fault DiscountedOnPolicy 0 1) ∷ -- lower high
-  -- a value doesn't stand on one that is missing
-  (says Max wait (some 2 ∷ some 5 ∷ []) (some 4 ∷ None ∷ []) (number 5) (1 ∷ 0 ∷ []), fault DiscountedOnEachChoice 0 1) ∷
-  (says Max wait (some 2 ∷ some 5 ∷ []) (some 4 ∷ some 7 ∷ []) (number 5) (1 ∷ 0 ∷ []), No (record { rule = RemainderIsGreatest; state = None; choice = None })) ∷ -- small remainder
-  (says Max wait (None ∷ None ∷ []) (None ∷ None ∷ []) (number 0) (2 ∷ 0 ∷ []), fault ChoiceExists 0 2) ∷ -- no choice
-  []
-)
+    -- to move on earns 7/2 by these upper values, which is more than 2
+    (says Max wait (some 2 ∷ some 5 ∷ []) (some 2 ∷ some 7 ∷ []) (number 7) (1 ∷ 0 ∷ []), fault DiscountedOnEachChoice 0 1) ∷
+    (says Max wait (some 4 ∷ some 5 ∷ []) (some 4 ∷ some 7 ∷ []) (number 7) (1 ∷ 0 ∷ []), fault DiscountedOnPolicy 0 1) ∷  -- lower high
+    -- a value doesn't stand on one that is missing
+    (says Max wait (some 2 ∷ some 5 ∷ []) (some 4 ∷ None ∷ []) (number 5) (1 ∷ 0 ∷ []), fault DiscountedOnEachChoice 0 1) ∷
+    (says Max wait (some 2 ∷ some 5 ∷ []) (some 4 ∷ some 7 ∷ []) (number 5) (1 ∷ 0 ∷ []), No (record { rule = RemainderIsGreatest; state = None; choice = None })) ∷  -- small remainder
+    (says Max wait (None ∷ None ∷ []) (None ∷ None ∷ []) (number 0) (2 ∷ 0 ∷ []), fault ChoiceExists 0 2) ∷  -- no choice
+    []
+    )
 unfolding gcd gcd_with_fuel of_int ratio neg_ℚ le_ℚ ◌+ℚ◌ ◌*ℚ◌ narrow narrow_ℚ written_add written_mul
 bounds_judged = refl

@@ -68,23 +68,23 @@ abbrev with-states : List ℕ → List ℕ
 with-states states = wait-with (codes "mdp-bounds 1") (codes "claim max discount \"-\" 1/2") (codes "init 0 2 inf") (codes "remainder 7") states
 
 texts-refused : AreEqual (
-  (outcome (wait-with (codes "mdp-bounds 2") (codes "claim max discount \"-\" 1/2") (codes "init 0 2 inf") (codes "remainder 7") wait-states), refused Version 1) ∷ -- another version
-  -- a factor is below 1
-  (outcome (with-claim (codes "claim max discount \"-\" 1")), refused Claim 2) ∷ -- factor one
-  (outcome (with-init (codes "init 4 2 inf")), refused Count 4) ∷ -- start past end
-  (outcome (with-init (codes "init 0 2")), refused Shape 4) ∷ -- start alone
-  -- a lower value that is missing is `-inf`, an upper one `inf`
-  (outcome (with-init (codes "init 0 inf inf")), refused Number 4) ∷ -- lower infinite
-  (outcome (with-init (codes "init 0 2 -inf")), refused Number 4) ∷ -- upper infinite
-  (outcome (wait-with (codes "mdp-bounds 1") (codes "claim max discount \"-\" 1/2") (codes "init 0 2 inf") (codes "remainder inf") wait-states), refused Number 5) ∷ -- remainder infinite
-  (outcome (with-states (line (codes "state 0 2 1"))), refused Shape 6) ∷ -- one value
-  (outcome (with-states (line (codes "state 1 2 inf 1"))), refused Count 6) ∷ -- another state
-  -- the lines of the states 2 and 3 could be one
-  -- shorter runs
-  (outcome (with-states (line (codes "state 0 2 inf 1") ++ line (codes "state 1 5 7 0") ++ line (codes "state 2 -inf inf 0") ++ line (codes "state 3 -inf inf 0"))), refused Run 9) ∷
-  (outcome (wait-text ++ 10 ∷ []), refused End 10) ∷ -- bytes behind
-  []
-)
+    (outcome (wait-with (codes "mdp-bounds 2") (codes "claim max discount \"-\" 1/2") (codes "init 0 2 inf") (codes "remainder 7") wait-states), refused Version 1) ∷  -- another version
+    -- a factor is below 1
+    (outcome (with-claim (codes "claim max discount \"-\" 1")), refused Claim 2) ∷  -- factor one
+    (outcome (with-init (codes "init 4 2 inf")), refused Count 4) ∷  -- start past end
+    (outcome (with-init (codes "init 0 2")), refused Shape 4) ∷  -- start alone
+    -- a lower value that is missing is `-inf`, an upper one `inf`
+    (outcome (with-init (codes "init 0 inf inf")), refused Number 4) ∷  -- lower infinite
+    (outcome (with-init (codes "init 0 2 -inf")), refused Number 4) ∷  -- upper infinite
+    (outcome (wait-with (codes "mdp-bounds 1") (codes "claim max discount \"-\" 1/2") (codes "init 0 2 inf") (codes "remainder inf") wait-states), refused Number 5) ∷  -- remainder infinite
+    (outcome (with-states (line (codes "state 0 2 1"))), refused Shape 6) ∷  -- one value
+    (outcome (with-states (line (codes "state 1 2 inf 1"))), refused Count 6) ∷  -- another state
+    -- the lines of the states 2 and 3 could be one
+    -- shorter runs
+    (outcome (with-states (line (codes "state 0 2 inf 1") ++ line (codes "state 1 5 7 0") ++ line (codes "state 2 -inf inf 0") ++ line (codes "state 3 -inf inf 0"))), refused Run 9) ∷
+    (outcome (wait-text ++ 10 ∷ []), refused End 10) ∷  -- bytes behind
+    []
+    )
 unfolding outcome next_line whole_of whole_at frac_at claim_to claim_of claim_at words_behind states_at between_at init_at remainder_at head_from entry_at state_at run_at longest_at runs_from
     entries_from entries_to_end nothing_behind canonical_of of_int ratio gcd gcd_with_fuel le_ℚ lt_ℚ
 texts-refused = refl

@@ -38,26 +38,26 @@ unfolding gcd gcd_with_fuel of_int ratio neg_ℚ le_ℚ ◌+ℚ◌ ◌*ℚ◌ na
 half = refl
 
 greatest_judged : AreEqual (
-  -- the remainder is a magnitude: -10 is the farthest from 0
-  (says Max puterman (over 9 10) (number 1 ∷ minus 10 ∷ []) (number 10) (1 ∷ 0 ∷ []), Yes) ∷
-  (says Min puterman (over 1 2) (number 6 ∷ minus 2 ∷ []) (number 6) (0 ∷ 0 ∷ []), Yes) ∷ -- least
-  -- under factor 0 the values are the rewards
-  (says Max puterman (number 0) (number 10 ∷ minus 1 ∷ []) (number 10) (1 ∷ 0 ∷ []), Yes) ∷
-  []
-)
+    -- the remainder is a magnitude: -10 is the farthest from 0
+    (says Max puterman (over 9 10) (number 1 ∷ minus 10 ∷ []) (number 10) (1 ∷ 0 ∷ []), Yes) ∷
+    (says Min puterman (over 1 2) (number 6 ∷ minus 2 ∷ []) (number 6) (0 ∷ 0 ∷ []), Yes) ∷  -- least
+    -- under factor 0 the values are the rewards
+    (says Max puterman (number 0) (number 10 ∷ minus 1 ∷ []) (number 10) (1 ∷ 0 ∷ []), Yes) ∷
+    []
+    )
 unfolding gcd gcd_with_fuel of_int ratio neg_ℚ le_ℚ ◌+ℚ◌ ◌*ℚ◌ narrow narrow_ℚ written_add written_mul written_compare
 greatest_judged = refl
 
 -- ---- what is refused
 
 least_judged : AreEqual (
-  -- to wait for ever earns 2; to move on earns 3
-  (says Max wait (over 1 2) (number 2 ∷ number 6 ∷ []) (number 6) (0 ∷ 0 ∷ []), No (record { rule = DiscountedOnEachChoice; state = Some 0; choice = Some 1 })) ∷
-  (says Max wait (over 1 2) (number 4 ∷ number 6 ∷ []) (number 6) (1 ∷ 0 ∷ []), No (record { rule = DiscountedOnPolicy; state = Some 0; choice = Some 1 })) ∷ -- too much
-  (says Max wait (over 1 2) (number 3 ∷ number 6 ∷ []) (number 5) (1 ∷ 0 ∷ []), No (record { rule = RemainderIsGreatest; state = None; choice = None })) ∷ -- small remainder
-  (says Max puterman (over 9 10) (number 1 ∷ minus 10 ∷ []) (number 1) (1 ∷ 0 ∷ []), No (record { rule = RemainderIsGreatest; state = None; choice = None })) ∷ -- greatest value
-  (says Max wait (over 1 2) (number 3 ∷ number 6 ∷ []) (number 6) (2 ∷ 0 ∷ []), No (record { rule = ChoiceExists; state = Some 0; choice = Some 2 })) ∷ -- no choice
-  []
-)
+    -- to wait for ever earns 2; to move on earns 3
+    (says Max wait (over 1 2) (number 2 ∷ number 6 ∷ []) (number 6) (0 ∷ 0 ∷ []), No (record { rule = DiscountedOnEachChoice; state = Some 0; choice = Some 1 })) ∷
+    (says Max wait (over 1 2) (number 4 ∷ number 6 ∷ []) (number 6) (1 ∷ 0 ∷ []), No (record { rule = DiscountedOnPolicy; state = Some 0; choice = Some 1 })) ∷  -- too much
+    (says Max wait (over 1 2) (number 3 ∷ number 6 ∷ []) (number 5) (1 ∷ 0 ∷ []), No (record { rule = RemainderIsGreatest; state = None; choice = None })) ∷  -- small remainder
+    (says Max puterman (over 9 10) (number 1 ∷ minus 10 ∷ []) (number 1) (1 ∷ 0 ∷ []), No (record { rule = RemainderIsGreatest; state = None; choice = None })) ∷  -- greatest value
+    (says Max wait (over 1 2) (number 3 ∷ number 6 ∷ []) (number 6) (2 ∷ 0 ∷ []), No (record { rule = ChoiceExists; state = Some 0; choice = Some 2 })) ∷  -- no choice
+    []
+    )
 unfolding gcd gcd_with_fuel of_int ratio neg_ℚ le_ℚ ◌+ℚ◌ ◌*ℚ◌ narrow narrow_ℚ written_add written_mul written_compare
 least_judged = refl

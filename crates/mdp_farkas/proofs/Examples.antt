@@ -29,11 +29,11 @@ unfolding gcd gcd_with_fuel ratio of_int lt_ℚ ◌+ℚ◌ ◌*ℚ◌ narrow nar
 loop_alone = refl
 
 reach_verdicts : AreEqual (
-  (verdict_of (reach_checks Max split split_goals (third ∷ one ∷ nought ∷ []) (1 ∷ 0 ∷ 0 ∷ []) (1 ∷ 0 ∷ 0 ∷ [])), Yes) ∷ -- greatest
-  -- the second choice would do better
-  (verdict_of (reach_checks Max split split_goals (nought ∷ one ∷ nought ∷ []) (0 ∷ 0 ∷ 0 ∷ []) (0 ∷ 0 ∷ 0 ∷ [])), fault ValueOnEachChoice 0 (Some 1)) ∷
-  []
-)
+    (verdict_of (reach_checks Max split split_goals (third ∷ one ∷ nought ∷ []) (1 ∷ 0 ∷ 0 ∷ []) (1 ∷ 0 ∷ 0 ∷ [])), Yes) ∷  -- greatest
+    -- the second choice would do better
+    (verdict_of (reach_checks Max split split_goals (nought ∷ one ∷ nought ∷ []) (0 ∷ 0 ∷ 0 ∷ []) (0 ∷ 0 ∷ 0 ∷ [])), fault ValueOnEachChoice 0 (Some 1)) ∷
+    []
+    )
 unfolding gcd gcd_with_fuel ratio of_int lt_ℚ ◌+ℚ◌ ◌*ℚ◌ narrow narrow_ℚ written_add written_mul written_compare
 reach_verdicts = refl
 
@@ -67,12 +67,12 @@ unfolding gcd gcd_with_fuel ratio of_int ◌+ℚ◌ ◌*ℚ◌ narrow narrow_ℚ
 no_upper = refl
 
 upper_verdicts : AreEqual (
-  (verdict_of (upper_checks split split_goals (one ∷ third ∷ nought ∷ [])), fault GoalValue 1 None) ∷ -- goal below one
-  (verdict_of (upper_checks split split_goals (ratio (pos 3) 2 ∷ one ∷ nought ∷ [])), fault Probability 0 None) ∷ -- above one
-  -- a product of the row has the denominator 3(2^126 + 1), which is past width: its place is said, before any rule that is false
-  (verdict_of (upper_checks split split_goals (one ∷ one ∷ ratio (pos 1) (2 ^ 126 + 1) ∷ [])), Wide (Some 0) (Some 1)) ∷
-  []
-)
+    (verdict_of (upper_checks split split_goals (one ∷ third ∷ nought ∷ [])), fault GoalValue 1 None) ∷  -- goal below one
+    (verdict_of (upper_checks split split_goals (ratio (pos 3) 2 ∷ one ∷ nought ∷ [])), fault Probability 0 None) ∷  -- above one
+    -- a product of the row has the denominator 3(2^126 + 1), which is past width: its place is said, before any rule that is false
+    (verdict_of (upper_checks split split_goals (one ∷ one ∷ ratio (pos 1) (2 ^ 126 + 1) ∷ [])), Wide (Some 0) (Some 1)) ∷
+    []
+    )
 unfolding gcd gcd_with_fuel ratio of_int ◌+ℚ◌ ◌*ℚ◌ narrow narrow_ℚ written_add written_mul written_compare
 upper_verdicts = refl
 

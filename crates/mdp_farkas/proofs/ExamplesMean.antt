@@ -23,6 +23,10 @@ use Rattle.mdp_claims.specs.declared.rule.Rule.{Rule}
 abbrev turns : Mdp
 turns = model (state (to 1 (number 1) ∷ []) ∷ state (to 0 (number 0) ∷ []) ∷ [])
 
+-- two states that are left nowhere
+abbrev apart : Mdp
+apart = model (state (to 0 (number 0) ∷ []) ∷ state (to 1 (number 0) ∷ []) ∷ [])
+
 abbrev two : ℚ → ℚ → List ℚ
 two x y = x ∷ y ∷ []
 
@@ -30,11 +34,11 @@ abbrev fault : Rule → Option ℕ → Option ℕ → Verdict
 fault rule s choice = No (record { rule = rule; state = s; choice = choice })
 
 turning_verdicts : AreEqual (
-  -- both directions: there is nothing to choose
-  (verdict_of (mean_checks Max turns 0 (two (over 1 2) (over 1 2)) (two (number 0) (minus 1 2)) (two (number 0) (minus 1 2)) (over 1 2) (0 ∷ 0 ∷ [])), Yes) ∷
-  (verdict_of (mean_checks Min turns 0 (two (over 1 2) (over 1 2)) (two (number 0) (minus 1 2)) (two (number 0) (minus 1 2)) (over 1 2) (0 ∷ 0 ∷ [])), Yes) ∷ -- least turns
-  []
-)
+    -- both directions: there is nothing to choose
+    (verdict_of (mean_checks Max turns 0 (two (over 1 2) (over 1 2)) (two (number 0) (minus 1 2)) (two (number 0) (minus 1 2)) (over 1 2) (0 ∷ 0 ∷ [])), Yes) ∷
+    (verdict_of (mean_checks Min turns 0 (two (over 1 2) (over 1 2)) (two (number 0) (minus 1 2)) (two (number 0) (minus 1 2)) (over 1 2) (0 ∷ 0 ∷ [])), Yes) ∷  -- least turns
+    []
+    )
 unfolding gcd gcd_with_fuel ratio of_int neg_ℚ ◌+ℚ◌ ◌*ℚ◌ narrow narrow_ℚ written_add written_mul written_compare
 turning_verdicts = refl
 
@@ -50,10 +54,10 @@ gambling gain bias choice =
     verdict_of (mean_checks Max gamble 0 (gain ∷ number 4 ∷ number 0 ∷ []) (number 0 ∷ number 0 ∷ number 0 ∷ []) (bias ∷ number 0 ∷ number 0 ∷ []) (number 2) (choice ∷ 0 ∷ 0 ∷ []))
 
 gambling_verdicts : AreEqual (
-  (gambling (number 2) (minus 2 1) 1, Yes) ∷ -- gambles
-  (gambling (number 2) (minus 2 1) 2, fault ChoiceExists (Some 0) (Some 2)) ∷ -- no such choice
-  []
-)
+    (gambling (number 2) (minus 2 1) 1, Yes) ∷  -- gambles
+    (gambling (number 2) (minus 2 1) 2, fault ChoiceExists (Some 0) (Some 2)) ∷  -- no such choice
+    []
+    )
 unfolding gcd gcd_with_fuel ratio of_int neg_ℚ ◌+ℚ◌ ◌*ℚ◌ narrow narrow_ℚ written_add written_mul written_compare
 gambling_verdicts = refl
 
@@ -75,17 +79,19 @@ unfolding gcd gcd_with_fuel ratio of_int neg_ℚ ◌+ℚ◌ ◌*ℚ◌ narrow na
 stays = refl
 
 mean_verdicts : AreEqual (
-  -- to leave earns 4 more once, which the bound takes up and the bias doesn't
-  (verdict_of (mean_checks Max leave 0 (two (number 1) (number 1)) (two (number 4) (number 0)) (two (number 0) (number 0)) (number 4) (0 ∷ 0 ∷ [])), Yes) ∷
-  -- no bound
-  (verdict_of (mean_checks Max leave 0 (two (number 1) (number 1)) (two (number 0) (number 0)) (two (number 0) (number 0)) (number 0) (0 ∷ 0 ∷ [])), fault BoundOnEachChoice (Some 0) (Some 1)) ∷
-  -- rewards below 0
-  (verdict_of (mean_checks Max pay 0 (two (minus 1 2) (minus 1 2)) (two (number 0) (number 0)) (two (minus 9 2) (number 0)) (over 9 2) (1 ∷ 0 ∷ [])), Yes) ∷
-  -- two states that are left nowhere: the bounds' range has the denominator 3(2^126 + 1), which is past width and has no place
-  ( verdict_of (mean_checks Max (model (state (to 0 (number 0) ∷ []) ∷ state (to 1 (number 0) ∷ []) ∷ [])) 0 (two (number 0) (number 0)) (two (over 1 3) (over 1 (2 ^ 126 + 1))) (two (number 0) (number 0)) (number 0) (0 ∷ 0 ∷ [])),
-   Wide None None) ∷
-  []
-)
+    -- to leave earns 4 more once, which the bound takes up and the bias doesn't
+    (verdict_of (mean_checks Max leave 0 (two (number 1) (number 1)) (two (number 4) (number 0)) (two (number 0) (number 0)) (number 4) (0 ∷ 0 ∷ [])), Yes) ∷
+    -- no bound
+    (verdict_of (mean_checks Max leave 0 (two (number 1) (number 1)) (two (number 0) (number 0)) (two (number 0) (number 0)) (number 0) (0 ∷ 0 ∷ [])), fault BoundOnEachChoice (Some 0) (Some 1)) ∷
+    -- rewards below 0
+    (verdict_of (mean_checks Max pay 0 (two (minus 1 2) (minus 1 2)) (two (number 0) (number 0)) (two (minus 9 2) (number 0)) (over 9 2) (1 ∷ 0 ∷ [])), Yes) ∷
+    -- two states that are left nowhere: the bounds' range has the denominator 3(2^126 + 1), which is past width and has no place
+    (
+      verdict_of (mean_checks Max apart 0 (two (number 0) (number 0)) (two (over 1 3) (over 1 (2 ^ 126 + 1))) (two (number 0) (number 0)) (number 0) (0 ∷ 0 ∷ [])),
+      Wide None None,
+    ) ∷
+    []
+    )
 unfolding gcd gcd_with_fuel ratio of_int neg_ℚ ◌+ℚ◌ ◌*ℚ◌ narrow narrow_ℚ written_add written_mul written_compare
 mean_verdicts = refl
 

@@ -88,23 +88,23 @@ unfolding gcd gcd_with_fuel ratio of_int ◌+ℚ◌ ◌*ℚ◌ narrow narrow_ℚ
 may_arrive = refl
 
 reward_verdicts : AreEqual (
-  -- what is left nowhere has no finite reward, and the least reward at 0 leads past it
-  (verdict_of (reward_checks Min trap 0 third (value 4 ∷ None ∷ value 0 ∷ []) (1 ∷ 0 ∷ 0 ∷ []) (1 ∷ 1 ∷ 0 ∷ [])), Yes) ∷
-  (verdict_of (reward_checks Min trap 0 third (value 4 ∷ None ∷ value 0 ∷ []) (0 ∷ 0 ∷ 0 ∷ []) (1 ∷ 1 ∷ 0 ∷ [])), fault FiniteTargets 0 (Some 0)) ∷ -- into the trap
-  -- for the greatest reward no choice may lead there
-  (verdict_of (reward_checks Max trap 0 third (value 4 ∷ None ∷ value 0 ∷ []) (1 ∷ 0 ∷ 0 ∷ []) (1 ∷ 0 ∷ 0 ∷ [])), fault FiniteTargets 0 (Some 0)) ∷
-  (verdict_of (reward_checks Max trap 0 third (None ∷ None ∷ value 0 ∷ []) (0 ∷ 0 ∷ 0 ∷ []) (1 ∷ 0 ∷ 0 ∷ [])), Yes) ∷ -- trapped
-  -- a goal has the value 0 and rank 0
-  (verdict_of (reward_checks Max arrived 0 (true ∷ []) (value 1 ∷ []) (0 ∷ []) (0 ∷ [])), fault RewardValue 0 None) ∷
-  (verdict_of (reward_checks Max arrived 0 (true ∷ []) (None ∷ []) (0 ∷ []) (0 ∷ [])), fault RewardValue 0 None) ∷ -- infinite goal
-  (verdict_of (reward_checks Max arrived 0 (true ∷ []) (value 0 ∷ []) (0 ∷ []) (1 ∷ [])), fault RewardValue 0 None) ∷ -- goal rank
-  (verdict_of (reward_checks Max arrived 0 (false ∷ []) (Some (of_int (negsuc 0)) ∷ []) (0 ∷ []) (0 ∷ [])), fault RewardValue 0 None) ∷ -- below zero
-  -- a reward below 0, though no path earns it
-  (verdict_of (reward_checks Max loss 0 second (value 0 ∷ value 0 ∷ []) (0 ∷ 0 ∷ []) (1 ∷ 0 ∷ [])), fault RewardNotNegative 1 (Some 0)) ∷
-  -- a sum has the denominator 3(2^126 + 1), which is past width: its place is said, before any rule that is false
-  (verdict_of (reward_checks Max (model (state (to 0 (ratio (pos 1) 3) ∷ []) ∷ [])) 0 (false ∷ []) (Some (ratio (pos 1) (2 ^ 126 + 1)) ∷ []) (0 ∷ []) (0 ∷ [])), Wide (Some 0) (Some 0)) ∷
-  []
-)
+    -- what is left nowhere has no finite reward, and the least reward at 0 leads past it
+    (verdict_of (reward_checks Min trap 0 third (value 4 ∷ None ∷ value 0 ∷ []) (1 ∷ 0 ∷ 0 ∷ []) (1 ∷ 1 ∷ 0 ∷ [])), Yes) ∷
+    (verdict_of (reward_checks Min trap 0 third (value 4 ∷ None ∷ value 0 ∷ []) (0 ∷ 0 ∷ 0 ∷ []) (1 ∷ 1 ∷ 0 ∷ [])), fault FiniteTargets 0 (Some 0)) ∷  -- into the trap
+    -- for the greatest reward no choice may lead there
+    (verdict_of (reward_checks Max trap 0 third (value 4 ∷ None ∷ value 0 ∷ []) (1 ∷ 0 ∷ 0 ∷ []) (1 ∷ 0 ∷ 0 ∷ [])), fault FiniteTargets 0 (Some 0)) ∷
+    (verdict_of (reward_checks Max trap 0 third (None ∷ None ∷ value 0 ∷ []) (0 ∷ 0 ∷ 0 ∷ []) (1 ∷ 0 ∷ 0 ∷ [])), Yes) ∷  -- trapped
+    -- a goal has the value 0 and rank 0
+    (verdict_of (reward_checks Max arrived 0 (true ∷ []) (value 1 ∷ []) (0 ∷ []) (0 ∷ [])), fault RewardValue 0 None) ∷
+    (verdict_of (reward_checks Max arrived 0 (true ∷ []) (None ∷ []) (0 ∷ []) (0 ∷ [])), fault RewardValue 0 None) ∷  -- infinite goal
+    (verdict_of (reward_checks Max arrived 0 (true ∷ []) (value 0 ∷ []) (0 ∷ []) (1 ∷ [])), fault RewardValue 0 None) ∷  -- goal rank
+    (verdict_of (reward_checks Max arrived 0 (false ∷ []) (Some (of_int (negsuc 0)) ∷ []) (0 ∷ []) (0 ∷ [])), fault RewardValue 0 None) ∷  -- below zero
+    -- a reward below 0, though no path earns it
+    (verdict_of (reward_checks Max loss 0 second (value 0 ∷ value 0 ∷ []) (0 ∷ 0 ∷ []) (1 ∷ 0 ∷ [])), fault RewardNotNegative 1 (Some 0)) ∷
+    -- a sum has the denominator 3(2^126 + 1), which is past width: its place is said, before any rule that is false
+    (verdict_of (reward_checks Max (model (state (to 0 (ratio (pos 1) 3) ∷ []) ∷ [])) 0 (false ∷ []) (Some (ratio (pos 1) (2 ^ 126 + 1)) ∷ []) (0 ∷ []) (0 ∷ [])), Wide (Some 0) (Some 0)) ∷
+    []
+    )
 unfolding gcd gcd_with_fuel ratio of_int ◌+ℚ◌ ◌*ℚ◌ narrow narrow_ℚ written_add written_mul written_compare
 reward_verdicts = refl
 

@@ -41,17 +41,17 @@ no_words = refl
 
 -- the number of words is judged before the row rule
 checks : Asks (
-  (codes "visit m exact c", Err Command) ∷
-  (codes "check m EXACT", Err Number) ∷
-  (codes "check m EXACT c", Err Rows) ∷
-  (codes "check m scaled c", Ok (check Scaled)) ∷
-  (codes "discount-check m scaled c", Ok (discount_check Scaled)) ∷
-  (codes "discount-check m exact c d", Err Number) ∷
-  (codes "bounds-check m exact c", Ok (bounds_check Exact)) ∷
-  (codes "bounds-check m EXACT", Err Number) ∷
-  (codes "bounds-check m EXACT c", Err Rows) ∷
-  []
-)
+    (codes "visit m exact c", Err Command) ∷
+    (codes "check m EXACT", Err Number) ∷
+    (codes "check m EXACT c", Err Rows) ∷
+    (codes "check m scaled c", Ok (check Scaled)) ∷
+    (codes "discount-check m scaled c", Ok (discount_check Scaled)) ∷
+    (codes "discount-check m exact c d", Err Number) ∷
+    (codes "bounds-check m exact c", Ok (bounds_check Exact)) ∷
+    (codes "bounds-check m EXACT", Err Number) ∷
+    (codes "bounds-check m EXACT c", Err Rows) ∷
+    []
+    )
 checks = refl
 
 -- the files of a check are its first and its third word
@@ -67,21 +67,21 @@ no_second = refl
 -- ---- `solve`: fewer than five words, the row rule, the direction, the objective, and its number of words, in this order
 
 solves : Asks (
-  (codes "solve m EXACT best", Err Number) ∷
-  (codes "solve m EXACT best reach goal", Err Rows) ∷
-  (codes "solve m exact best reach goal", Err Direction) ∷
-  (codes "solve m exact max visit", Err Objective) ∷
-  (codes "solve m exact max reach", Err Number) ∷
-  (codes "solve m scaled max reach goal", Ok (solve Scaled Max (reach (codes "goal")))) ∷
-  -- a reward has a name and a label
-  (codes "solve m exact max reward -", Err Number) ∷
-  (codes "solve m exact max reward - goal", Ok (solve Exact Max (reward (codes "-") (codes "goal")))) ∷
-  -- a mean payoff has a name alone
-  (codes "solve m exact max mean -", Ok (solve Exact Max (mean (codes "-")))) ∷
-  (codes "solve m exact max mean - goal", Err Number) ∷
-  (codes "solve m exact max mean", Err Number) ∷
-  []
-)
+    (codes "solve m EXACT best", Err Number) ∷
+    (codes "solve m EXACT best reach goal", Err Rows) ∷
+    (codes "solve m exact best reach goal", Err Direction) ∷
+    (codes "solve m exact max visit", Err Objective) ∷
+    (codes "solve m exact max reach", Err Number) ∷
+    (codes "solve m scaled max reach goal", Ok (solve Scaled Max (reach (codes "goal")))) ∷
+    -- a reward has a name and a label
+    (codes "solve m exact max reward -", Err Number) ∷
+    (codes "solve m exact max reward - goal", Ok (solve Exact Max (reward (codes "-") (codes "goal")))) ∷
+    -- a mean payoff has a name alone
+    (codes "solve m exact max mean -", Ok (solve Exact Max (mean (codes "-")))) ∷
+    (codes "solve m exact max mean - goal", Err Number) ∷
+    (codes "solve m exact max mean", Err Number) ∷
+    []
+    )
 solves = refl
 
 -- a label may have a blank
@@ -91,109 +91,109 @@ blank_label = refl
 -- ---- `drill`: numbers of at most 20 digits below 2^64, 1 to 100 layers, at most 2^20 - 2 states in them
 
 drills : Asks (
-  (codes "drill 007 40 100", Ok (drill 7 40 100)) ∷
-  (codes "drill 18446744073709551615 1 1048574", Ok (drill 18446744073709551615 1 1048574)) ∷
-  (codes "drill 18446744073709551616 1 1", Err Drill) ∷
-  (codes "drill 000000000000000000001 1 1", Err Drill) ∷
-  (codes "drill +7 1 1", Err Drill) ∷
-  (codes "drill 7 0 2", Err Drill) ∷
-  (codes "drill 7 101 1", Err Drill) ∷
-  (codes "drill 7 2 524288", Err Drill) ∷
-  (codes "drill 7 2", Err Number) ∷
-  []
-)
+    (codes "drill 007 40 100", Ok (drill 7 40 100)) ∷
+    (codes "drill 18446744073709551615 1 1048574", Ok (drill 18446744073709551615 1 1048574)) ∷
+    (codes "drill 18446744073709551616 1 1", Err Drill) ∷
+    (codes "drill 000000000000000000001 1 1", Err Drill) ∷
+    (codes "drill +7 1 1", Err Drill) ∷
+    (codes "drill 7 0 2", Err Drill) ∷
+    (codes "drill 7 101 1", Err Drill) ∷
+    (codes "drill 7 2 524288", Err Drill) ∷
+    (codes "drill 7 2", Err Number) ∷
+    []
+    )
 drills = refl
 
 -- ---- `horizon`: the row rule, the direction, then the steps; with the word `reward` in the place of a label, the total of a reward
 
 horizons : Asks (
-  (codes "horizon m exact max - goal 2", Ok (horizon Exact Max None (codes "goal") 2)) ∷
-  (codes "horizon m exact max safe goal 9999999", Ok (horizon Exact Max (Some (codes "safe")) (codes "goal") 9999999)) ∷
-  (codes "horizon m exact best - goal x", Err Direction) ∷
-  (codes "horizon m exact max - goal 00000001", Err Steps) ∷
-  -- an empty word
-  (codes "horizon m exact max - goal ", Err Steps) ∷
-  (codes "horizon m exact max reward cost 30", Ok (horizon_reward Exact Max (codes "cost") 30)) ∷
-  (codes "horizon m exact max reward cost 12345678", Err Steps) ∷
-  []
-)
+    (codes "horizon m exact max - goal 2", Ok (horizon Exact Max None (codes "goal") 2)) ∷
+    (codes "horizon m exact max safe goal 9999999", Ok (horizon Exact Max (Some (codes "safe")) (codes "goal") 9999999)) ∷
+    (codes "horizon m exact best - goal x", Err Direction) ∷
+    (codes "horizon m exact max - goal 00000001", Err Steps) ∷
+    -- an empty word
+    (codes "horizon m exact max - goal ", Err Steps) ∷
+    (codes "horizon m exact max reward cost 30", Ok (horizon_reward Exact Max (codes "cost") 30)) ∷
+    (codes "horizon m exact max reward cost 12345678", Err Steps) ∷
+    []
+    )
 horizons = refl
 
 -- ---- `policy`: the number of words, the row rule, then the objective; `chain`: the number of words, then the row rule
 
 policies : Asks (
-  (codes "policy m exact p reach goal", Ok (policy Exact (codes "goal"))) ∷
-  (codes "policy m EXACT p visit", Err Number) ∷
-  (codes "policy m EXACT p visit goal", Err Rows) ∷
-  (codes "policy m exact p reward goal", Err Objective) ∷
-  (codes "chain m scaled p", Ok (chain Scaled)) ∷
-  (codes "chain m EXACT p reach", Err Number) ∷
-  (codes "chain m EXACT p", Err Rows) ∷
-  []
-)
+    (codes "policy m exact p reach goal", Ok (policy Exact (codes "goal"))) ∷
+    (codes "policy m EXACT p visit", Err Number) ∷
+    (codes "policy m EXACT p visit goal", Err Rows) ∷
+    (codes "policy m exact p reward goal", Err Objective) ∷
+    (codes "chain m scaled p", Ok (chain Scaled)) ∷
+    (codes "chain m EXACT p reach", Err Number) ∷
+    (codes "chain m EXACT p", Err Rows) ∷
+    []
+    )
 policies = refl
 
 -- ---- `witness`: the number of words, the row rule, the direction, then the threshold, which may be above 1
 
 witnesses : Asks (
-  (codes "witness m exact min goal 0.50", Ok (witness Exact Min (codes "goal") (ratio (pos 1) 2))) ∷
-  (codes "witness m scaled max goal 2", Ok (witness Scaled Max (codes "goal") (ratio (pos 2) 1))) ∷
-  (codes "witness m exact max goal -1/2", Err Threshold) ∷
-  (codes "witness m exact best goal half", Err Direction) ∷
-  (codes "witness m EXACT best goal", Err Number) ∷
-  []
-)
+    (codes "witness m exact min goal 0.50", Ok (witness Exact Min (codes "goal") (ratio (pos 1) 2))) ∷
+    (codes "witness m scaled max goal 2", Ok (witness Scaled Max (codes "goal") (ratio (pos 2) 1))) ∷
+    (codes "witness m exact max goal -1/2", Err Threshold) ∷
+    (codes "witness m exact best goal half", Err Direction) ∷
+    (codes "witness m EXACT best goal", Err Number) ∷
+    []
+    )
 unfolding numeral_of parts_of ratio gcd gcd_with_fuel
 witnesses = refl
 
 -- ---- `discount`: the number of words, the row rule, the direction, then the factor, at least 0 and below 1
 
 discounts : Asks (
-  (codes "discount m exact max - 0.50", Ok (discount Exact Max (codes "-") (ratio (pos 1) 2))) ∷
-  (codes "discount m exact max energy 0", Ok (discount Exact Max (codes "energy") (ratio (pos 0) 1))) ∷
-  (codes "discount m exact max - 1", Err Factor) ∷
-  (codes "discount m exact max - -1/2", Err Factor) ∷
-  (codes "discount m exact best - 2", Err Direction) ∷
-  (codes "discount m EXACT best -", Err Number) ∷
-  []
-)
+    (codes "discount m exact max - 0.50", Ok (discount Exact Max (codes "-") (ratio (pos 1) 2))) ∷
+    (codes "discount m exact max energy 0", Ok (discount Exact Max (codes "energy") (ratio (pos 0) 1))) ∷
+    (codes "discount m exact max - 1", Err Factor) ∷
+    (codes "discount m exact max - -1/2", Err Factor) ∷
+    (codes "discount m exact best - 2", Err Direction) ∷
+    (codes "discount m EXACT best -", Err Number) ∷
+    []
+    )
 unfolding numeral_of parts_of lt_ℚ ratio of_int gcd gcd_with_fuel
 discounts = refl
 
 -- ---- `bounds`: six words at least, the row rule, the direction, the objective, its number of words, then the digits, 1 to 30
 
 bounds_asked : Asks (
-  (codes "bounds m exact min reach goal 12", Ok (bounds Exact Min (reach (codes "goal")) 12)) ∷
-  (codes "bounds m scaled max reach goal 30", Ok (bounds Scaled Max (reach (codes "goal")) 30)) ∷
-  (codes "bounds m exact max reach goal 31", Err Digits) ∷
-  (codes "bounds m exact max reach goal 0", Err Digits) ∷
-  (codes "bounds m exact max reach goal 06", Err Digits) ∷
-  (codes "bounds m EXACT best visit goal", Err Number) ∷
-  (codes "bounds m EXACT best visit goal 0", Err Rows) ∷
-  (codes "bounds m exact best visit goal 0", Err Direction) ∷
-  (codes "bounds m exact max visit - goal 0", Err Objective) ∷
-  (codes "bounds m exact max reach goal 0 1", Err Number) ∷
-  -- a reward has a name and a label before the digits, a mean payoff a name alone
-  (codes "bounds m exact max reward - goal 6", Ok (bounds Exact Max (reward (codes "-") (codes "goal")) 6)) ∷
-  (codes "bounds m exact max reward goal 0", Err Number) ∷
-  (codes "bounds m exact max reward - goal 0", Err Digits) ∷
-  (codes "bounds m exact min mean - 6", Ok (bounds Exact Min (mean (codes "-")) 6)) ∷
-  (codes "bounds m exact min mean - goal 0", Err Number) ∷
-  []
-)
+    (codes "bounds m exact min reach goal 12", Ok (bounds Exact Min (reach (codes "goal")) 12)) ∷
+    (codes "bounds m scaled max reach goal 30", Ok (bounds Scaled Max (reach (codes "goal")) 30)) ∷
+    (codes "bounds m exact max reach goal 31", Err Digits) ∷
+    (codes "bounds m exact max reach goal 0", Err Digits) ∷
+    (codes "bounds m exact max reach goal 06", Err Digits) ∷
+    (codes "bounds m EXACT best visit goal", Err Number) ∷
+    (codes "bounds m EXACT best visit goal 0", Err Rows) ∷
+    (codes "bounds m exact best visit goal 0", Err Direction) ∷
+    (codes "bounds m exact max visit - goal 0", Err Objective) ∷
+    (codes "bounds m exact max reach goal 0 1", Err Number) ∷
+    -- a reward has a name and a label before the digits, a mean payoff a name alone
+    (codes "bounds m exact max reward - goal 6", Ok (bounds Exact Max (reward (codes "-") (codes "goal")) 6)) ∷
+    (codes "bounds m exact max reward goal 0", Err Number) ∷
+    (codes "bounds m exact max reward - goal 0", Err Digits) ∷
+    (codes "bounds m exact min mean - 6", Ok (bounds Exact Min (mean (codes "-")) 6)) ∷
+    (codes "bounds m exact min mean - goal 0", Err Number) ∷
+    []
+    )
 bounds_asked = refl
 
 -- a deadline or a factor comes before the digits, and has its own refusal
 bounds_within : Asks (
-  (codes "bounds m exact max until - goal 100 9", Ok (bounds_until Exact Max None (codes "goal") 100 9)) ∷
-  (codes "bounds m exact max until - x 0", Err Number) ∷
-  (codes "bounds m exact max until - goal x 0", Err Steps) ∷
-  (codes "bounds m exact min total cost 7 9", Ok (bounds_total Exact Min (codes "cost") 7 9)) ∷
-  (codes "bounds m exact max total - 7 0", Err Digits) ∷
-  (codes "bounds m exact max discount - 0.50 9", Ok (bounds_discount Exact Max (codes "-") (ratio (pos 1) 2) 9)) ∷
-  (codes "bounds m exact max discount - 1 0", Err Factor) ∷
-  []
-)
+    (codes "bounds m exact max until - goal 100 9", Ok (bounds_until Exact Max None (codes "goal") 100 9)) ∷
+    (codes "bounds m exact max until - x 0", Err Number) ∷
+    (codes "bounds m exact max until - goal x 0", Err Steps) ∷
+    (codes "bounds m exact min total cost 7 9", Ok (bounds_total Exact Min (codes "cost") 7 9)) ∷
+    (codes "bounds m exact max total - 7 0", Err Digits) ∷
+    (codes "bounds m exact max discount - 0.50 9", Ok (bounds_discount Exact Max (codes "-") (ratio (pos 1) 2) 9)) ∷
+    (codes "bounds m exact max discount - 1 0", Err Factor) ∷
+    []
+    )
 unfolding numeral_of parts_of lt_ℚ ratio of_int gcd gcd_with_fuel
 bounds_within = refl
 

@@ -117,7 +117,7 @@ not_lowest = ap (λ (g : ℕ). cond (false || not (eqb g 1)) None (Some (ratio (
 -- not canonical: a sign of 0, a plus, a 0 in front, a denominator of 1 or of 0, a number past 127 bits, and nothing
 not_canonical :
     map canonical_of (
-      codes "-0" ∷ codes "+1" ∷ codes "01" ∷ codes "1/1" ∷ codes "1/0" ∷ codes "170141183460469231731687303715884105728" ∷ [] ∷ []
+    codes "-0" ∷ codes "+1" ∷ codes "01" ∷ codes "1/1" ∷ codes "1/0" ∷ codes "170141183460469231731687303715884105728" ∷ [] ∷ []
     ) ≡ replicate 7 None
 unfolding canonical_of
 not_canonical = refl

@@ -105,19 +105,19 @@ unfolding policy_text digits
 text = refl
 
 reads : AreEqual (
-  (policy_outcome (front ++ codes "choose 2 0\nend\n"), Ok (1 ∷ 0 ∷ 0 ∷ [])) ∷ -- whole
-  (policy_outcome (front ++ codes "choose 2 0\n"), refused End 6) ∷ -- no end
-  (policy_outcome (front ++ codes "choose 2 0\nend\n\n"), refused End 7) ∷ -- more
-  (policy_outcome (front ++ codes "choose 2 0\nend"), refused End 6) ∷ -- cut
-  (policy_outcome (front ++ codes "end\n"), refused Shape 5) ∷ -- fewer
-  (policy_outcome (front ++ codes "choose 2 0\nchoose 3 0\nend\n"), refused Shape 6) ∷ -- more states
-  (policy_outcome (front ++ codes "choose 1 0\nend\n"), refused Count 5) ∷ -- order
-  (policy_outcome (front ++ codes "choose 2 00\nend\n"), refused Number 5) ∷ -- number
-  (policy_outcome (front ++ codes "choose x 0\nend\n"), refused Number 5) ∷ -- state first
-  (policy_outcome (codes "mdp-policy 2\nstates 1\nchoose 0 0\nend\n"), refused Version 1) ∷ -- version
-  (policy_outcome (codes "mdp-policy 1\nstates 0\nend\n"), refused Count 2) ∷ -- none
-  (policy_outcome [], refused End 1) ∷ -- empty
-  []
-)
+    (policy_outcome (front ++ codes "choose 2 0\nend\n"), Ok (1 ∷ 0 ∷ 0 ∷ [])) ∷  -- whole
+    (policy_outcome (front ++ codes "choose 2 0\n"), refused End 6) ∷  -- no end
+    (policy_outcome (front ++ codes "choose 2 0\nend\n\n"), refused End 7) ∷  -- more
+    (policy_outcome (front ++ codes "choose 2 0\nend"), refused End 6) ∷  -- cut
+    (policy_outcome (front ++ codes "end\n"), refused Shape 5) ∷  -- fewer
+    (policy_outcome (front ++ codes "choose 2 0\nchoose 3 0\nend\n"), refused Shape 6) ∷  -- more states
+    (policy_outcome (front ++ codes "choose 1 0\nend\n"), refused Count 5) ∷  -- order
+    (policy_outcome (front ++ codes "choose 2 00\nend\n"), refused Number 5) ∷  -- number
+    (policy_outcome (front ++ codes "choose x 0\nend\n"), refused Number 5) ∷  -- state first
+    (policy_outcome (codes "mdp-policy 2\nstates 1\nchoose 0 0\nend\n"), refused Version 1) ∷  -- version
+    (policy_outcome (codes "mdp-policy 1\nstates 0\nend\n"), refused Count 2) ∷  -- none
+    (policy_outcome [], refused End 1) ∷  -- empty
+    []
+    )
 unfolding policy_outcome choose_at choices_from next_line whole_of whole_at words_behind states_at nothing_behind canonical_of ratio gcd gcd_with_fuel
 reads = refl

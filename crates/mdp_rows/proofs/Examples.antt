@@ -85,10 +85,10 @@ abbrev earns : ℚ → Mdp
 earns reward = record { names = cost ∷ []; labels = []; states = record { labels = []; choices = record { row = entry 0 one ∷ []; rewards = reward ∷ [] } ∷ [] } ∷ [] }
 
 sums_paid : AreEqual (
-  (paid half, Ok (earns 0ℚ)) ∷ -- half cancels
-  (paid 0ℚ, Ok (earns minus_half)) ∷ -- half below 0
-  []
-)
+    (paid half, Ok (earns 0ℚ)) ∷  -- half cancels
+    (paid 0ℚ, Ok (earns minus_half)) ∷  -- half below 0
+    []
+    )
 unfolding gcd gcd_with_fuel ratio of_int ◌+ℚ◌ le_ℚ narrow narrow_ℚ written_add
 sums_paid = refl
 
@@ -97,12 +97,12 @@ unfolding gcd gcd_with_fuel ratio of_int ◌+ℚ◌ le_ℚ narrow narrow_ℚ wri
 half-replayed = refl
 
 negative_sums : AreEqual (
-  (has_negative (earns minus_half) 0, true) ∷ -- below 0
-  (has_negative two 0, false) ∷ -- none below 0
-  -- 0 isn't below 0
-  (has_negative (earns 0ℚ) 0, false) ∷
-  []
-)
+    (has_negative (earns minus_half) 0, true) ∷  -- below 0
+    (has_negative two 0, false) ∷  -- none below 0
+    -- 0 isn't below 0
+    (has_negative (earns 0ℚ) 0, false) ∷
+    []
+    )
 unfolding gcd gcd_with_fuel ratio of_int lt_ℚ
 negative_sums = refl
 
@@ -196,39 +196,39 @@ abbrev three_of : ℚ → List Entry
 three_of x = entry 0 x ∷ entry 1 x ∷ entry 2 x ∷ []
 
 closed_rows : AreEqual (
-  -- 0.333333 three times adds to 0.999999
-  (closed_row Exact 0 0 (three_of near_third), Err (RowSum 0 0)) ∷
-  (closed_row Scaled 0 0 (three_of near_third), Ok (three_of third)) ∷ -- thirds scaled
-  -- 0.333 three times adds to 0.999, which is near enough, and 0.334 three times to 1.002, which isn't
-  (closed_row Scaled 0 0 (three_of (ratio (pos 333) 1000)), Ok (three_of third)) ∷
-  (closed_row Scaled 0 0 (three_of (ratio (pos 334) 1000)), Err (RowSum 0 0)) ∷ -- thirds past bound
-  -- no entry at all adds to 0
-  (closed_row Exact 3 1 [], Err (RowSum 3 1)) ∷
-  -- 1/10^36 and 1/(10^36 - 1) have no common denominator within the limit, and don't add to 1
-  (closed_row Exact 0 0 (entry 0 (ratio (pos 1) limit) ∷ entry 1 (ratio (pos 1) 999999999999999999999999999999999999) ∷ []), Err (RowWide 0 0)) ∷
-  -- 1/10^36 and 1 have one, but not 1/(10^36 + 1) and 10^36/(10^36 + 1)
-  (closed_row Scaled 0 0 (entry 0 (ratio (pos 1) limit) ∷ entry 1 one ∷ []), Err (RowWide 0 0)) ∷
-  []
-)
+    -- 0.333333 three times adds to 0.999999
+    (closed_row Exact 0 0 (three_of near_third), Err (RowSum 0 0)) ∷
+    (closed_row Scaled 0 0 (three_of near_third), Ok (three_of third)) ∷  -- thirds scaled
+    -- 0.333 three times adds to 0.999, which is near enough, and 0.334 three times to 1.002, which isn't
+    (closed_row Scaled 0 0 (three_of (ratio (pos 333) 1000)), Ok (three_of third)) ∷
+    (closed_row Scaled 0 0 (three_of (ratio (pos 334) 1000)), Err (RowSum 0 0)) ∷  -- thirds past bound
+    -- no entry at all adds to 0
+    (closed_row Exact 3 1 [], Err (RowSum 3 1)) ∷
+    -- 1/10^36 and 1/(10^36 - 1) have no common denominator within the limit, and don't add to 1
+    (closed_row Exact 0 0 (entry 0 (ratio (pos 1) limit) ∷ entry 1 (ratio (pos 1) 999999999999999999999999999999999999) ∷ []), Err (RowWide 0 0)) ∷
+    -- 1/10^36 and 1 have one, but not 1/(10^36 + 1) and 10^36/(10^36 + 1)
+    (closed_row Scaled 0 0 (entry 0 (ratio (pos 1) limit) ∷ entry 1 one ∷ []), Err (RowWide 0 0)) ∷
+    []
+    )
 unfolding gcd gcd_with_fuel ratio of_int ◌+ℚ◌ le_ℚ inv_ℚ ◌*ℚ◌
 closed_rows = refl
 
 -- ---- what the calls refuse
 
 rows_refused : AreEqual (
-  -- the second choice of state 1 ends the first, whose row adds to 2/3
-  ((draft 2 Exact >>= state 0ℚ >>= choice 0ℚ >>= add_entry 1 one >>= state 0ℚ >>= choice 0ℚ >>= add_entry 0 two_thirds >>= choice 0ℚ), Err (RowSum 1 0)) ∷
-  -- an entry of value 0 stands until its row ends
-  ((draft 2 Exact >>= state 0ℚ >>= choice 0ℚ >>= add_entry 1 0ℚ >>= add_entry 0 third >>= add_entry 1 two_thirds), Err Twice) ∷
-  ((draft 2 Exact >>= state 0ℚ >>= choice 0ℚ >>= add_entry 2 one), Err Target) ∷ -- past target
-  -- 10^36 and 1 add to more than 10^36
-  ((draft 1 Exact >>= state (of_int (pos limit)) >>= choice one), Err Large) ∷
-  -- the common denominator of 1/10^36 and 1/(10^36 - 1) is past width
-  ((draft 1 Exact >>= state (ratio (pos 1) limit) >>= choice (ratio (pos 1) 999999999999999999999999999999999999)), Err Large) ∷
-  -- and so do -10^36 and -1 in magnitude, while -10^36 and 0 stay
-  ((draft 1 Exact >>= state (of_int (neg_ℤ (pos limit))) >>= choice (of_int (neg_ℤ (pos 1)))), Err Large) ∷
-  []
-)
+    -- the second choice of state 1 ends the first, whose row adds to 2/3
+    ((draft 2 Exact >>= state 0ℚ >>= choice 0ℚ >>= add_entry 1 one >>= state 0ℚ >>= choice 0ℚ >>= add_entry 0 two_thirds >>= choice 0ℚ), Err (RowSum 1 0)) ∷
+    -- an entry of value 0 stands until its row ends
+    ((draft 2 Exact >>= state 0ℚ >>= choice 0ℚ >>= add_entry 1 0ℚ >>= add_entry 0 third >>= add_entry 1 two_thirds), Err Twice) ∷
+    ((draft 2 Exact >>= state 0ℚ >>= choice 0ℚ >>= add_entry 2 one), Err Target) ∷  -- past target
+    -- 10^36 and 1 add to more than 10^36
+    ((draft 1 Exact >>= state (of_int (pos limit)) >>= choice one), Err Large) ∷
+    -- the common denominator of 1/10^36 and 1/(10^36 - 1) is past width
+    ((draft 1 Exact >>= state (ratio (pos 1) limit) >>= choice (ratio (pos 1) 999999999999999999999999999999999999)), Err Large) ∷
+    -- and so do -10^36 and -1 in magnitude, while -10^36 and 0 stay
+    ((draft 1 Exact >>= state (of_int (neg_ℤ (pos limit))) >>= choice (of_int (neg_ℤ (pos 1)))), Err Large) ∷
+    []
+    )
 unfolding gcd gcd_with_fuel ratio of_int ◌+ℚ◌ le_ℚ narrow narrow_ℚ written_add
 rows_refused = refl
 
@@ -237,18 +237,18 @@ unfolding gcd gcd_with_fuel ratio of_int ◌+ℚ◌ narrow narrow_ℚ written_ad
 least_kept = refl
 
 states_refused : AreEqual (
-  ((draft 2 Exact >>= state 0ℚ >>= label init >>= state 0ℚ), Err (NoChoice 0)) ∷ -- no choice
-  ((draft 1 Exact >>= state 0ℚ >>= choice 0ℚ >>= add_entry 0 one >>= state 0ℚ), Err Count) ∷ -- too many
-  []
-)
+    ((draft 2 Exact >>= state 0ℚ >>= label init >>= state 0ℚ), Err (NoChoice 0)) ∷  -- no choice
+    ((draft 1 Exact >>= state 0ℚ >>= choice 0ℚ >>= add_entry 0 one >>= state 0ℚ), Err Count) ∷  -- too many
+    []
+    )
 unfolding gcd gcd_with_fuel ratio of_int ◌+ℚ◌ le_ℚ narrow narrow_ℚ written_add
 states_refused = refl
 
 ends_refused : AreEqual (
-  ((draft 1 Exact >>= state 0ℚ >>= after_finish), Err (NoChoice 0)) ∷ -- no choice at end
-  ((draft 2 Exact >>= state 0ℚ >>= choice 0ℚ >>= add_entry 0 one >>= after_finish), Err Count) ∷ -- too few
-  []
-)
+    ((draft 1 Exact >>= state 0ℚ >>= after_finish), Err (NoChoice 0)) ∷  -- no choice at end
+    ((draft 2 Exact >>= state 0ℚ >>= choice 0ℚ >>= add_entry 0 one >>= after_finish), Err Count) ∷  -- too few
+    []
+    )
 unfolding gcd gcd_with_fuel ratio of_int ◌+ℚ◌ le_ℚ narrow narrow_ℚ written_add
 ends_refused = refl
 
@@ -264,19 +264,21 @@ abbrev times_64 : List ℕ
 times_64 = concat (eight ∷ eight ∷ eight ∷ eight ∷ eight ∷ eight ∷ eight ∷ eight ∷ [])
 
 labels_often : AreEqual (
-  -- often label
-  ((draft 1 Exact >>= state 0ℚ >>= label_often times_64),
-   Ok (record (new_draft 1 Exact (cost ∷ [])) { labels = init ∷ []; state = Some (record { rewards = 0ℚ ∷ []; labels = 0 ∷ []; label_calls = 64; choices = []; choice = None }) })) ∷
-  ((draft 1 Exact >>= state 0ℚ >>= label_often times_64 >>= label init), Err TooMany) ∷ -- too often
-  []
-)
+    -- often label
+    (
+      (draft 1 Exact >>= state 0ℚ >>= label_often times_64),
+      Ok (record (new_draft 1 Exact (cost ∷ [])) { labels = init ∷ []; state = Some (record { rewards = 0ℚ ∷ []; labels = 0 ∷ []; label_calls = 64; choices = []; choice = None }) }),
+    ) ∷
+    ((draft 1 Exact >>= state 0ℚ >>= label_often times_64 >>= label init), Err TooMany) ∷  -- too often
+    []
+    )
 labels_often = refl
 
 -- ---- entries given in other orders
 
 orders : AreEqual (
-  (in_order (entry 2 third ∷ entry 1 half ∷ entry 0 one ∷ []), entry 0 one ∷ entry 1 half ∷ entry 2 third ∷ []) ∷ -- descending
-  (in_order (entry 1 half ∷ entry 2 third ∷ entry 0 one ∷ []), entry 0 one ∷ entry 1 half ∷ entry 2 third ∷ []) ∷ -- first last
-  []
-)
+    (in_order (entry 2 third ∷ entry 1 half ∷ entry 0 one ∷ []), entry 0 one ∷ entry 1 half ∷ entry 2 third ∷ []) ∷  -- descending
+    (in_order (entry 1 half ∷ entry 2 third ∷ entry 0 one ∷ []), entry 0 one ∷ entry 1 half ∷ entry 2 third ∷ []) ∷  -- first last
+    []
+    )
 orders = refl

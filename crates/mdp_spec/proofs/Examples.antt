@@ -70,16 +70,16 @@ mixes_fits : Fits three 2 1 mixes 0
 mixes_fits = (refl, ((tt, tt), ((tt, (tt, tt)), tt)))
 
 hits : AreEqual (
-  -- half of the mixture goes on, and a third of that meets the goal
-  (hit three goals 2 1 mixes 0, ratio (pos 1) 6) ∷
-  -- at the goal a tree has met it; at the state that is left nowhere it never does
-  (hit three goals 2 1 mixes 1, one) ∷
-  (hit three goals 1 3 (unfolded three (0 ∷ 0 ∷ 0 ∷ []) 3 2) 2, of_int (pos 0)) ∷ -- hit lost
-  -- a policy that loops never meets the goal, one that goes on meets it with 1/3
-  (hit three goals 1 4 (unfolded three (0 ∷ 0 ∷ 0 ∷ []) 4 0) 0, of_int (pos 0)) ∷
-  (hit three goals 1 2 (unfolded three (1 ∷ 0 ∷ 0 ∷ []) 2 0) 0, third) ∷ -- hit goes on
-  []
-)
+    -- half of the mixture goes on, and a third of that meets the goal
+    (hit three goals 2 1 mixes 0, ratio (pos 1) 6) ∷
+    -- at the goal a tree has met it; at the state that is left nowhere it never does
+    (hit three goals 2 1 mixes 1, one) ∷
+    (hit three goals 1 3 (unfolded three (0 ∷ 0 ∷ 0 ∷ []) 3 2) 2, of_int (pos 0)) ∷  -- hit lost
+    -- a policy that loops never meets the goal, one that goes on meets it with 1/3
+    (hit three goals 1 4 (unfolded three (0 ∷ 0 ∷ 0 ∷ []) 4 0) 0, of_int (pos 0)) ∷
+    (hit three goals 1 2 (unfolded three (1 ∷ 0 ∷ 0 ∷ []) 2 0) 0, third) ∷  -- hit goes on
+    []
+    )
 unfolding gcd gcd_with_fuel ratio of_int unit_of hit
 hits = refl
 

@@ -48,65 +48,65 @@ abbrev sure : List Flow
 sure = flow 0 1 two ∷ flow 1 0 two ∷ []
 
 flow_verdicts : AreEqual (
-  (flow_verdict 0 one both sure, Yes) ∷ -- reached
-  -- some flow through the first choice of state 0: 1 of it leaves state 0 and 1/2 leaves state 1, of which 1/4 comes to the goal
-  (flow_verdict 0 (ratio (pos 1) 4) both (flow 0 0 one ∷ flow 1 0 half ∷ []), Yes) ∷
-  -- a threshold of 0 asks for nothing
-  (flow_verdict 0 nought [] [], Yes) ∷
-  -- a start that is a goal is there with 1
-  (flow_verdict 2 one [] [], Yes) ∷
-  -- and with no more
-  (flow_verdict 2 two [] [], fault_of FlowsReachGoals) ∷
-  -- from a state of value 0 nothing comes
-  (flow_verdict 3 half (3 ∷ []) (flow 3 0 one ∷ []), fault_of FlowsReachGoals) ∷
-  -- a goal may not be kept: this comes before the flows are looked at
-  (flow_verdict 0 one (0 ∷ 1 ∷ 2 ∷ []) (flow 0 9 two ∷ []), fault StateIsKept 2 None) ∷
-  (flow_verdict 0 one both (flow 0 1 two ∷ flow 1 1 two ∷ []), fault ChoiceExists 1 (Some 1)) ∷ -- no such choice
-  -- a flow from a state that is not kept
-  (flow_verdict 0 one (0 ∷ []) sure, fault StateIsKept 1 (Some 0)) ∷
-  -- a flow of nothing
-  (flow_verdict 0 one both (flow 0 0 nought ∷ flow 0 1 two ∷ flow 1 0 two ∷ []), fault StateIsKept 0 (Some 0)) ∷
-  -- state 0 gets 1 from outside and half of 3 from state 1, and lets out 3
-  (flow_verdict 0 one both (flow 0 1 (of_int (pos 3)) ∷ flow 1 0 (of_int (pos 3)) ∷ []), fault FlowsBalance 0 None) ∷
-  -- the 1 from outside comes to the start alone
-  (flow_verdict 3 nought both sure, fault FlowsBalance 0 None) ∷
-  (flow_verdict 0 two both sure, fault_of FlowsReachGoals) ∷ -- too little
-  -- half of the amount is past width: the flow is named, before the rules on the sums
-  (flow_verdict 0 two both (flow 0 0 tiny ∷ []), Wide (Some 0) (Some 0)) ∷
-  []
-)
+    (flow_verdict 0 one both sure, Yes) ∷  -- reached
+    -- some flow through the first choice of state 0: 1 of it leaves state 0 and 1/2 leaves state 1, of which 1/4 comes to the goal
+    (flow_verdict 0 (ratio (pos 1) 4) both (flow 0 0 one ∷ flow 1 0 half ∷ []), Yes) ∷
+    -- a threshold of 0 asks for nothing
+    (flow_verdict 0 nought [] [], Yes) ∷
+    -- a start that is a goal is there with 1
+    (flow_verdict 2 one [] [], Yes) ∷
+    -- and with no more
+    (flow_verdict 2 two [] [], fault_of FlowsReachGoals) ∷
+    -- from a state of value 0 nothing comes
+    (flow_verdict 3 half (3 ∷ []) (flow 3 0 one ∷ []), fault_of FlowsReachGoals) ∷
+    -- a goal may not be kept: this comes before the flows are looked at
+    (flow_verdict 0 one (0 ∷ 1 ∷ 2 ∷ []) (flow 0 9 two ∷ []), fault StateIsKept 2 None) ∷
+    (flow_verdict 0 one both (flow 0 1 two ∷ flow 1 1 two ∷ []), fault ChoiceExists 1 (Some 1)) ∷  -- no such choice
+    -- a flow from a state that is not kept
+    (flow_verdict 0 one (0 ∷ []) sure, fault StateIsKept 1 (Some 0)) ∷
+    -- a flow of nothing
+    (flow_verdict 0 one both (flow 0 0 nought ∷ flow 0 1 two ∷ flow 1 0 two ∷ []), fault StateIsKept 0 (Some 0)) ∷
+    -- state 0 gets 1 from outside and half of 3 from state 1, and lets out 3
+    (flow_verdict 0 one both (flow 0 1 (of_int (pos 3)) ∷ flow 1 0 (of_int (pos 3)) ∷ []), fault FlowsBalance 0 None) ∷
+    -- the 1 from outside comes to the start alone
+    (flow_verdict 3 nought both sure, fault FlowsBalance 0 None) ∷
+    (flow_verdict 0 two both sure, fault_of FlowsReachGoals) ∷  -- too little
+    -- half of the amount is past width: the flow is named, before the rules on the sums
+    (flow_verdict 0 two both (flow 0 0 tiny ∷ []), Wide (Some 0) (Some 0)) ∷
+    []
+    )
 unfolding gcd gcd_with_fuel ratio of_int lt_ℚ ◌+ℚ◌ ◌*ℚ◌ narrow narrow_ℚ written_add written_mul written_compare
 flow_verdicts = refl
 
 -- ---- floors: the least probabilities are 1/3 at state 0 and 2/3 at state 1
 
 floor_verdicts : AreEqual (
-  (floor_verdict 0 third both (third ∷ two_thirds ∷ []) (2 ∷ 1 ∷ []), Yes) ∷ -- covered
-  -- a start that is not kept counts as 0
-  (floor_verdict 0 nought [] [] [], Yes) ∷
-  (floor_verdict 0 third (1 ∷ []) (half ∷ []) (1 ∷ []), fault_of StartReachesThreshold) ∷ -- no line at most
-  -- a goal counts as 1
-  (floor_verdict 2 one [] [] [], Yes) ∷
-  (floor_verdict 3 nought (3 ∷ []) (nought ∷ []) (0 ∷ []), Yes) ∷ -- lost start
-  (floor_verdict 0 nought (1 ∷ []) (ratio (negsuc 0) 2 ∷ []) (1 ∷ []), fault Probability 1 None) ∷ -- below zero
-  (floor_verdict 0 third both (two ∷ two_thirds ∷ []) (2 ∷ 1 ∷ []), fault Probability 0 None) ∷ -- above one
-  -- by its first choice state 0 has no more than half of what state 1 counts as
-  (floor_verdict 0 third both (half ∷ two_thirds ∷ []) (2 ∷ 1 ∷ []), fault ValueOnEachChoice 0 (Some 0)) ∷
-  -- state 0 is not kept, so state 1 has 1/2 from the goal alone
-  (floor_verdict 1 half (1 ∷ []) (two_thirds ∷ []) (1 ∷ []), fault ValueOnEachChoice 1 (Some 0)) ∷
-  -- a state of value 0 has rank 0
-  (floor_verdict 0 nought (3 ∷ []) (nought ∷ []) (1 ∷ []), fault RankZero 3 None) ∷
-  -- by its second choice state 0 leads to state 1 alone, of the same rank
-  (floor_verdict 0 third both (third ∷ two_thirds ∷ []) (1 ∷ 1 ∷ []), fault RankFalls 0 (Some 1)) ∷
-  -- a goal may not be kept
-  (floor_verdict 0 nought (2 ∷ []) (one ∷ []) (0 ∷ []), fault StateIsKept 2 None) ∷
-  -- and before that its own line is read: its value and its rank
-  (floor_verdict 0 nought (2 ∷ []) (one ∷ []) (4 ∷ []), fault RankZero 2 None) ∷
-  (floor_verdict 0 nought (2 ∷ []) (two ∷ []) (4 ∷ []), fault Probability 2 None) ∷ -- goal value
-  (floor_verdict 0 half both (third ∷ two_thirds ∷ []) (2 ∷ 1 ∷ []), fault_of StartReachesThreshold) ∷ -- too low
-  -- half of what state 1 counts as is past width: the choice is named
-  (floor_verdict 0 half both (nought ∷ tiny ∷ []) (0 ∷ 1 ∷ []), Wide (Some 0) (Some 0)) ∷
-  []
-)
+    (floor_verdict 0 third both (third ∷ two_thirds ∷ []) (2 ∷ 1 ∷ []), Yes) ∷  -- covered
+    -- a start that is not kept counts as 0
+    (floor_verdict 0 nought [] [] [], Yes) ∷
+    (floor_verdict 0 third (1 ∷ []) (half ∷ []) (1 ∷ []), fault_of StartReachesThreshold) ∷  -- no line at most
+    -- a goal counts as 1
+    (floor_verdict 2 one [] [] [], Yes) ∷
+    (floor_verdict 3 nought (3 ∷ []) (nought ∷ []) (0 ∷ []), Yes) ∷  -- lost start
+    (floor_verdict 0 nought (1 ∷ []) (ratio (negsuc 0) 2 ∷ []) (1 ∷ []), fault Probability 1 None) ∷  -- below zero
+    (floor_verdict 0 third both (two ∷ two_thirds ∷ []) (2 ∷ 1 ∷ []), fault Probability 0 None) ∷  -- above one
+    -- by its first choice state 0 has no more than half of what state 1 counts as
+    (floor_verdict 0 third both (half ∷ two_thirds ∷ []) (2 ∷ 1 ∷ []), fault ValueOnEachChoice 0 (Some 0)) ∷
+    -- state 0 is not kept, so state 1 has 1/2 from the goal alone
+    (floor_verdict 1 half (1 ∷ []) (two_thirds ∷ []) (1 ∷ []), fault ValueOnEachChoice 1 (Some 0)) ∷
+    -- a state of value 0 has rank 0
+    (floor_verdict 0 nought (3 ∷ []) (nought ∷ []) (1 ∷ []), fault RankZero 3 None) ∷
+    -- by its second choice state 0 leads to state 1 alone, of the same rank
+    (floor_verdict 0 third both (third ∷ two_thirds ∷ []) (1 ∷ 1 ∷ []), fault RankFalls 0 (Some 1)) ∷
+    -- a goal may not be kept
+    (floor_verdict 0 nought (2 ∷ []) (one ∷ []) (0 ∷ []), fault StateIsKept 2 None) ∷
+    -- and before that its own line is read: its value and its rank
+    (floor_verdict 0 nought (2 ∷ []) (one ∷ []) (4 ∷ []), fault RankZero 2 None) ∷
+    (floor_verdict 0 nought (2 ∷ []) (two ∷ []) (4 ∷ []), fault Probability 2 None) ∷  -- goal value
+    (floor_verdict 0 half both (third ∷ two_thirds ∷ []) (2 ∷ 1 ∷ []), fault_of StartReachesThreshold) ∷  -- too low
+    -- half of what state 1 counts as is past width: the choice is named
+    (floor_verdict 0 half both (nought ∷ tiny ∷ []) (0 ∷ 1 ∷ []), Wide (Some 0) (Some 0)) ∷
+    []
+    )
 unfolding gcd gcd_with_fuel ratio of_int lt_ℚ ◌+ℚ◌ ◌*ℚ◌ narrow narrow_ℚ written_add written_mul written_compare
 floor_verdicts = refl

@@ -159,25 +159,25 @@ abbrev of_set : List Bool → Result Visited ℕ
 of_set set = visited five goals best 0 set
 
 visits_of_sets : AreEqual (
-  -- state 0 is visited once, state 1 half of the time, and the goal is reached with 1/2 + 1/4
-  (of_set two_states, Ok (record { visits = one ∷ half ∷ nought ∷ nought ∷ nought ∷ []; value = three_quarters })) ∷
-  -- without state 1 the half to it is lost, and without the start there are no visits
-  (of_set start_alone, Ok (record { visits = one ∷ nought ∷ nought ∷ nought ∷ nought ∷ []; value = half })) ∷
-  (of_set one_alone, Ok (record { visits = nought ∷ nought ∷ nought ∷ nought ∷ nought ∷ []; value = nought })) ∷ -- no visits
-  []
-)
+    -- state 0 is visited once, state 1 half of the time, and the goal is reached with 1/2 + 1/4
+    (of_set two_states, Ok (record { visits = one ∷ half ∷ nought ∷ nought ∷ nought ∷ []; value = three_quarters })) ∷
+    -- without state 1 the half to it is lost, and without the start there are no visits
+    (of_set start_alone, Ok (record { visits = one ∷ nought ∷ nought ∷ nought ∷ nought ∷ []; value = half })) ∷
+    (of_set one_alone, Ok (record { visits = nought ∷ nought ∷ nought ∷ nought ∷ nought ∷ []; value = nought })) ∷  -- no visits
+    []
+    )
 unfolding equation_of eliminated divided_rest plus_equation evaluated written_add written_mul narrow narrow_ℚ ◌+ℚ◌ ◌*ℚ◌ neg_ℚ inv_ℚ ratio of_int gcd gcd_with_fuel
 visits_of_sets = refl
 
 -- ---- a set without a state; one that isn't in it, or is past the last, changes nothing
 
 sets_without : AreEqual (
-  (without two_states 1, start_alone) ∷ -- without one
-  (without two_states 0, one_alone) ∷ -- without start
-  (without two_states 2, two_states) ∷ -- without other
-  (without two_states 5, two_states) ∷ -- without past
-  []
-)
+    (without two_states 1, start_alone) ∷  -- without one
+    (without two_states 0, one_alone) ∷  -- without start
+    (without two_states 2, two_states) ∷  -- without other
+    (without two_states 5, two_states) ∷  -- without past
+    []
+    )
 sets_without = refl
 
 -- the set in which a state is tried has more, where a lesser state goes later: here 0

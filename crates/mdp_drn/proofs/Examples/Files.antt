@@ -76,11 +76,11 @@ unfolding computed
 scaled_other = refl
 
 sums_refused : AreRefused (
-  -- they don't add to 1
-  (thirds (codes "0.333333"), (kind.RowSum, 10)) ∷
-  (thirds (codes "0.3"), (kind.RowSum, 10)) ∷ -- exact other
-  []
-)
+    -- they don't add to 1
+    (thirds (codes "0.333333"), (kind.RowSum, 10)) ∷
+    (thirds (codes "0.3"), (kind.RowSum, 10)) ∷  -- exact other
+    []
+    )
 unfolding computed
 sums_refused = refl
 
@@ -109,17 +109,17 @@ unfolding computed
 three = refl
 
 files_refused : AreRefused (
-  (file (codes "4"), (kind.Count, 23)) ∷ -- one more announced
-  (file (codes "1048577"), (kind.TooMany, 7)) ∷ -- too many announced
-  -- cut inside of line 15, behind line 13 and behind line 15
-  (front ++ codes "3" ++ middle ++ codes "1 : 1/", (kind.Number, 15)) ∷
-  (front ++ codes "3" ++ middle ++ codes "1", (kind.Shape, 15)) ∷ -- cut behind a target
-  -- what stands before line 14 is one choice, which is closed
-  (front ++ codes "3" ++ codes "\n@nr_choices\n4\n@model\nstate 0 init\naction a\n0 : 1\n", (kind.Count, 14)) ∷
-  (front ++ codes "3" ++ middle ++ codes "1 : 1/3\n", (kind.RowSum, 14)) ∷ -- cut in a row
-  ([], (kind.End, 1)) ∷ -- empty
-  []
-)
+    (file (codes "4"), (kind.Count, 23)) ∷  -- one more announced
+    (file (codes "1048577"), (kind.TooMany, 7)) ∷  -- too many announced
+    -- cut inside of line 15, behind line 13 and behind line 15
+    (front ++ codes "3" ++ middle ++ codes "1 : 1/", (kind.Number, 15)) ∷
+    (front ++ codes "3" ++ middle ++ codes "1", (kind.Shape, 15)) ∷  -- cut behind a target
+    -- what stands before line 14 is one choice, which is closed
+    (front ++ codes "3" ++ codes "\n@nr_choices\n4\n@model\nstate 0 init\naction a\n0 : 1\n", (kind.Count, 14)) ∷
+    (front ++ codes "3" ++ middle ++ codes "1 : 1/3\n", (kind.RowSum, 14)) ∷  -- cut in a row
+    ([], (kind.End, 1)) ∷  -- empty
+    []
+    )
 unfolding computed
 files_refused = refl
 
@@ -148,37 +148,37 @@ abbrev two : List ℕ → List ℕ
 two rest = codes "@type: MDP\n@nr_states\n2\n@model\n" ++ rest
 
 in_order : AreRefused (
-  -- a row is closed before the next state or action is judged, and a state before the next state
-  (two (codes "state 0\naction\n0 : 1/2\nstate 1x\n"), (kind.RowSum, 6)) ∷
-  (two (codes "state 0\nstate 0\n"), (kind.NoChoice, 5)) ∷ -- choice before order
-  -- but `state1` and `state -1` are no such lines
-  (two (codes "state 0\naction\n0 : 1/2\nstate -1\n"), (kind.Shape, 8)) ∷
-  -- a zero counts as an entry
-  (two (codes "state 0\naction\n0 : 0\n0 : 1\n"), (kind.Twice, 8)) ∷
-  -- the target is judged before the value
-  (two (codes "state 0\naction\n99 : abc\n"), (kind.Target, 7)) ∷
-  -- a bracket of an action runs from its last `[`
-  (two (codes "state 0\naction [1]]\n"), (kind.Number, 6)) ∷
-  -- the bracket of a state ends at its first `]`
-  (two (codes "state 0 [1]] \"\n"), (kind.Label, 5)) ∷
-  (two (codes "state 0\naction\n0 : -0.5\n"), (kind.Negative, 7)) ∷ -- negative
-  (two (codes "state 1\n"), (kind.Order, 5)) ∷ -- order
-  []
-)
+    -- a row is closed before the next state or action is judged, and a state before the next state
+    (two (codes "state 0\naction\n0 : 1/2\nstate 1x\n"), (kind.RowSum, 6)) ∷
+    (two (codes "state 0\nstate 0\n"), (kind.NoChoice, 5)) ∷  -- choice before order
+    -- but `state1` and `state -1` are no such lines
+    (two (codes "state 0\naction\n0 : 1/2\nstate -1\n"), (kind.Shape, 8)) ∷
+    -- a zero counts as an entry
+    (two (codes "state 0\naction\n0 : 0\n0 : 1\n"), (kind.Twice, 8)) ∷
+    -- the target is judged before the value
+    (two (codes "state 0\naction\n99 : abc\n"), (kind.Target, 7)) ∷
+    -- a bracket of an action runs from its last `[`
+    (two (codes "state 0\naction [1]]\n"), (kind.Number, 6)) ∷
+    -- the bracket of a state ends at its first `]`
+    (two (codes "state 0 [1]] \"\n"), (kind.Label, 5)) ∷
+    (two (codes "state 0\naction\n0 : -0.5\n"), (kind.Negative, 7)) ∷  -- negative
+    (two (codes "state 1\n"), (kind.Order, 5)) ∷  -- order
+    []
+    )
 unfolding computed
 in_order = refl
 
 -- ---- headers
 
 headers_refused : AreRefused (
-  (codes "@type: MDP\n@type: MDP\n", (kind.Header, 2)) ∷ -- twice typed
-  (codes "@type: CTMC\n", (kind.Type, 1)) ∷ -- other type
-  (codes "@type: MDP\n@model\n", (kind.Header, 2)) ∷ -- early model
-  (codes "@placeholders\n", (kind.Parametric, 1)) ∷ -- placeholders
-  -- a comment and a blank line count as lines
-  (codes "// none\n\n@types\n", (kind.Header, 3)) ∷
-  []
-)
+    (codes "@type: MDP\n@type: MDP\n", (kind.Header, 2)) ∷  -- twice typed
+    (codes "@type: CTMC\n", (kind.Type, 1)) ∷  -- other type
+    (codes "@type: MDP\n@model\n", (kind.Header, 2)) ∷  -- early model
+    (codes "@placeholders\n", (kind.Parametric, 1)) ∷  -- placeholders
+    -- a comment and a blank line count as lines
+    (codes "// none\n\n@types\n", (kind.Header, 3)) ∷
+    []
+    )
 unfolding computed
 headers_refused = refl
 
@@ -197,14 +197,14 @@ unfolding computed
 one_choice_each = refl
 
 chains_refused : AreRefused (
-  (chain (codes "state 0\naction\n0 : 1\nstate 1\naction\n1 : 1\naction\n1 : 1\n"), (kind.Choices, 11)) ∷ -- second choice
-  -- the row before is closed first, and the bracket is judged first
-  (chain (codes "state 0\naction\n0 : 1/2\naction\n"), (kind.RowSum, 6)) ∷
-  (chain (codes "state 0\naction\n0 : 1\naction [x]\n"), (kind.Number, 8)) ∷ -- bracket before choices
-  -- too large a sum comes behind it
-  (chain (codes "state 0 [1e36]\naction\n0 : 1\naction [1]\n"), (kind.Choices, 8)) ∷
-  []
-)
+    (chain (codes "state 0\naction\n0 : 1\nstate 1\naction\n1 : 1\naction\n1 : 1\n"), (kind.Choices, 11)) ∷  -- second choice
+    -- the row before is closed first, and the bracket is judged first
+    (chain (codes "state 0\naction\n0 : 1/2\naction\n"), (kind.RowSum, 6)) ∷
+    (chain (codes "state 0\naction\n0 : 1\naction [x]\n"), (kind.Number, 8)) ∷  -- bracket before choices
+    -- too large a sum comes behind it
+    (chain (codes "state 0 [1e36]\naction\n0 : 1\naction [1]\n"), (kind.Choices, 8)) ∷
+    []
+    )
 unfolding computed
 chains_refused = refl
 
@@ -238,14 +238,14 @@ unfolding computed
 both_signs = refl
 
 rewards_refused : AreRefused (
-  (with_reward (codes "--1"), (kind.Number, 6)) ∷ -- two signs
-  (with_reward (codes "- 1"), (kind.Number, 6)) ∷ -- blank behind sign
-  (with_reward (codes "-"), (kind.Number, 6)) ∷ -- sign alone
-  (with_reward (codes "+1"), (kind.Number, 6)) ∷ -- plus
-  (with_reward (codes "-1e37"), (kind.Large, 6)) ∷ -- large below
-  (two (codes "state 0 [1e36]\naction [1]\n"), (kind.Large, 6)) ∷ -- large sum
-  (two (codes "state 0 [-1e36]\naction [-1]\n"), (kind.Large, 6)) ∷ -- large sum below
-  []
-)
+    (with_reward (codes "--1"), (kind.Number, 6)) ∷  -- two signs
+    (with_reward (codes "- 1"), (kind.Number, 6)) ∷  -- blank behind sign
+    (with_reward (codes "-"), (kind.Number, 6)) ∷  -- sign alone
+    (with_reward (codes "+1"), (kind.Number, 6)) ∷  -- plus
+    (with_reward (codes "-1e37"), (kind.Large, 6)) ∷  -- large below
+    (two (codes "state 0 [1e36]\naction [1]\n"), (kind.Large, 6)) ∷  -- large sum
+    (two (codes "state 0 [-1e36]\naction [-1]\n"), (kind.Large, 6)) ∷  -- large sum below
+    []
+    )
 unfolding computed
 rewards_refused = refl
