@@ -9,8 +9,8 @@ ghost use Rattle.mdp_bounds.specs.Reward.{lower_on_each, half_checks, finite_che
 use crate::compare::{at_most, value_stands};
 use crate::finite::finite_row_sum;
 use mdp_farkas::{
-    Objection, Rule, each_below, finite_at, infinite_state, is_held_against, is_infinite_at,
-    judged, rank_falls_at_state, reversed, stays_at_state,
+    Checks, Objection, Rule, each_below, finite_at, infinite_state, is_held_against,
+    is_infinite_at, judged, rank_falls_at_state, reversed, stays_at_state,
 };
 use mdp_num::{Frac, Wide};
 use mdp_rows::{Dir, Marks, Model};
@@ -70,6 +70,26 @@ pub(crate) struct Column<'a> {
     pub ghost ranks_each: { length ranks.now ≡ states_of model.now },
 }
 
+/// A column at one state.
+#[derive(Clone, Copy)]
+struct AtState<'a> {
+    column: Column<'a>,
+    state: u32,
+    ghost in_model: { state < states_of column.model.now },
+}
+
+impl Checks for AtState<'_> {
+    ghost count = { λ x. length (choices_at x.column.model.now x.state) };
+
+    ghost checks = { λ x c. if is_looked_at x.column.dir x.column.model.now x.column.values.now x.state c
+        then earning_check x.column.dir x.column.model.now x.column.name x.column.values.now x.state c ∷ [] else [] };
+
+    /// The inequality at choice `c`, where that counts.
+    fn check(self, c: u32) -> Result<(), Objection> {
+        self.column.on_choice(self.state, c)
+    }
+}
+
 impl Column<'_> {
     /// The value of state `s` is at least 0.
     fn nonneg(self, s: u32) -> Result<(), Objection>
@@ -125,7 +145,11 @@ impl Column<'_> {
         requires { s < states_of self.model.now }
         ensures { result ≡ objection_to (earning_checks self.entry.dir self.entry.model.now self.entry.name self.entry.values.now s) }
     {
-        each_below(self.model.choices(s), |c| self.on_choice(s, c))
+        let at = AtState {
+            column: self,
+            state: s,
+        };
+        each_below(self.model.choices(s), at)
     }
 
     /// The inequality of the other values, at the policy's choice `c`.
