@@ -165,7 +165,6 @@ impl Claimed<'_> {
     }
 
     /// The rules for gain, bound and bias of state `s`.
-    #[tactic(auto, using(crate::proofs::Objections::walked))]
     fn rules_at(self, s: u32, choice: u32) -> Result<(), Objection>
         requires state { s < states_of self.model.now }
         requires choice { choice < length (choices_at self.model.now s) }
