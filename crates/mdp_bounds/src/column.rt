@@ -4,7 +4,7 @@ ghost use Rattle.mdp_spec.specs.Mdp.{states_of, choices_at};
 ghost use Rattle.mdp_farkas.specs.Reward.{is_looked_at, rank_fall_checks};
 ghost use Rattle.mdp_farkas.specs.Verdict.{objection_to};
 ghost use Rattle.mdp_bounds.specs.Reward.{is_nonneg, is_zero, nonneg_check, goal_checks, is_least, earning_stands, earning_check, earning_checks, policy_earning_check};
-ghost use Rattle.mdp_bounds.specs.Reward.{lower_on_each, half_checks, finite_checks, lower_checks, upper_value_checks};
+ghost use Rattle.mdp_bounds.specs.Reward.{lower_on_each, half_checks, finite_checks, lower_place_checks, lower_checks, upper_place_checks, upper_value_checks};
 
 use crate::compare::{at_most, value_stands};
 use crate::finite::finite_row_sum;
@@ -196,35 +196,53 @@ impl Column<'_> {
         rank_falls_at_state(self.model, self.dir, self.ranks, s, c)
     }
 
-    /// The rules of the lower value of state `s`, by its kind: that of a goal, an infinite or a finite one.
+    /// What belongs to the kind of the lower value of state `s`: that of a goal, an infinite or a finite one.
+    fn lower_kind(self, s: u32, c: u32) -> Result<(), Objection>
+        requires state { s < states_of self.model.now }
+        requires choice { c < length (choices_at self.model.now s) }
+        ensures { result ≡ objection_to (lower_place_checks self.entry.dir self.entry.model.now self.entry.name self.entry.goals.now self.entry.values.now self.entry.ranks.now s c) }
+    {
+        if self.goals.at(s) {
+            self.goal(s)
+        } else if is_infinite_at(self.values, s) {
+            infinite_state(self.model, self.dir, self.values, self.ranks, s, c)
+        } else {
+            self.finite_lower(s, c)
+        }
+    }
+
+    /// The rules of the lower value of state `s`.
     pub(crate) fn lower(self, s: u32, c: u32) -> Result<(), Objection>
         requires state { s < states_of self.model.now }
         requires choice { c < length (choices_at self.model.now s) }
         ensures { result ≡ objection_to (lower_checks self.entry.dir self.entry.model.now self.entry.name self.entry.goals.now self.entry.values.now self.entry.ranks.now s c) }
     {
         self.nonneg(s)?;
-        if self.goals.at(s) {
-            return self.goal(s);
-        }
-        if is_infinite_at(self.values, s) {
-            return infinite_state(self.model, self.dir, self.values, self.ranks, s, c);
-        }
-        self.finite_lower(s, c)
+        self.lower_kind(s, c)
     }
 
-    /// Those of the upper value.
+    /// What belongs to the kind of the upper value of state `s`.
+    fn upper_kind(self, s: u32, c: u32) -> Result<(), Objection>
+        requires state { s < states_of self.model.now }
+        requires choice { c < length (choices_at self.model.now s) }
+        ensures { result ≡ objection_to (upper_place_checks self.entry.dir self.entry.model.now self.entry.name self.entry.goals.now self.entry.values.now self.entry.ranks.now s c) }
+    {
+        if self.goals.at(s) {
+            self.goal(s)
+        } else if is_infinite_at(self.values, s) {
+            Ok(())
+        } else {
+            self.finite(!lower_on_each(self.dir), s, c)
+        }
+    }
+
+    /// The rules of the upper value of state `s`.
     pub(crate) fn upper(self, s: u32, c: u32) -> Result<(), Objection>
         requires state { s < states_of self.model.now }
         requires choice { c < length (choices_at self.model.now s) }
         ensures { result ≡ objection_to (upper_value_checks self.entry.dir self.entry.model.now self.entry.name self.entry.goals.now self.entry.values.now self.entry.ranks.now s c) }
     {
         self.nonneg(s)?;
-        if self.goals.at(s) {
-            return self.goal(s);
-        }
-        if is_infinite_at(self.values, s) {
-            return Ok(());
-        }
-        self.finite(!lower_on_each(self.dir), s, c)
+        self.upper_kind(s, c)
     }
 }

@@ -139,6 +139,17 @@ impl OneCheck for BoundHalf<'_> {
 
 impl Half<'_> {
     /// Whether the upper gain is at least, or the lower one at most, the sum of the gains over the row of choice `c`.
+    fn sum_stands(self, dir: Dir, c: u32) -> Result<bool, Wide>
+        requires { c < length (choices_at self.model.now self.state) }
+        ensures { result_ok result ≡ gain_stands dir self.entry.model.now self.entry.gains.values.now self.entry.state c }
+    {
+        let gains = self.gains.values;
+        let row = self.model.row(self.state, c);
+        let sum = row_sum(row, &Frac::whole(0), gains)?;
+        Ok(value_stands(dir, &gains[self.state as usize], &sum))
+    }
+
+    /// The same, without a sum where all gains are one number.
     fn gain_stands(self, dir: Dir, c: u32) -> Result<bool, Wide>
         requires { c < length (choices_at self.model.now self.state) }
         ensures { result_ok result ≡ gain_stands dir self.entry.model.now self.entry.gains.values.now self.entry.state c }
@@ -148,9 +159,7 @@ impl Half<'_> {
             self.model.known();
             return Ok(true);
         }
-        let gains = gains.values;
-        let sum = row_sum(self.model.row(self.state, c), &Frac::whole(0), gains)?;
-        Ok(value_stands(dir, &gains[self.state as usize], &sum))
+        self.sum_stands(dir, c)
     }
 
     /// Whether the upper gain and the bound together are at least, or the lower one and the bound at most, what choice `c` earns by the bound: its
