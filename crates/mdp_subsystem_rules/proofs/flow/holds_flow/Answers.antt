@@ -24,7 +24,7 @@ pub walk-walk-requires : goal.walk-walk-requires
 walk-walk-requires c =
     let m = c.args.model.now in
     let begun = c.in_ok-sums.ensures {u = tt} ∙ ap (λ (n : ℕ). first_sums n c.args.goals.now c.args.start) c.states-2.ensures in
-    subst (λ (sums : FlowSums). AreSums (states_of m) sums) (sym begun) (sized_first (states_of m) c.args.goals.now c.args.start)
+    record { sums = subst (λ (sums : FlowSums). AreSums (states_of m) sums) (sym begun) (sized_first (states_of m) c.args.goals.now c.args.start) }
 
 pub returns : goal.returns
 returns c =
