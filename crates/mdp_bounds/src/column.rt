@@ -4,13 +4,13 @@ ghost use Rattle.mdp_spec.specs.Mdp.{states_of, choices_at};
 ghost use Rattle.mdp_farkas.specs.Reward.{is_looked_at, rank_fall_checks};
 ghost use Rattle.mdp_farkas.specs.Verdict.{objection_to};
 ghost use Rattle.mdp_bounds.specs.Reward.{is_nonneg, is_zero, nonneg_check, goal_checks, is_least, earning_stands, earning_check, earning_checks, policy_earning_check};
-ghost use Rattle.mdp_bounds.specs.Reward.{lower_on_each, half_checks, finite_checks, lower_checks, upper_value_checks};
+ghost use Rattle.mdp_bounds.specs.Reward.{lower_on_each, half_checks, finite_checks, lower_place_checks, lower_checks, upper_place_checks, upper_value_checks};
 
 use crate::compare::{at_most, value_stands};
 use crate::finite::finite_row_sum;
 use mdp_farkas::{
-    Objection, Rule, each_below, finite_at, infinite_state, is_held_against, is_infinite_at,
-    judged, rank_falls_at_state, reversed, stays_at_state,
+    Checks, Objection, Rule, each_below, finite_at, infinite_state, is_held_against,
+    is_infinite_at, judged, rank_falls_at_state, reversed, stays_at_state,
 };
 use mdp_num::{Frac, Wide};
 use mdp_rows::{Dir, Marks, Model};
@@ -70,6 +70,26 @@ pub(crate) struct Column<'a> {
     pub ghost ranks_each: { length ranks.now ≡ states_of model.now },
 }
 
+/// A column at one state.
+#[derive(Clone, Copy)]
+struct AtState<'a> {
+    column: Column<'a>,
+    state: u32,
+    ghost in_model: { state < states_of column.model.now },
+}
+
+impl Checks for AtState<'_> {
+    ghost count = { λ x. length (choices_at x.column.model.now x.state) };
+
+    ghost checks = { λ x c. if is_looked_at x.column.dir x.column.model.now x.column.values.now x.state c
+        then earning_check x.column.dir x.column.model.now x.column.name x.column.values.now x.state c ∷ [] else [] };
+
+    /// The inequality at choice `c`, where that counts.
+    fn check(self, c: u32) -> Result<(), Objection> {
+        self.column.on_choice(self.state, c)
+    }
+}
+
 impl Column<'_> {
     /// The value of state `s` is at least 0.
     fn nonneg(self, s: u32) -> Result<(), Objection>
@@ -125,7 +145,11 @@ impl Column<'_> {
         requires { s < states_of self.model.now }
         ensures { result ≡ objection_to (earning_checks self.entry.dir self.entry.model.now self.entry.name self.entry.values.now s) }
     {
-        each_below(self.model.choices(s), |c| self.on_choice(s, c))
+        let at = AtState {
+            column: self,
+            state: s,
+        };
+        each_below(self.model.choices(s), at)
     }
 
     /// The inequality of the other values, at the policy's choice `c`.
@@ -172,35 +196,53 @@ impl Column<'_> {
         rank_falls_at_state(self.model, self.dir, self.ranks, s, c)
     }
 
-    /// The rules of the lower value of state `s`, by its kind: that of a goal, an infinite or a finite one.
+    /// What belongs to the kind of the lower value of state `s`: that of a goal, an infinite or a finite one.
+    fn lower_kind(self, s: u32, c: u32) -> Result<(), Objection>
+        requires state { s < states_of self.model.now }
+        requires choice { c < length (choices_at self.model.now s) }
+        ensures { result ≡ objection_to (lower_place_checks self.entry.dir self.entry.model.now self.entry.name self.entry.goals.now self.entry.values.now self.entry.ranks.now s c) }
+    {
+        if self.goals.at(s) {
+            self.goal(s)
+        } else if is_infinite_at(self.values, s) {
+            infinite_state(self.model, self.dir, self.values, self.ranks, s, c)
+        } else {
+            self.finite_lower(s, c)
+        }
+    }
+
+    /// The rules of the lower value of state `s`.
     pub(crate) fn lower(self, s: u32, c: u32) -> Result<(), Objection>
         requires state { s < states_of self.model.now }
         requires choice { c < length (choices_at self.model.now s) }
         ensures { result ≡ objection_to (lower_checks self.entry.dir self.entry.model.now self.entry.name self.entry.goals.now self.entry.values.now self.entry.ranks.now s c) }
     {
         self.nonneg(s)?;
-        if self.goals.at(s) {
-            return self.goal(s);
-        }
-        if is_infinite_at(self.values, s) {
-            return infinite_state(self.model, self.dir, self.values, self.ranks, s, c);
-        }
-        self.finite_lower(s, c)
+        self.lower_kind(s, c)
     }
 
-    /// Those of the upper value.
+    /// What belongs to the kind of the upper value of state `s`.
+    fn upper_kind(self, s: u32, c: u32) -> Result<(), Objection>
+        requires state { s < states_of self.model.now }
+        requires choice { c < length (choices_at self.model.now s) }
+        ensures { result ≡ objection_to (upper_place_checks self.entry.dir self.entry.model.now self.entry.name self.entry.goals.now self.entry.values.now self.entry.ranks.now s c) }
+    {
+        if self.goals.at(s) {
+            self.goal(s)
+        } else if is_infinite_at(self.values, s) {
+            Ok(())
+        } else {
+            self.finite(!lower_on_each(self.dir), s, c)
+        }
+    }
+
+    /// The rules of the upper value of state `s`.
     pub(crate) fn upper(self, s: u32, c: u32) -> Result<(), Objection>
         requires state { s < states_of self.model.now }
         requires choice { c < length (choices_at self.model.now s) }
         ensures { result ≡ objection_to (upper_value_checks self.entry.dir self.entry.model.now self.entry.name self.entry.goals.now self.entry.values.now self.entry.ranks.now s c) }
     {
         self.nonneg(s)?;
-        if self.goals.at(s) {
-            return self.goal(s);
-        }
-        if is_infinite_at(self.values, s) {
-            return Ok(());
-        }
-        self.finite(!lower_on_each(self.dir), s, c)
+        self.upper_kind(s, c)
     }
 }

@@ -1,5 +1,4 @@
 ghost use Rattle.std.specs.Prelude.{◌≡◌, ◌<◌, length, All};
-ghost use Rattle.std.specs.List.{list_all};
 ghost use Rattle.std.specs.Result.{result_ok};
 ghost use Rattle.mdp_spec.specs.Bounds.{finite_part};
 ghost use Rattle.mdp_spec.specs.Mdp.{value_at};
@@ -8,7 +7,7 @@ ghost use Rattle.mdp_num.specs.Equal.{eq_ℚ};
 ghost use Rattle.mdp_bounds.specs.Sum.{first_value, one_sum, told_sum};
 
 use crate::sum::sum_in_width;
-use mdp_farkas::{finite_at, finite_sum};
+use mdp_farkas::{StateTest, all_pass, finite_at, finite_sum};
 use mdp_num::{Frac, Wide};
 use mdp_rows::Row;
 
@@ -23,20 +22,22 @@ fn first_finite(targets: &[u32], values: &[Option<Frac>]) -> Frac
     finite_at(values, targets[0])
 }
 
-/// Whether state `t` has this value, as an infinite one has 0.
-fn has_finite(values: &[Option<Frac>], t: u32, value: &Frac) -> bool
-    requires { t < length values.now }
-    ensures { result ≡ eq_ℚ (value_at (finite_part values.now) t) value.now }
-{
-    finite_at(values, t) == *value
+/// Values that are held against one value, where an infinite one is 0.
+#[derive(Clone, Copy)]
+struct FiniteValues<'a> {
+    values: &'a [Option<Frac>],
+    value: &'a Frac,
 }
 
-/// Whether all targets have this value.
-fn all_have_finite(targets: &[u32], values: &[Option<Frac>], value: &Frac) -> bool
-    requires { All (λ t. t < length values.now) targets.now }
-    ensures { result ≡ list_all (λ t. eq_ℚ (value_at (finite_part values.now) t) value.now) targets.now }
-{
-    targets.iter().all(|t| has_finite(values, *t, value))
+impl StateTest for FiniteValues<'_> {
+    ghost states = { λ x. length x.values.now };
+
+    ghost test = { λ x t. eq_ℚ (value_at (finite_part x.values.now) t) x.value.now };
+
+    /// Whether state `t` has the value.
+    fn passes(self, t: u32) -> bool {
+        finite_at(self.values, t) == *self.value
+    }
 }
 
 /// `start` and the one value that all targets have, as an infinite one has 0; nothing where they have more values, or where a term of that sum
@@ -46,7 +47,11 @@ fn one_finite_sum(targets: &[u32], start: &Frac, values: &[Option<Frac>]) -> Opt
     ensures { result ≡ one_sum (finite_part values.now) start.now targets.now }
 {
     let first = first_finite(targets, values);
-    if all_have_finite(targets, values, &first) {
+    let held = FiniteValues {
+        values,
+        value: &first,
+    };
+    if all_pass(targets, held) {
         return sum_in_width(start, &first);
     }
     None

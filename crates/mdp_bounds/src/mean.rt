@@ -1,4 +1,4 @@
-ghost use Rattle.std.specs.Prelude.{◌≡◌, ◌<◌, ◌↔◌, IsTrue, length, [], ◌∷◌};
+ghost use Rattle.std.specs.Prelude.{◌≡◌, ◌<◌, ◌↔◌, IsTrue, length, slice_index, [], ◌∷◌};
 ghost use Rattle.std.specs.List.{list_all};
 ghost use Rattle.std.specs.Result.{result_ok};
 ghost use Rattle.mdp_spec.specs.Mdp.{states_of, choices_at};
@@ -6,7 +6,7 @@ ghost use Rattle.mdp_spec.specs.Between.{MeanMaxBetween, MeanMinBetween};
 ghost use Rattle.mdp_bounds.specs.Reach.{covering, followed};
 ghost use Rattle.mdp_num.specs.Equal.{eq_ℚ};
 ghost use Rattle.mdp_farkas.specs.Mean.{IsMean};
-ghost use Rattle.mdp_farkas.specs.Verdict.{objection_to, verdict_of, at_choices, IsYes, IfYes};
+ghost use Rattle.mdp_farkas.specs.Verdict.{objection_to, verdict_of, IsYes, IfYes};
 ghost use Rattle.mdp_rows.specs.declared.dir.Dir.TheVariants.{Max, Min};
 ghost use Rattle.mdp_bounds.specs.Mean.{AreOne, gain_stands, gain_check, told_step, bound_stands, relative_check, spread_check, gains_cover, gains_follow};
 ghost use Rattle.mdp_bounds.specs.Mean.{mean_bounds_at, state_bounds_checks, mean_bounds_checks, IsMeanBounds, IsTrivialMean};
@@ -16,8 +16,8 @@ use crate::spread::spread_of;
 use crate::sum::{plain_sum, row_sum};
 use mdp_claims::MeanBoundsCert;
 use mdp_farkas::{
-    Objection, Rule, Verdict, choice_at, each_below, each_choice, judged, judged_at, reversed,
-    verdict_after,
+    Checks, Objection, OneCheck, Rule, Verdict, choice_at, each_below, each_choice, judged,
+    judged_at, reversed, verdict_after,
 };
 use mdp_num::{Frac, Wide};
 use mdp_rows::{Dir, Model};
@@ -86,7 +86,7 @@ fn spread_holds(bound: &[Frac], bias: &[Frac], spread: &Frac) -> Result<bool, Wi
     Ok(*spread == widest)
 }
 
-/// The gains of one column with a bound or a bias, which are held against a model.
+/// The gains of one column with a bound or a bias, which are held against a model at one state.
 #[derive(Clone, Copy)]
 struct Half<'a> {
     dir: Dir,
@@ -94,96 +94,103 @@ struct Half<'a> {
     name: u32,
     gains: Gains<'a>,
     relative: &'a [Frac],
+    state: u32,
     ghost named: { name < length model.now.names },
     ghost gains_each: { length gains.values.now ≡ states_of model.now },
     ghost relative_each: { length relative.now ≡ states_of model.now },
+    ghost in_model: { state < states_of model.now },
+}
+
+/// The gains of a half.
+#[derive(Clone, Copy)]
+struct GainHalf<'a> {
+    half: Half<'a>,
+}
+
+impl OneCheck for GainHalf<'_> {
+    ghost count = { λ x. length (choices_at x.half.model.now x.half.state) };
+
+    ghost check = { λ x. gain_check x.half.dir x.half.model.now x.half.gains.values.now x.half.state };
+
+    /// The gains at choice `c`.
+    fn check_at(self, c: u32) -> Result<(), Objection> {
+        let stands = self.half.gain_stands(self.half.dir, c);
+        judged(stands, Rule::GainOnEachChoice, self.half.state, Some(c))
+    }
+}
+
+/// The relative values of a half.
+#[derive(Clone, Copy)]
+struct BoundHalf<'a> {
+    half: Half<'a>,
+}
+
+impl OneCheck for BoundHalf<'_> {
+    ghost count = { λ x. length (choices_at x.half.model.now x.half.state) };
+
+    ghost check = { λ x. relative_check x.half.dir x.half.model.now x.half.name x.half.gains.values.now x.half.relative.now x.half.state };
+
+    /// The bound at choice `c`.
+    fn check_at(self, c: u32) -> Result<(), Objection> {
+        let stands = self.half.bound_stands(self.half.dir, c);
+        judged(stands, Rule::BoundOnEachChoice, self.half.state, Some(c))
+    }
 }
 
 impl Half<'_> {
-    /// Whether the upper gain of state `s` is at least, or the lower one at most, the sum of the gains over the row of its choice `c`.
-    fn gain_stands(self, dir: Dir, s: u32, c: u32) -> Result<bool, Wide>
-        requires state { s < states_of self.model.now }
-        requires choice { c < length (choices_at self.model.now s) }
-        ensures { result_ok result ≡ gain_stands dir self.entry.model.now self.entry.gains.values.now s c }
+    /// Whether the upper gain is at least, or the lower one at most, the sum of the gains over the row of choice `c`.
+    fn sum_stands(self, dir: Dir, c: u32) -> Result<bool, Wide>
+        requires { c < length (choices_at self.model.now self.state) }
+        ensures { result_ok result ≡ gain_stands dir self.entry.model.now self.entry.gains.values.now self.entry.state c }
+    {
+        let gains = self.gains.values;
+        let row = self.model.row(self.state, c);
+        let sum = row_sum(row, &Frac::whole(0), gains)?;
+        Ok(value_stands(dir, &gains[self.state as usize], &sum))
+    }
+
+    /// The same, without a sum where all gains are one number.
+    fn gain_stands(self, dir: Dir, c: u32) -> Result<bool, Wide>
+        requires { c < length (choices_at self.model.now self.state) }
+        ensures { result_ok result ≡ gain_stands dir self.entry.model.now self.entry.gains.values.now self.entry.state c }
     {
         let gains = self.gains;
         if gains.are_one {
             self.model.known();
             return Ok(true);
         }
-        let gains = gains.values;
-        let sum = row_sum(self.model.row(s, c), &Frac::whole(0), gains)?;
-        Ok(value_stands(dir, &gains[s as usize], &sum))
+        self.sum_stands(dir, c)
     }
 
-    /// Whether the upper gain and the bound of state `s` together are at least, or the lower one and the bound at most, what its choice `c` earns by
-    /// the bound: its reward and the sum over its row.
-    fn bound_stands(self, dir: Dir, s: u32, c: u32) -> Result<bool, Wide>
-        requires state { s < states_of self.model.now }
-        requires choice { c < length (choices_at self.model.now s) }
-        ensures { result_ok result ≡ bound_stands dir self.entry.model.now self.entry.name self.entry.gains.values.now self.entry.relative.now s c }
+    /// Whether the upper gain and the bound together are at least, or the lower one and the bound at most, what choice `c` earns by the bound: its
+    /// reward and the sum over its row.
+    fn bound_stands(self, dir: Dir, c: u32) -> Result<bool, Wide>
+        requires { c < length (choices_at self.model.now self.state) }
+        ensures { result_ok result ≡ bound_stands dir self.entry.model.now self.entry.name self.entry.gains.values.now self.entry.relative.now self.entry.state c }
     {
-        let step = step_at(self.gains, self.relative, s)?;
-        let reward = self.model.reward(self.name, s, c);
-        let sum = row_sum(self.model.row(s, c), &reward, self.relative)?;
+        let step = step_at(self.gains, self.relative, self.state)?;
+        let reward = self.model.reward(self.name, self.state, c);
+        let sum = row_sum(self.model.row(self.state, c), &reward, self.relative)?;
         Ok(value_stands(dir, &step, &sum))
     }
 
-    /// The gains at state `s` and its choice `c`.
-    fn gain_at(self, s: u32, c: u32) -> Result<(), Objection>
-        requires state { s < states_of self.model.now }
-        requires choice { c < length (choices_at self.model.now s) }
-        ensures { result ≡ objection_to (gain_check self.entry.dir self.entry.model.now self.entry.gains.values.now s c ∷ []) }
+    /// The rules of each choice.
+    fn on_each(self) -> Result<(), Objection>
+        ensures { result ≡ objection_to (gains_cover self.entry.dir self.entry.model.now self.entry.name self.entry.gains.values.now self.entry.relative.now self.entry.state) }
     {
-        let stands = self.gain_stands(self.dir, s, c);
-        judged(stands, Rule::GainOnEachChoice, s, Some(c))
+        each_choice(self.model, self.state, GainHalf { half: self })?;
+        each_choice(self.model, self.state, BoundHalf { half: self })
     }
 
-    /// The same of each choice.
-    fn gains_at(self, s: u32) -> Result<(), Objection>
-        requires { s < states_of self.model.now }
-        ensures { result ≡ objection_to (at_choices self.entry.model.now s (gain_check self.entry.dir self.entry.model.now self.entry.gains.values.now s)) }
+    /// The rules of the policy's choice `c`.
+    fn on_policy(self, c: u32) -> Result<(), Objection>
+        requires { c < length (choices_at self.model.now self.state) }
+        ensures { result ≡ objection_to (gains_follow self.entry.dir self.entry.model.now self.entry.name self.entry.gains.values.now self.entry.relative.now self.entry.state c) }
     {
-        each_choice(self.model, s, |c| self.gain_at(s, c))
-    }
-
-    /// The bound at state `s` and its choice `c`.
-    fn bound_at(self, s: u32, c: u32) -> Result<(), Objection>
-        requires state { s < states_of self.model.now }
-        requires choice { c < length (choices_at self.model.now s) }
-        ensures { result ≡ objection_to (relative_check self.entry.dir self.entry.model.now self.entry.name self.entry.gains.values.now self.entry.relative.now s c ∷ []) }
-    {
-        let stands = self.bound_stands(self.dir, s, c);
-        judged(stands, Rule::BoundOnEachChoice, s, Some(c))
-    }
-
-    /// The same of each choice.
-    fn bounds_at(self, s: u32) -> Result<(), Objection>
-        requires { s < states_of self.model.now }
-        ensures { result ≡ objection_to (at_choices self.entry.model.now s (relative_check self.entry.dir self.entry.model.now self.entry.name self.entry.gains.values.now self.entry.relative.now s)) }
-    {
-        each_choice(self.model, s, |c| self.bound_at(s, c))
-    }
-
-    /// The rules of each choice of state `s`.
-    fn on_each(self, s: u32) -> Result<(), Objection>
-        requires { s < states_of self.model.now }
-        ensures { result ≡ objection_to (gains_cover self.entry.dir self.entry.model.now self.entry.name self.entry.gains.values.now self.entry.relative.now s) }
-    {
-        self.gains_at(s)?;
-        self.bounds_at(s)
-    }
-
-    /// The rules of the policy's choice `c` at state `s`.
-    fn on_policy(self, s: u32, c: u32) -> Result<(), Objection>
-        requires state { s < states_of self.model.now }
-        requires choice { c < length (choices_at self.model.now s) }
-        ensures { result ≡ objection_to (gains_follow self.entry.dir self.entry.model.now self.entry.name self.entry.gains.values.now self.entry.relative.now s c) }
-    {
-        let keeps = self.gain_stands(reversed(self.dir), s, c);
-        judged(keeps, Rule::GainOnPolicy, s, Some(c))?;
-        let earns = self.bound_stands(reversed(self.dir), s, c);
-        judged(earns, Rule::BiasOnPolicy, s, Some(c))
+        let keeps = self.gain_stands(reversed(self.dir), c);
+        judged(keeps, Rule::GainOnPolicy, self.state, Some(c))?;
+        let earns = self.bound_stands(reversed(self.dir), c);
+        judged(earns, Rule::BiasOnPolicy, self.state, Some(c))
     }
 }
 
@@ -202,6 +209,26 @@ struct Claimed<'a> {
     ghost upper_each: { length upper.values.now ≡ states_of model.now },
     ghost bound_each: { length bound.now ≡ states_of model.now },
     ghost bias_each: { length bias.now ≡ states_of model.now },
+}
+
+/// The same with a policy.
+#[derive(Clone, Copy)]
+struct States<'a> {
+    claimed: Claimed<'a>,
+    choices: &'a [u32],
+    ghost choices_each: { length choices.now ≡ states_of claimed.model.now },
+}
+
+impl Checks for States<'_> {
+    ghost count = { λ x. states_of x.claimed.model.now };
+
+    ghost checks = { λ x s. mean_bounds_at x.claimed.dir x.claimed.model.now x.claimed.name x.claimed.lower.values.now x.claimed.upper.values.now
+        x.claimed.bound.now x.claimed.bias.now s (slice_index x.choices.now s) };
+
+    /// The rules at state `s`.
+    fn check(self, s: u32) -> Result<(), Objection> {
+        self.claimed.state_at(s, self.choices[s as usize])
+    }
 }
 
 impl<'a> Claimed<'a> {
@@ -228,8 +255,9 @@ impl<'a> Claimed<'a> {
             name: self.name,
             gains: self.covering(self.dir),
             relative: self.bound,
+            state: s,
         };
-        half.on_each(s)
+        half.on_each()
     }
 
     /// The half on the policy's choice, at state `s`.
@@ -245,8 +273,9 @@ impl<'a> Claimed<'a> {
             name: self.name,
             gains: self.covering(reversed(self.dir)),
             relative: self.bias,
+            state: s,
         };
-        half.on_policy(s, choice)
+        half.on_policy(choice)
     }
 
     /// The rules at state `s`, where the policy takes this choice.
@@ -266,10 +295,11 @@ impl<'a> Claimed<'a> {
         ensures { result ≡ objection_to (state_bounds_checks self.entry.dir self.entry.model.now self.entry.name
             self.entry.lower.values.now self.entry.upper.values.now self.entry.bound.now self.entry.bias.now choices.now) }
     {
-        each_below(
-            self.model.states(),
-            |s| self.state_at(s, choices[s as usize]),
-        )
+        let states = States {
+            claimed: self,
+            choices,
+        };
+        each_below(self.model.states(), states)
     }
 
     /// The spread is that of bounds and biases.

@@ -1,11 +1,11 @@
-ghost use Rattle.std.specs.Prelude.{◌≡◌, ◌<◌, ◌↔◌, length, [], ◌∷◌};
+ghost use Rattle.std.specs.Prelude.{◌≡◌, ◌<◌, ◌↔◌, length, slice_index, [], ◌∷◌, if◌then◌else◌};
 ghost use Rattle.std.specs.Result.{result_ok};
 ghost use Rattle.mdp_spec.specs.Mdp.{states_of, choices_at};
-ghost use Rattle.mdp_spec.specs.Row.{entries};
+ghost use Rattle.mdp_spec.specs.Tree.{is_marked};
 ghost use Rattle.mdp_spec.specs.Between.{ReachMaxBetween, ReachMinBetween};
-ghost use Rattle.mdp_bounds.specs.Reach.{covering, followed, probability_checks, goal_check, outermost, stands_at, bound_check};
+ghost use Rattle.mdp_bounds.specs.Reach.{covering, followed, probability_checks, goal_check, outermost, stands_at, bound_check, policy_check};
 ghost use Rattle.mdp_farkas.specs.Reach.{IsReach};
-ghost use Rattle.mdp_farkas.specs.Verdict.{objection_to, verdict_of, IsYes, IfYes};
+ghost use Rattle.mdp_farkas.specs.Verdict.{at_choices, objection_to, verdict_of, IsYes, IfYes};
 ghost use Rattle.mdp_rows.specs.declared.dir.Dir.TheVariants.{Max, Min};
 ghost use Rattle.mdp_bounds.specs.Reach.{cover_at, follow_at, bounds_at, bounds_checks, IsReachBounds, IsTrivialReach};
 
@@ -13,8 +13,8 @@ use crate::compare::{at_most, value_stands};
 use crate::sum::row_sum;
 use mdp_claims::ReachBoundsCert;
 use mdp_farkas::{
-    Objection, Rule, Verdict, choice_at, each_below, each_choice, judged, rank_at_state, reversed,
-    verdict_after,
+    Checks, Objection, OneCheck, Rule, Verdict, choice_at, each_below, each_choice, judged,
+    rank_at_state, reversed, verdict_after,
 };
 use mdp_num::{Frac, Wide};
 use mdp_rows::{Dir, Marks, Model};
@@ -62,75 +62,99 @@ fn outermost_value(dir: Dir) -> Frac
     }
 }
 
-/// The values of one column, which are held against a model.
+/// The values of one column, which are held against a model at one state.
 #[derive(Clone, Copy)]
 struct Half<'a> {
     dir: Dir,
     model: &'a Model,
     goals: &'a Marks,
     values: &'a [Frac],
+    state: u32,
     ghost goals_each: { length goals.now ≡ states_of model.now },
     ghost one_each: { length values.now ≡ states_of model.now },
+    ghost in_model: { state < states_of model.now },
+}
+
+impl OneCheck for Half<'_> {
+    ghost count = { λ h. length (choices_at h.model.now h.state) };
+
+    ghost check = { λ h. bound_check h.dir h.model.now h.values.now h.state };
+
+    /// The inequality at choice `c`.
+    fn check_at(self, c: u32) -> Result<(), Objection> {
+        judged(
+            self.stands(self.dir, c),
+            Rule::ValueOnEachChoice,
+            self.state,
+            Some(c),
+        )
+    }
 }
 
 impl Half<'_> {
-    /// Whether the upper value of state `s` is at least, or the lower one at most, the sum over the row of its choice `c`. The greatest upper
-    /// value and the least lower one stand to any row: for them no sum is made.
-    fn stands(self, dir: Dir, s: u32, c: u32) -> Result<bool, Wide>
-        requires state { s < states_of self.model.now }
-        requires choice { c < length (choices_at self.model.now s) }
-        ensures { result_ok result ≡ stands_at dir self.entry.model.now self.entry.values.now s c }
+    /// Whether the upper value is at least, or the lower one at most, the sum over the row of choice `c`. The greatest upper value and the least
+    /// lower one stand to any row: for them no sum is made.
+    fn stands(self, dir: Dir, c: u32) -> Result<bool, Wide>
+        requires { c < length (choices_at self.model.now self.state) }
+        ensures { result_ok result ≡ stands_at dir self.entry.model.now self.entry.values.now self.entry.state c }
     {
-        let value = self.values[s as usize];
+        let value = self.values[self.state as usize];
         if value == outermost_value(dir) {
             return Ok(true);
         }
-        let sum = row_sum(self.model.row(s, c), &Frac::whole(0), self.values)?;
+        let sum = row_sum(self.model.row(self.state, c), &Frac::whole(0), self.values)?;
         Ok(value_stands(dir, &value, &sum))
     }
 
-    /// The inequality at state `s` and its choice `c`.
-    fn on_choice(self, s: u32, c: u32) -> Result<(), Objection>
-        requires state { s < states_of self.model.now }
-        requires choice { c < length (choices_at self.model.now s) }
-        ensures { result ≡ objection_to (bound_check self.entry.dir self.entry.model.now self.entry.values.now s c ∷ []) }
+    /// The value is 1 at a goal; else it stands to the rows of all choices.
+    fn place_on_each(self) -> Result<(), Objection>
+        ensures { result ≡ objection_to (if is_marked self.entry.goals.now self.entry.state then goal_check self.entry.values.now self.entry.state ∷ []
+            else at_choices self.entry.model.now self.entry.state (bound_check self.entry.dir self.entry.model.now self.entry.values.now self.entry.state)) }
     {
-        judged(
-            self.stands(self.dir, s, c),
-            Rule::ValueOnEachChoice,
-            s,
-            Some(c),
-        )
+        if self.goals.at(self.state) {
+            goal_at(self.values, self.state)
+        } else {
+            each_choice(self.model, self.state, self)
+        }
     }
 
-    /// The value of state `s` is a probability and 1 at a goal; else it stands to the rows of all choices.
-    fn on_each(self, s: u32) -> Result<(), Objection>
-        requires { s < states_of self.model.now }
-        ensures { result ≡ objection_to (cover_at self.entry.dir self.entry.model.now self.entry.goals.now self.entry.values.now s) }
+    /// The value is a probability too.
+    fn on_each(self) -> Result<(), Objection>
+        ensures { result ≡ objection_to (cover_at self.entry.dir self.entry.model.now self.entry.goals.now self.entry.values.now self.entry.state) }
     {
-        probability_at(self.values, s)?;
-        if self.goals.at(s) {
-            return goal_at(self.values, s);
-        }
-        each_choice(self.model, s, |c| self.on_choice(s, c))
+        probability_at(self.values, self.state)?;
+        self.place_on_each()
     }
 
-    /// The value of state `s` is a probability and 1 at a goal; else it stands to the row of the policy's choice `c`.
-    fn on_policy(self, s: u32, c: u32) -> Result<(), Objection>
-        requires state { s < states_of self.model.now }
-        requires choice { c < length (choices_at self.model.now s) }
-        ensures { result ≡ objection_to (follow_at self.entry.dir self.entry.model.now self.entry.goals.now self.entry.values.now s c) }
+    /// The value stands to the row of the policy's choice `c`.
+    fn policy_at(self, c: u32) -> Result<(), Objection>
+        requires { c < length (choices_at self.model.now self.state) }
+        ensures { result ≡ objection_to (policy_check self.entry.dir self.entry.model.now self.entry.values.now self.entry.state c ∷ []) }
     {
-        probability_at(self.values, s)?;
-        if self.goals.at(s) {
-            return goal_at(self.values, s);
+        let stands = self.stands(reversed(self.dir), c);
+        judged(stands, Rule::ValueOnPolicy, self.state, Some(c))
+    }
+
+    /// The value is 1 at a goal; else it stands so.
+    fn place_on_policy(self, c: u32) -> Result<(), Objection>
+        requires { c < length (choices_at self.model.now self.state) }
+        ensures { result ≡ objection_to (if is_marked self.entry.goals.now self.entry.state then goal_check self.entry.values.now self.entry.state ∷ []
+            else policy_check self.entry.dir self.entry.model.now self.entry.values.now self.entry.state c ∷ []) }
+    {
+        if self.goals.at(self.state) {
+            goal_at(self.values, self.state)
+        } else {
+            self.policy_at(c)
         }
-        judged(
-            self.stands(reversed(self.dir), s, c),
-            Rule::ValueOnPolicy,
-            s,
-            Some(c),
-        )
+    }
+
+    /// The value is a probability too.
+    fn on_policy(self, c: u32) -> Result<(), Objection>
+        requires { c < length (choices_at self.model.now self.state) }
+        ensures { result ≡ objection_to (follow_at self.entry.dir self.entry.model.now self.entry.goals.now self.entry.values.now self.entry.state c) }
+    {
+        probability_at(self.values, self.state)?;
+        self.place_on_policy(c)
     }
 }
 
@@ -147,6 +171,25 @@ struct Claimed<'a> {
     ghost lower_each: { length lower.now ≡ states_of model.now },
     ghost upper_each: { length upper.now ≡ states_of model.now },
     ghost ranks_each: { length ranks.now ≡ states_of model.now },
+}
+
+/// The same with a policy.
+#[derive(Clone, Copy)]
+struct States<'a> {
+    claimed: Claimed<'a>,
+    choices: &'a [u32],
+    ghost choices_each: { length choices.now ≡ states_of claimed.model.now },
+}
+
+impl Checks for States<'_> {
+    ghost count = { λ x. states_of x.claimed.model.now };
+
+    ghost checks = { λ x s. bounds_at x.claimed.dir x.claimed.model.now x.claimed.goals.now x.claimed.lower.now x.claimed.upper.now x.claimed.ranks.now s (slice_index x.choices.now s) };
+
+    /// The rules at state `s`.
+    fn check(self, s: u32) -> Result<(), Objection> {
+        self.claimed.state_at(s, self.choices[s as usize])
+    }
 }
 
 impl<'a> Claimed<'a> {
@@ -171,8 +214,9 @@ impl<'a> Claimed<'a> {
             model: self.model,
             goals: self.goals,
             values: self.covering(self.dir),
+            state: s,
         };
-        half.on_each(s)
+        half.on_each()
     }
 
     /// The half on the policy's choice, at state `s`.
@@ -186,8 +230,9 @@ impl<'a> Claimed<'a> {
             model: self.model,
             goals: self.goals,
             values: self.covering(reversed(self.dir)),
+            state: s,
         };
-        half.on_policy(s, choice)
+        half.on_policy(choice)
     }
 
     /// The rules at state `s`, where the policy takes this choice.
@@ -208,10 +253,11 @@ impl<'a> Claimed<'a> {
         requires { length choices.now ≡ states_of self.model.now }
         ensures { result ≡ objection_to (bounds_checks self.entry.dir self.entry.model.now self.entry.goals.now self.entry.lower.now self.entry.upper.now choices.now self.entry.ranks.now) }
     {
-        each_below(
-            self.model.states(),
-            |s| self.state_at(s, choices[s as usize]),
-        )
+        let states = States {
+            claimed: self,
+            choices,
+        };
+        each_below(self.model.states(), states)
     }
 }
 

@@ -1,4 +1,4 @@
-ghost use Rattle.std.specs.Prelude.{◌≡◌, ◌<◌, ◌↔◌, length, [], ◌∷◌};
+ghost use Rattle.std.specs.Prelude.{◌≡◌, ◌<◌, ◌↔◌, length, slice_index, [], ◌∷◌};
 ghost use Rattle.mdp_spec.specs.Mdp.{states_of, choices_at};
 ghost use Rattle.mdp_spec.specs.Between.{RewardMaxBetween, RewardMinBetween};
 ghost use Rattle.mdp_farkas.specs.Reward.{IsReward};
@@ -10,8 +10,8 @@ use crate::column::Column;
 use crate::compare::at_most;
 use mdp_claims::RewardBoundsCert;
 use mdp_farkas::{
-    Objection, Rule, Verdict, choice_at, each_below, each_choice, is_infinite_at, judged,
-    verdict_after,
+    Checks, Objection, OneCheck, Rule, Verdict, choice_at, each_below, each_choice, is_infinite_at,
+    judged, verdict_after,
 };
 use mdp_num::Frac;
 use mdp_rows::{Dir, Marks, Model};
@@ -33,6 +33,48 @@ struct Claimed<'a> {
     ghost ranks_each: { length ranks.now ≡ states_of model.now },
 }
 
+/// The same with a policy.
+#[derive(Clone, Copy)]
+struct States<'a> {
+    claimed: Claimed<'a>,
+    choices: &'a [u32],
+    ghost choices_each: { length choices.now ≡ states_of claimed.model.now },
+}
+
+impl Checks for States<'_> {
+    ghost count = { λ x. states_of x.claimed.model.now };
+
+    ghost checks = { λ x s. reward_bounds_at x.claimed.dir x.claimed.model.now x.claimed.name x.claimed.goals.now x.claimed.lower.now x.claimed.upper.now x.claimed.ranks.now s (slice_index x.choices.now s) };
+
+    /// The rules at state `s`.
+    fn check(self, s: u32) -> Result<(), Objection> {
+        self.claimed.state_at(s, self.choices[s as usize])
+    }
+}
+
+/// The rewards of one state's choices.
+#[derive(Clone, Copy)]
+struct Signs<'a> {
+    model: &'a Model,
+    name: u32,
+    state: u32,
+    ghost named: { name < length model.now.names },
+    ghost in_model: { state < states_of model.now },
+}
+
+impl OneCheck for Signs<'_> {
+    ghost count = { λ x. length (choices_at x.model.now x.state) };
+
+    ghost check = { λ x. sign_check x.model.now x.name x.state };
+
+    /// The reward of choice `c` is at least 0.
+    fn check_at(self, c: u32) -> Result<(), Objection> {
+        let reward = self.model.reward(self.name, self.state, c);
+        let nonneg = at_most(&Frac::whole(0), &reward);
+        judged(Ok(nonneg), Rule::RewardNotNegative, self.state, Some(c))
+    }
+}
+
 impl Claimed<'_> {
     /// The upper value of state `s` is infinite where the lower one is.
     fn order_at(self, s: u32) -> Result<(), Objection>
@@ -43,22 +85,17 @@ impl Claimed<'_> {
         judged(Ok(ordered), Rule::RewardValue, s, None)
     }
 
-    /// The reward of choice `c` is at least 0.
-    fn sign_at(self, s: u32, c: u32) -> Result<(), Objection>
-        requires state { s < states_of self.model.now }
-        requires choice { c < length (choices_at self.model.now s) }
-        ensures { result ≡ objection_to (sign_check self.entry.model.now self.entry.name s c ∷ []) }
-    {
-        let nonneg = at_most(&Frac::whole(0), &self.model.reward(self.name, s, c));
-        judged(Ok(nonneg), Rule::RewardNotNegative, s, Some(c))
-    }
-
-    /// The same of each choice.
+    /// The reward of each choice is at least 0.
     fn signs_at(self, s: u32) -> Result<(), Objection>
         requires { s < states_of self.model.now }
         ensures { result ≡ objection_to (sign_checks self.entry.model.now self.entry.name s) }
     {
-        each_choice(self.model, s, |c| self.sign_at(s, c))
+        let signs = Signs {
+            model: self.model,
+            name: self.name,
+            state: s,
+        };
+        each_choice(self.model, s, signs)
     }
 
     /// The rules at state `s`, where the policy takes this choice.
@@ -94,10 +131,11 @@ impl Claimed<'_> {
         requires { length choices.now ≡ states_of self.model.now }
         ensures { result ≡ objection_to (reward_bounds_checks self.entry.dir self.entry.model.now self.entry.name self.entry.goals.now self.entry.lower.now self.entry.upper.now choices.now self.entry.ranks.now) }
     {
-        each_below(
-            self.model.states(),
-            |s| self.state_at(s, choices[s as usize]),
-        )
+        let states = States {
+            claimed: self,
+            choices,
+        };
+        each_below(self.model.states(), states)
     }
 }
 

@@ -1,11 +1,11 @@
 ghost use Rattle.std.specs.Prelude.{◌≡◌, ◌<◌, length, All};
-ghost use Rattle.std.specs.List.{list_all};
 ghost use Rattle.std.specs.Result.{result_ok};
 ghost use Rattle.mdp_spec.specs.Mdp.{value_at};
 ghost use Rattle.mdp_spec.specs.Row.{entries};
 ghost use Rattle.mdp_num.specs.Equal.{eq_ℚ};
 ghost use Rattle.mdp_bounds.specs.Sum.{first_value, plain_add, one_sum, told_sum};
 
+use mdp_farkas::{StateTest, all_pass};
 use mdp_num::{Frac, Wide};
 use mdp_rows::Row;
 
@@ -20,20 +20,22 @@ fn first_of(targets: &[u32], values: &[Frac]) -> Frac
     values[targets[0] as usize]
 }
 
-/// Whether state `t` has this value.
-fn has_value(values: &[Frac], t: u32, value: &Frac) -> bool
-    requires { t < length values.now }
-    ensures { result ≡ eq_ℚ (value_at values.now t) value.now }
-{
-    values[t as usize] == *value
+/// Values that are held against one value.
+#[derive(Clone, Copy)]
+struct Values<'a> {
+    values: &'a [Frac],
+    value: &'a Frac,
 }
 
-/// Whether all targets have this value.
-fn all_have(targets: &[u32], values: &[Frac], value: &Frac) -> bool
-    requires { All (λ t. t < length values.now) targets.now }
-    ensures { result ≡ list_all (λ t. eq_ℚ (value_at values.now t) value.now) targets.now }
-{
-    targets.iter().all(|t| has_value(values, *t, value))
+impl StateTest for Values<'_> {
+    ghost states = { λ x. length x.values.now };
+
+    ghost test = { λ x t. eq_ℚ (value_at x.values.now t) x.value.now };
+
+    /// Whether state `t` has the value.
+    fn passes(self, t: u32) -> bool {
+        self.values[t as usize] == *self.value
+    }
 }
 
 /// The sum, with no written term where one of the two is 0.
@@ -66,7 +68,11 @@ fn one_value_sum(targets: &[u32], start: &Frac, values: &[Frac]) -> Option<Frac>
     ensures { result ≡ one_sum values.now start.now targets.now }
 {
     let first = first_of(targets, values);
-    if all_have(targets, values, &first) {
+    let held = Values {
+        values,
+        value: &first,
+    };
+    if all_pass(targets, held) {
         return sum_in_width(start, &first);
     }
     None

@@ -5,11 +5,11 @@ ghost use Rattle.mdp_farkas.specs.Verdict.{at_choices, objection_to};
 ghost use Rattle.mdp_discount_bounds.specs.Checks.{told_left, number_allows, allows, each_check, policy_check};
 
 use mdp_bounds::{finite_row_sum, plain_sum, value_stands};
-use mdp_farkas::{Objection, Rule, each_choice, judged, stays_finite_at};
+use mdp_farkas::{Objection, OneCheck, Rule, each_choice, judged, stays_finite_at};
 use mdp_num::{Frac, Wide};
 use mdp_rows::{Dir, Model};
 
-/// The values of one column, which are held against a model: whether they are as good as what choices earn.
+/// The values of one column, which are held against a model at one state: whether its value is as good as what choices earn.
 #[derive(Clone, Copy)]
 pub(crate) struct Half<'a> {
     pub dir: Dir,
@@ -17,70 +17,82 @@ pub(crate) struct Half<'a> {
     pub name: u32,
     pub factor: &'a Frac,
     pub values: &'a [Option<Frac>],
+    pub state: u32,
     pub ghost named: { name < length model.now.names },
     pub ghost one_each: { length values.now ≡ states_of model.now },
+    pub ghost in_model: { state < states_of model.now },
+}
+
+impl OneCheck for Half<'_> {
+    ghost count = { λ h. length (choices_at h.model.now h.state) };
+
+    ghost check = { λ h. each_check h.dir h.model.now h.name h.factor.now h.values.now h.state };
+
+    /// The value against choice `c`.
+    fn check_at(self, c: u32) -> Result<(), Objection> {
+        judged(
+            self.allows(c),
+            Rule::DiscountedOnEachChoice,
+            self.state,
+            Some(c),
+        )
+    }
 }
 
 impl Half<'_> {
-    /// What a value of state `s` leaves to the reward of choice `c`: less `factor` times the sum over its row.
-    fn left_for(self, s: u32, c: u32, value: &Frac) -> Result<Frac, Wide>
-        requires state { s < states_of self.model.now }
-        requires choice { c < length (choices_at self.model.now s) }
-        ensures { result_ok result ≡ told_left self.entry.model.now self.entry.factor.now s c self.entry.values.now value.now }
+    /// What a value leaves to the reward of choice `c`: less `factor` times the sum over its row.
+    fn left_for(self, c: u32, value: &Frac) -> Result<Frac, Wide>
+        requires { c < length (choices_at self.model.now self.state) }
+        ensures { result_ok result ≡ told_left self.entry.model.now self.entry.factor.now self.entry.state c self.entry.values.now value.now }
     {
-        let sum = finite_row_sum(self.model.row(s, c), &Frac::whole(0), self.values)?;
+        let row = self.model.row(self.state, c);
+        let sum = finite_row_sum(row, &Frac::whole(0), self.values)?;
         let later = self.factor.mul(&sum)?;
         plain_sum(value, &later.negate())
     }
 
-    /// Whether a value of state `s` is as good as what choice `c` earns.
-    fn number_allows(self, s: u32, c: u32, value: &Frac) -> Result<bool, Wide>
-        requires state { s < states_of self.model.now }
-        requires choice { c < length (choices_at self.model.now s) }
-        ensures { result_ok result ≡ number_allows self.entry.dir self.entry.model.now self.entry.name self.entry.factor.now self.entry.values.now s c value.now }
+    /// Whether a value is as good as what choice `c` earns.
+    fn number_allows(self, c: u32, value: &Frac) -> Result<bool, Wide>
+        requires { c < length (choices_at self.model.now self.state) }
+        ensures { result_ok result ≡ number_allows self.entry.dir self.entry.model.now self.entry.name self.entry.factor.now self.entry.values.now self.entry.state c value.now }
     {
-        if !stays_finite_at(self.model, self.values, s, c) {
+        if !stays_finite_at(self.model, self.values, self.state, c) {
             return Ok(false);
         }
-        let left = self.left_for(s, c, value)?;
-        Ok(value_stands(self.dir, &left, &self.model.reward(self.name, s, c)))
+        let left = self.left_for(c, value)?;
+        let reward = self.model.reward(self.name, self.state, c);
+        Ok(value_stands(self.dir, &left, &reward))
     }
 
-    /// Whether the value of state `s` is as good as what choice `c` earns, as a missing one is.
-    fn allows(self, s: u32, c: u32) -> Result<bool, Wide>
-        requires state { s < states_of self.model.now }
-        requires choice { c < length (choices_at self.model.now s) }
-        ensures { result_ok result ≡ allows self.entry.dir self.entry.model.now self.entry.name self.entry.factor.now self.entry.values.now s c }
+    /// Whether the value of the state is as good as what choice `c` earns, as a missing one is.
+    fn allows(self, c: u32) -> Result<bool, Wide>
+        requires { c < length (choices_at self.model.now self.state) }
+        ensures { result_ok result ≡ allows self.entry.dir self.entry.model.now self.entry.name self.entry.factor.now self.entry.values.now self.entry.state c }
     {
-        match self.values[s as usize] {
-            Some(value) => self.number_allows(s, c, &value),
+        match self.values[self.state as usize] {
+            Some(value) => self.number_allows(c, &value),
             None => Ok(true),
         }
     }
 
-    /// The value of state `s` against its choice `c`.
-    fn on_choice(self, s: u32, c: u32) -> Result<(), Objection>
-        requires state { s < states_of self.model.now }
-        requires choice { c < length (choices_at self.model.now s) }
-        ensures { result ≡ objection_to (each_check self.entry.dir self.entry.model.now self.entry.name self.entry.factor.now self.entry.values.now s c ∷ []) }
+    /// The value against each choice.
+    pub(crate) fn on_each(self) -> Result<(), Objection>
+        ensures { result ≡ objection_to (at_choices self.entry.model.now self.entry.state
+            (each_check self.entry.dir self.entry.model.now self.entry.name self.entry.factor.now self.entry.values.now self.entry.state)) }
     {
-        judged(self.allows(s, c), Rule::DiscountedOnEachChoice, s, Some(c))
+        each_choice(self.model, self.state, self)
     }
 
-    /// The value of state `s` against each of its choices.
-    pub(crate) fn on_each(self, s: u32) -> Result<(), Objection>
-        requires { s < states_of self.model.now }
-        ensures { result ≡ objection_to (at_choices self.entry.model.now s (each_check self.entry.dir self.entry.model.now self.entry.name self.entry.factor.now self.entry.values.now s)) }
+    /// The value against the policy's choice `c`.
+    pub(crate) fn on_policy(self, c: u32) -> Result<(), Objection>
+        requires { c < length (choices_at self.model.now self.state) }
+        ensures { result ≡ objection_to (policy_check self.entry.dir self.entry.model.now self.entry.name self.entry.factor.now self.entry.values.now self.entry.state c ∷ []) }
     {
-        each_choice(self.model, s, |c| self.on_choice(s, c))
-    }
-
-    /// The value of state `s` against the policy's choice `c`.
-    pub(crate) fn on_policy(self, s: u32, c: u32) -> Result<(), Objection>
-        requires state { s < states_of self.model.now }
-        requires choice { c < length (choices_at self.model.now s) }
-        ensures { result ≡ objection_to (policy_check self.entry.dir self.entry.model.now self.entry.name self.entry.factor.now self.entry.values.now s c ∷ []) }
-    {
-        judged(self.allows(s, c), Rule::DiscountedOnPolicy, s, Some(c))
+        judged(
+            self.allows(c),
+            Rule::DiscountedOnPolicy,
+            self.state,
+            Some(c),
+        )
     }
 }

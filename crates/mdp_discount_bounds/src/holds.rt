@@ -1,4 +1,4 @@
-ghost use Rattle.std.specs.Prelude.{◌≡◌, ◌<◌, ◌↔◌, length, [], ◌∷◌};
+ghost use Rattle.std.specs.Prelude.{◌≡◌, ◌<◌, ◌↔◌, length, slice_index, [], ◌∷◌};
 ghost use Rattle.mdp_spec.specs.Mdp.{states_of, choices_at};
 ghost use Rattle.mdp_farkas.specs.Reach.{other};
 ghost use Rattle.mdp_farkas.specs.Verdict.{at_choices, objection_to, verdict_of, IsYes, IfYes};
@@ -12,7 +12,7 @@ use crate::bounds::DiscountBounds;
 use crate::half::Half;
 use crate::remainder::greatest_magnitude;
 use mdp_farkas::{
-    Objection, Rule, Verdict, choice_at, each_below, judged_at, reversed, verdict_after,
+    Checks, Objection, Rule, Verdict, choice_at, each_below, judged_at, reversed, verdict_after,
 };
 use mdp_num::Frac;
 use mdp_rows::{Dir, Model};
@@ -29,6 +29,25 @@ struct Claimed<'a> {
     ghost named: { name < length model.now.names },
     ghost lower_each: { length lower.now ≡ states_of model.now },
     ghost upper_each: { length upper.now ≡ states_of model.now },
+}
+
+/// The same with a policy.
+#[derive(Clone, Copy)]
+struct States<'a> {
+    claimed: Claimed<'a>,
+    choices: &'a [u32],
+    ghost choices_each: { length choices.now ≡ states_of claimed.model.now },
+}
+
+impl Checks for States<'_> {
+    ghost count = { λ x. states_of x.claimed.model.now };
+
+    ghost checks = { λ x s. bounds_at x.claimed.dir x.claimed.model.now x.claimed.name x.claimed.factor.now x.claimed.lower.now x.claimed.upper.now s (slice_index x.choices.now s) };
+
+    /// The rules at state `s`.
+    fn check(self, s: u32) -> Result<(), Objection> {
+        self.claimed.state_at(s, self.choices[s as usize])
+    }
 }
 
 impl<'a> Claimed<'a> {
@@ -55,8 +74,9 @@ impl<'a> Claimed<'a> {
             name: self.name,
             factor: self.factor,
             values: self.covering(self.dir),
+            state: s,
         };
-        half.on_each(s)
+        half.on_each()
     }
 
     /// The half on the policy's choice, at state `s`.
@@ -73,8 +93,9 @@ impl<'a> Claimed<'a> {
             name: self.name,
             factor: self.factor,
             values: self.covering(dir),
+            state: s,
         };
-        half.on_policy(s, choice)
+        half.on_policy(choice)
     }
 
     /// The rules at state `s`, where the policy takes this choice.
@@ -92,10 +113,11 @@ impl<'a> Claimed<'a> {
         requires { length choices.now ≡ states_of self.model.now }
         ensures { result ≡ objection_to (state_checks self.entry.dir self.entry.model.now self.entry.name self.entry.factor.now self.entry.lower.now self.entry.upper.now choices.now) }
     {
-        each_below(
-            self.model.states(),
-            |s| self.state_at(s, choices[s as usize]),
-        )
+        let states = States {
+            claimed: self,
+            choices,
+        };
+        each_below(self.model.states(), states)
     }
 
     /// The remainder is the greatest magnitude of the values.

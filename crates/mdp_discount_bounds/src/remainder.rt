@@ -1,4 +1,5 @@
-ghost use Rattle.std.specs.Prelude.{◌≡◌, map};
+ghost use Rattle.std.specs.Prelude.{◌≡◌, map, pos, unwrap_or};
+ghost use Rattle.mdp_math.specs.Rational.{of_int};
 ghost use Rattle.mdp_rows.specs.declared.dir.Dir.TheVariants.{Max};
 ghost use Rattle.mdp_spec.specs.Bounds.{finite_part};
 ghost use Rattle.mdp_bounds.specs.Mean.{exact_best};
@@ -9,13 +10,20 @@ use mdp_discount_rules::magnitude;
 use mdp_num::Frac;
 use std::cmp::Ordering;
 
-/// The greatest of a first number and the magnitudes of these values; a missing one has magnitude 0.
+/// The magnitude of a value; a missing one has magnitude 0.
+fn magnitude_of(value: Option<Frac>) -> Frac
+    ensures { result ≡ magnitude (unwrap_or value (of_int (pos 0))) }
+{
+    magnitude(&value.unwrap_or(Frac::whole(0)))
+}
+
+/// The greatest of a first number and the magnitudes of these values.
 fn greatest_from(first: &Frac, values: &[Option<Frac>]) -> Frac
     ensures { result ≡ exact_best Max first.now (map magnitude (finite_part values.now)) }
 {
     let mut best = *first;
     for value in values {
-        let next = magnitude(&value.unwrap_or(Frac::whole(0)));
+        let next = magnitude_of(*value);
         if next.order(&best) == Ordering::Greater {
             best = next;
         }

@@ -1,4 +1,4 @@
-ghost use Rattle.std.specs.Prelude.{◌≡◌, ◌<◌, ◌↔◌, [], ◌∷◌, length};
+ghost use Rattle.std.specs.Prelude.{◌≡◌, ◌<◌, ◌↔◌, [], ◌∷◌, length, slice_index};
 ghost use Rattle.std.specs.Result.{result_ok};
 ghost use Rattle.mdp_spec.specs.Mdp.{states_of, choices_at, value_at};
 ghost use Rattle.mdp_farkas.specs.Verdict.{at_choices, objection_to, verdict_of, IsYes, IfYes};
@@ -9,8 +9,8 @@ use crate::cert::DiscountCert;
 use crate::earning::earned;
 use crate::remainder::greatest_magnitude;
 use mdp_farkas::{
-    Objection, Rule, Verdict, choice_at, each_below, each_choice, equal, judged, judged_at,
-    value_stands, verdict_after,
+    Checks, Objection, OneCheck, Rule, Verdict, choice_at, each_below, each_choice, equal, judged,
+    judged_at, value_stands, verdict_after,
 };
 use mdp_num::{Frac, Wide};
 use mdp_rows::{Dir, Model};
@@ -27,6 +27,37 @@ struct Claimed<'a> {
     ghost named: { name < length model.now.names },
     ghost values_each: { length values.now ≡ states_of model.now },
     ghost choices_each: { length choices.now ≡ states_of model.now },
+}
+
+impl Checks for Claimed<'_> {
+    ghost count = { λ x. states_of x.model.now };
+
+    ghost checks = { λ x s. checks_at x.dir x.model.now x.name x.factor.now x.values.now s (slice_index x.choices.now s) };
+
+    /// The rules at state `s`.
+    fn check(self, s: u32) -> Result<(), Objection> {
+        self.state_at(s, self.choices[s as usize])
+    }
+}
+
+/// The value of one state, which is held against what its choices earn.
+#[derive(Clone, Copy)]
+struct Covers<'a> {
+    claimed: Claimed<'a>,
+    state: u32,
+    ghost in_model: { state < states_of claimed.model.now },
+}
+
+impl OneCheck for Covers<'_> {
+    ghost count = { λ x. length (choices_at x.claimed.model.now x.state) };
+
+    ghost check = { λ x. covers_check x.claimed.dir x.claimed.model.now x.claimed.name x.claimed.factor.now x.claimed.values.now x.state };
+
+    /// The value against choice `c`.
+    fn check_at(self, c: u32) -> Result<(), Objection> {
+        let covers = self.claimed.covers(self.state, c);
+        judged(covers, Rule::DiscountedOnEachChoice, self.state, Some(c))
+    }
 }
 
 impl Claimed<'_> {
@@ -50,21 +81,16 @@ impl Claimed<'_> {
         equal(&self.values[s as usize], &sum)
     }
 
-    /// The value of state `s` against its choice `c`.
-    fn covers_at(self, s: u32, c: u32) -> Result<(), Objection>
-        requires state { s < states_of self.model.now }
-        requires choice { c < length (choices_at self.model.now s) }
-        ensures { result ≡ objection_to (covers_check self.entry.dir self.entry.model.now self.entry.name self.entry.factor.now self.entry.values.now s c ∷ []) }
-    {
-        judged(self.covers(s, c), Rule::DiscountedOnEachChoice, s, Some(c))
-    }
-
     /// The value of state `s` against each of its choices.
     fn choices_of(self, s: u32) -> Result<(), Objection>
         requires { s < states_of self.model.now }
         ensures { result ≡ objection_to (at_choices self.entry.model.now s (covers_check self.entry.dir self.entry.model.now self.entry.name self.entry.factor.now self.entry.values.now s)) }
     {
-        each_choice(self.model, s, |c| self.covers_at(s, c))
+        let covers = Covers {
+            claimed: self,
+            state: s,
+        };
+        each_choice(self.model, s, covers)
     }
 
     /// The value of state `s` against the policy's choice `c`.
@@ -90,10 +116,7 @@ impl Claimed<'_> {
     fn states(self) -> Result<(), Objection>
         ensures { result ≡ objection_to (state_checks self.entry.dir self.entry.model.now self.entry.name self.entry.factor.now self.entry.values.now self.entry.choices.now) }
     {
-        each_below(
-            self.model.states(),
-            |s| self.state_at(s, self.choices[s as usize]),
-        )
+        each_below(self.model.states(), self)
     }
 
     /// All rules: those at each state, and that of the remainder.

@@ -9,7 +9,7 @@ ghost use Rattle.mdp_farkas.specs.Verdict.{at_choice, at_choices, objection_to};
 use crate::compare::{at_least, at_most};
 use crate::reach::reversed;
 use crate::verdict::judged;
-use crate::walk::each_choice;
+use crate::walk::{OneCheck, each_choice};
 use mdp_claims::{Objection, Rule};
 use mdp_num::{Frac, Wide};
 use mdp_rows::{Dir, Model, Row};
@@ -39,58 +39,61 @@ pub(crate) fn row_stands(
     value_stands(dir, value, &sum)
 }
 
-/// A number for each state, held against the rows of a model.
+/// A number for each state, held against the rows of a state of a model.
 #[derive(Clone, Copy)]
 pub(crate) struct Held<'a> {
     pub dir: Dir,
     pub model: &'a Model,
     pub values: &'a [Frac],
+    pub rule: Rule,
+    pub state: u32,
     pub ghost one_each: { length values.now ≡ states_of model.now },
+    pub ghost in_model: { state < states_of model.now },
+}
+
+impl OneCheck for Held<'_> {
+    ghost count = { λ h. length (choices_at h.model.now h.state) };
+
+    ghost check = { λ h c. at_choice h.rule h.state c (stands_at h.dir h.model.now h.values.now h.state c) };
+
+    /// Bellman's inequality at choice `c`, as the rule asks it.
+    fn check_at(self, c: u32) -> Result<(), Objection> {
+        judged(self.stands(self.dir, c), self.rule, self.state, Some(c))
+    }
 }
 
 impl Held<'_> {
-    /// Whether the value of state `s` is at least, or for the least values at most, the sum over the row of its choice `c`.
-    fn stands(self, dir: Dir, s: u32, c: u32) -> Result<bool, Wide>
-        requires state { s < states_of self.model.now }
-        requires choice { c < length (choices_at self.model.now s) }
-        ensures { result_ok result ≡ stands_at dir self.entry.model.now self.entry.values.now s c }
+    /// Whether the value is at least, or for the least values at most, the sum over the row of choice `c`.
+    fn stands(self, dir: Dir, c: u32) -> Result<bool, Wide>
+        requires { c < length (choices_at self.model.now self.state) }
+        ensures { result_ok result ≡ stands_at dir self.entry.model.now self.entry.values.now self.entry.state c }
     {
         row_stands(
-            self.model.row(s, c),
+            self.model.row(self.state, c),
             dir,
-            &self.values[s as usize],
+            &self.values[self.state as usize],
             &Frac::whole(0),
             self.values,
         )
     }
 
-    /// Bellman's inequality at state `s` and its choice `c`, as this rule asks it.
-    fn meets(self, rule: Rule, s: u32, c: u32) -> Result<(), Objection>
-        requires state { s < states_of self.model.now }
-        requires choice { c < length (choices_at self.model.now s) }
-        ensures { result ≡ objection_to (at_choice rule s c (stands_at self.entry.dir self.entry.model.now self.entry.values.now s c) ∷ []) }
+    /// The inequality at each choice.
+    pub(crate) fn meets_on_each(self) -> Result<(), Objection>
+        ensures { result ≡ objection_to (at_choices self.entry.model.now self.entry.state
+            (λ c. at_choice self.entry.rule self.entry.state c (stands_at self.entry.dir self.entry.model.now self.entry.values.now self.entry.state c))) }
     {
-        judged(self.stands(self.dir, s, c), rule, s, Some(c))
-    }
-
-    /// The inequality at each choice of state `s`.
-    pub(crate) fn meets_on_each(self, rule: Rule, s: u32) -> Result<(), Objection>
-        requires { s < states_of self.model.now }
-        ensures { result ≡ objection_to (at_choices self.entry.model.now s (λ c. at_choice rule s c (stands_at self.entry.dir self.entry.model.now self.entry.values.now s c))) }
-    {
-        each_choice(self.model, s, |c| self.meets(rule, s, c))
+        each_choice(self.model, self.state, self)
     }
 
     /// The inequality the other way round, for the choice of the policy.
-    pub(crate) fn meets_on_policy(self, s: u32, choice: u32) -> Result<(), Objection>
-        requires state { s < states_of self.model.now }
-        requires choice { choice < length (choices_at self.model.now s) }
-        ensures { result ≡ objection_to (policy_check self.entry.dir self.entry.model.now self.entry.values.now s choice ∷ []) }
+    pub(crate) fn meets_on_policy(self, choice: u32) -> Result<(), Objection>
+        requires { choice < length (choices_at self.model.now self.state) }
+        ensures { result ≡ objection_to (policy_check self.entry.dir self.entry.model.now self.entry.values.now self.entry.state choice ∷ []) }
     {
         judged(
-            self.stands(reversed(self.dir), s, choice),
+            self.stands(reversed(self.dir), choice),
             Rule::ValueOnPolicy,
-            s,
+            self.state,
             Some(choice),
         )
     }

@@ -1,5 +1,4 @@
 ghost use Rattle.std.specs.Prelude.{◌≡◌, ◌<◌, length, All, not};
-ghost use Rattle.std.specs.List.{list_all};
 ghost use Rattle.std.specs.Result.{result_ok};
 ghost use Rattle.mdp_spec.specs.Bounds.{finite_part, infinite};
 ghost use Rattle.mdp_spec.specs.Mdp.{states_of, choices_at, value_at};
@@ -8,6 +7,7 @@ ghost use Rattle.mdp_spec.specs.Tree.{is_marked};
 ghost use Rattle.mdp_spec.specs.Written.{written_sum};
 ghost use Rattle.mdp_farkas.specs.Reward.{stays_finite};
 
+use crate::targets::{StateTest, each_target};
 use mdp_num::{Frac, Wide};
 use mdp_rows::{Model, Row, ValuesOf};
 
@@ -50,12 +50,14 @@ pub fn finite_sum(row: Row<'_>, start: &Frac, values: &[Option<Frac>]) -> Result
     row.sum_over(start, &FiniteParts { values })
 }
 
-/// Whether the values of all targets are finite.
-fn all_finite(targets: &[u32], values: &[Option<Frac>]) -> bool
-    requires { All (λ t. t < length values.now) targets.now }
-    ensures { result ≡ list_all (λ t. not (is_marked (infinite values.now) t)) targets.now }
-{
-    targets.iter().all(|t| !is_infinite_at(values, *t))
+impl StateTest for FiniteParts<'_> {
+    ghost states = { λ v. length v.values.now };
+
+    ghost test = { λ v t. not (is_marked (infinite v.values.now) t) };
+
+    fn passes(self, t: u32) -> bool {
+        !is_infinite_at(self.values, t)
+    }
 }
 
 /// Whether each entry of the row of choice `c` at state `s` leads to a finite value.
@@ -65,5 +67,5 @@ pub fn stays_finite_at(model: &Model, values: &[Option<Frac>], s: u32, c: u32) -
     requires choice { c < length (choices_at model.now s) }
     ensures { result ≡ stays_finite model.now values.now s c }
 {
-    all_finite(model.row(s, c).targets, values)
+    each_target(model, s, c, FiniteParts { values })
 }

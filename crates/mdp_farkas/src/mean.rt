@@ -1,4 +1,4 @@
-ghost use Rattle.std.specs.Prelude.{◌≡◌, ◌<◌, ◌↔◌, length, [], ◌∷◌, ◌++◌};
+ghost use Rattle.std.specs.Prelude.{◌≡◌, ◌<◌, ◌↔◌, length, slice_index, [], ◌∷◌, ◌++◌};
 ghost use Rattle.std.specs.Result.{result_ok};
 ghost use Rattle.mdp_spec.specs.Mdp.{states_of, choices_at};
 ghost use Rattle.mdp_spec.specs.Bounds.{MeanMax, MeanMin};
@@ -12,7 +12,7 @@ use crate::compare::equal;
 use crate::reach::choice_at;
 use crate::spread::spread_of;
 use crate::verdict::{judged, judged_at, verdict_after};
-use crate::walk::{each_below, each_choice};
+use crate::walk::{Checks, OneCheck, each_below, each_choice};
 use mdp_claims::{MeanCert, Objection, Rule, Verdict};
 use mdp_num::{Frac, Wide};
 use mdp_rows::{Dir, Model};
@@ -34,6 +34,36 @@ struct Claimed<'a> {
     ghost choices_each: { length choices.now ≡ states_of model.now },
 }
 
+impl Checks for Claimed<'_> {
+    ghost count = { λ x. states_of x.model.now };
+
+    ghost checks = { λ x s. mean_checks_at x.dir x.model.now x.name x.gains.now x.bound.now x.bias.now s (slice_index x.choices.now s) };
+
+    /// The rules at state `s`.
+    fn check(self, s: u32) -> Result<(), Objection> {
+        self.state_at(s, self.choices[s as usize])
+    }
+}
+
+/// The same at one state.
+#[derive(Clone, Copy)]
+struct Bounds<'a> {
+    claimed: Claimed<'a>,
+    state: u32,
+    ghost in_model: { state < states_of claimed.model.now },
+}
+
+impl OneCheck for Bounds<'_> {
+    ghost count = { λ x. length (choices_at x.claimed.model.now x.state) };
+
+    ghost check = { λ x. relative_check x.claimed.dir x.claimed.model.now x.claimed.name x.claimed.gains.now x.claimed.bound.now x.state };
+
+    /// The bound at choice `c`.
+    fn check_at(self, c: u32) -> Result<(), Objection> {
+        self.claimed.bound_at(self.state, c)
+    }
+}
+
 /// The gain and a relative value of state `s` together.
 fn step_at(gains: &[Frac], relative: &[Frac], s: u32) -> Result<Frac, Wide>
     requires gains { s < length gains.now }
@@ -53,8 +83,10 @@ impl Claimed<'_> {
             dir: self.dir,
             model: self.model,
             values: self.gains,
+            rule: Rule::GainOnEachChoice,
+            state: s,
         };
-        held.meets_on_each(Rule::GainOnEachChoice, s)
+        held.meets_on_each()
     }
 
     /// Whether the gain and the bound of state `s` together are at least, or for the least mean payoff at most, what its choice `c` earns by the
@@ -83,7 +115,11 @@ impl Claimed<'_> {
         requires { s < states_of self.model.now }
         ensures { result ≡ objection_to (at_choices self.entry.model.now s (relative_check self.entry.dir self.entry.model.now self.entry.name self.entry.gains.now self.entry.bound.now s)) }
     {
-        each_choice(self.model, s, |c| self.bound_at(s, c))
+        let bounds = Bounds {
+            claimed: self,
+            state: s,
+        };
+        each_choice(self.model, s, bounds)
     }
 
     /// Whether the gain of state `s` is the sum of the gains over the row of its choice `c`.
@@ -129,7 +165,6 @@ impl Claimed<'_> {
     }
 
     /// The rules for gain, bound and bias of state `s`.
-    #[tactic(auto, using(crate::proofs::Objections::walked))]
     fn rules_at(self, s: u32, choice: u32) -> Result<(), Objection>
         requires state { s < states_of self.model.now }
         requires choice { choice < length (choices_at self.model.now s) }
@@ -155,10 +190,7 @@ impl Claimed<'_> {
     fn states(self) -> Result<(), Objection>
         ensures { result ≡ objection_to (state_checks self.entry.dir self.entry.model.now self.entry.name self.entry.gains.now self.entry.bound.now self.entry.bias.now self.entry.choices.now) }
     {
-        each_below(
-            self.model.states(),
-            |s| self.state_at(s, self.choices[s as usize]),
-        )
+        each_below(self.model.states(), self)
     }
 
     /// The spread is that of bounds and biases.

@@ -1,17 +1,16 @@
-ghost use Rattle.std.specs.Prelude.{◌≡◌, ◌<◌, length, [], ◌∷◌, All};
-ghost use Rattle.std.specs.List.{list_any};
+ghost use Rattle.std.specs.Prelude.{◌≡◌, ◌<◌, length};
 ghost use Rattle.mdp_math.specs.Rational.{lt_ℚ};
-ghost use Rattle.mdp_spec.specs.Mdp.{states_of, choices_at, row_at};
-ghost use Rattle.mdp_spec.specs.Row.{entries};
+ghost use Rattle.mdp_spec.specs.Mdp.{states_of, choices_at};
 ghost use Rattle.mdp_farkas.specs.Compare.{0ℚ};
 ghost use Rattle.mdp_farkas.specs.Reach.{ends, leads_down, fall_check, rank_checks};
-ghost use Rattle.mdp_farkas.specs.Verdict.{at_choices, objection_to};
+ghost use Rattle.mdp_farkas.specs.Verdict.{objection_to};
 
+use crate::targets::{StateTest, some_target};
 use crate::verdict::judged;
-use crate::walk::each_choice;
+use crate::walk::{OneCheck, each_choice};
 use mdp_claims::{Objection, Rule};
 use mdp_num::Frac;
-use mdp_rows::{Dir, Marks, Model, Row};
+use mdp_rows::{Dir, Marks, Model};
 
 /// Whether a number is above 0.
 fn is_above_zero(value: &Frac) -> bool
@@ -36,54 +35,36 @@ struct Ranked<'a> {
     model: &'a Model,
     values: &'a [Frac],
     ranks: &'a [u32],
+    state: u32,
     ghost values_each: { length values.now ≡ states_of model.now },
     ghost ranks_each: { length ranks.now ≡ states_of model.now },
+    ghost in_model: { state < states_of model.now },
 }
 
-impl Ranked<'_> {
-    /// Whether a state leads on from state `s`: its rank is smaller, and for the greatest probability its value is above 0.
-    fn leads_on(self, s: u32, target: u32) -> bool
-        requires state { s < states_of self.model.now }
-        requires target { target < states_of self.model.now }
-        ensures { result ≡ leads_down self.entry.dir self.entry.values.now self.entry.ranks.now s target }
-    {
-        let lower = self.ranks[target as usize] < self.ranks[s as usize];
+impl OneCheck for Ranked<'_> {
+    ghost count = { λ r. length (choices_at r.model.now r.state) };
+
+    ghost check = { λ r. fall_check r.dir r.model.now r.values.now r.ranks.now r.state };
+
+    /// An entry of the row of choice `c` leads on from the state.
+    fn check_at(self, c: u32) -> Result<(), Objection> {
+        let falls = some_target(self.model, self.state, c, self);
+        judged(Ok(falls), Rule::RankFalls, self.state, Some(c))
+    }
+}
+
+impl StateTest for Ranked<'_> {
+    ghost states = { λ r. states_of r.model.now };
+
+    ghost test = { λ r. leads_down r.dir r.values.now r.ranks.now r.state };
+
+    /// Whether another state leads on from the state: its rank is smaller, and for the greatest probability its value is above 0.
+    fn passes(self, t: u32) -> bool {
+        let lower = self.ranks[t as usize] < self.ranks[self.state as usize];
         match self.dir {
-            Dir::Max => lower && is_above_zero(&self.values[target as usize]),
+            Dir::Max => lower && is_above_zero(&self.values[t as usize]),
             Dir::Min => lower,
         }
-    }
-
-    /// Whether some entry of the row leads on from state `s`.
-    fn row_leads_on(self, row: Row<'_>, s: u32) -> bool
-        requires state { s < states_of self.model.now }
-        requires targets { All (λ t. t < states_of self.model.now) row.targets.now }
-        ensures { result ≡ list_any (λ y. leads_down self.entry.dir self.entry.values.now self.entry.ranks.now s y.target) (entries row.entry.targets.now row.entry.probs.now) }
-    {
-        for t in row.targets {
-            if self.leads_on(s, *t) {
-                return true;
-            }
-        }
-        false
-    }
-
-    /// An entry of the row of choice `c` leads on from state `s`.
-    fn fall_at(self, s: u32, c: u32) -> Result<(), Objection>
-        requires state { s < states_of self.model.now }
-        requires choice { c < length (choices_at self.model.now s) }
-        ensures { result ≡ objection_to (fall_check self.entry.dir self.entry.model.now self.entry.values.now self.entry.ranks.now s c ∷ []) }
-    {
-        let falls = self.row_leads_on(self.model.row(s, c), s);
-        judged(Ok(falls), Rule::RankFalls, s, Some(c))
-    }
-
-    /// An entry of the row of each choice leads on from state `s`.
-    fn falls_at(self, s: u32) -> Result<(), Objection>
-        requires { s < states_of self.model.now }
-        ensures { result ≡ objection_to (at_choices self.entry.model.now s (fall_check self.entry.dir self.entry.model.now self.entry.values.now self.entry.ranks.now s)) }
-    {
-        each_choice(self.model, s, |c| self.fall_at(s, c))
     }
 }
 
@@ -112,9 +93,10 @@ pub fn rank_at_state(
         model,
         values,
         ranks,
+        state: s,
     };
     match dir {
-        Dir::Max => ranked.fall_at(s, choice),
-        Dir::Min => ranked.falls_at(s),
+        Dir::Max => ranked.check_at(choice),
+        Dir::Min => each_choice(model, s, ranked),
     }
 }

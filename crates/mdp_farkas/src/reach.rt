@@ -1,4 +1,4 @@
-ghost use Rattle.std.specs.Prelude.{◌≡◌, ◌<◌, ◌↔◌, length, [], ◌∷◌, ◌++◌};
+ghost use Rattle.std.specs.Prelude.{◌≡◌, ◌<◌, ◌↔◌, length, slice_index, [], ◌∷◌, ◌++◌};
 ghost use Rattle.mdp_spec.specs.Mdp.{states_of, choices_at};
 ghost use Rattle.mdp_farkas.specs.Bellman.{bound_checks};
 ghost use Rattle.mdp_farkas.specs.Reach.{choice_exists, other, policy_check, value_checks, rank_checks, reach_at, reach_checks, IsReach};
@@ -10,7 +10,7 @@ use crate::bellman::Held;
 use crate::ranks::rank_at_state;
 use crate::upper::{goal_at, probability_at};
 use crate::verdict::{judged, verdict_after};
-use crate::walk::each_below;
+use crate::walk::{Checks, each_below};
 use mdp_claims::{Objection, ReachCert, Rule, Verdict};
 use mdp_num::Frac;
 use mdp_rows::{Dir, Marks, Model};
@@ -53,6 +53,17 @@ struct Claimed<'a> {
     ghost ranks_each: { length ranks.now ≡ states_of model.now },
 }
 
+impl Checks for Claimed<'_> {
+    ghost count = { λ x. states_of x.model.now };
+
+    ghost checks = { λ x s. reach_at x.dir x.model.now x.goals.now x.values.now x.ranks.now s (slice_index x.choices.now s) };
+
+    /// The rules at state `s`.
+    fn check(self, s: u32) -> Result<(), Objection> {
+        self.state_at(s, self.choices[s as usize])
+    }
+}
+
 impl Claimed<'_> {
     /// Bellman's inequality at each choice of state `s`, and the other way round for the policy's.
     #[tactic(auto, using(crate::proofs::Objections::walked))]
@@ -65,9 +76,11 @@ impl Claimed<'_> {
             dir: self.dir,
             model: self.model,
             values: self.values,
+            rule: Rule::ValueOnEachChoice,
+            state: s,
         };
-        held.meets_on_each(Rule::ValueOnEachChoice, s)?;
-        held.meets_on_policy(s, choice)
+        held.meets_on_each()?;
+        held.meets_on_policy(choice)
     }
 
     /// The value of state `s` is 1 at a goal; else it stands so to the sums.
@@ -117,10 +130,7 @@ impl Claimed<'_> {
     fn states(self) -> Result<(), Objection>
         ensures { result ≡ objection_to (reach_checks self.entry.dir self.entry.model.now self.entry.goals.now self.entry.values.now self.entry.choices.now self.entry.ranks.now) }
     {
-        each_below(
-            self.model.states(),
-            |s| self.state_at(s, self.choices[s as usize]),
-        )
+        each_below(self.model.states(), self)
     }
 }
 

@@ -1,4 +1,4 @@
-ghost use Rattle.std.specs.Prelude.{◌≡◌, ◌<◌, ◌↔◌, length, [], ◌∷◌, ◌++◌, if◌then◌else◌};
+ghost use Rattle.std.specs.Prelude.{◌≡◌, ◌<◌, ◌↔◌, length, slice_index, [], ◌∷◌, ◌++◌, if◌then◌else◌};
 ghost use Rattle.std.specs.Result.{result_ok};
 ghost use Rattle.mdp_spec.specs.Mdp.{states_of, choices_at};
 ghost use Rattle.mdp_spec.specs.Bounds.{RewardMax, RewardMin};
@@ -15,7 +15,7 @@ use crate::infinite::infinite_state;
 use crate::reach::{choice_at, reversed};
 use crate::transient::{is_held_against, rank_falls_at_state, stays_at_state};
 use crate::verdict::{judged, verdict_after};
-use crate::walk::{each_below, each_choice};
+use crate::walk::{Checks, OneCheck, each_below, each_choice};
 use mdp_claims::{Objection, RewardCert, Rule, Verdict};
 use mdp_num::{Frac, Wide};
 use mdp_rows::{Dir, Marks, Model};
@@ -55,6 +55,48 @@ struct Claimed<'a> {
     ghost values_each: { length values.now ≡ states_of model.now },
     ghost choices_each: { length choices.now ≡ states_of model.now },
     ghost ranks_each: { length ranks.now ≡ states_of model.now },
+}
+
+impl Checks for Claimed<'_> {
+    ghost count = { λ x. states_of x.model.now };
+
+    ghost checks = { λ x s. reward_checks_at x.dir x.model.now x.name x.goals.now x.values.now x.ranks.now s (slice_index x.choices.now s) };
+
+    /// The rules at state `s`.
+    fn check(self, s: u32) -> Result<(), Objection> {
+        self.state_at(s, self.choices[s as usize])
+    }
+}
+
+/// The same at one state.
+#[derive(Clone, Copy)]
+struct AtState<'a> {
+    claimed: Claimed<'a>,
+    state: u32,
+    ghost in_model: { state < states_of claimed.model.now },
+}
+
+impl Checks for AtState<'_> {
+    ghost count = { λ x. length (choices_at x.claimed.model.now x.state) };
+
+    ghost checks = { λ x c. if is_looked_at x.claimed.dir x.claimed.model.now x.claimed.values.now x.state c
+        then earning_check x.claimed.dir x.claimed.model.now x.claimed.name x.claimed.values.now x.state c ∷ [] else [] };
+
+    /// What choice `c` earns, where that counts.
+    fn check(self, c: u32) -> Result<(), Objection> {
+        self.claimed.earning_at(self.state, c)
+    }
+}
+
+impl OneCheck for AtState<'_> {
+    ghost count = { λ x. length (choices_at x.claimed.model.now x.state) };
+
+    ghost check = { λ x. sign_check x.claimed.model.now x.claimed.name x.state };
+
+    /// The sign of the reward of choice `c`.
+    fn check_at(self, c: u32) -> Result<(), Objection> {
+        self.claimed.sign_at(self.state, c)
+    }
 }
 
 impl Claimed<'_> {
@@ -106,7 +148,11 @@ impl Claimed<'_> {
         requires { s < states_of self.model.now }
         ensures { result ≡ objection_to (earning_checks self.entry.dir self.entry.model.now self.entry.name self.entry.values.now s) }
     {
-        each_below(self.model.choices(s), |c| self.earning_at(s, c))
+        let at = AtState {
+            claimed: self,
+            state: s,
+        };
+        each_below(self.model.choices(s), at)
     }
 
     /// Bellman's inequality the other way round, for the choice of the policy.
@@ -176,7 +222,11 @@ impl Claimed<'_> {
         requires { s < states_of self.model.now }
         ensures { result ≡ objection_to (sign_checks self.entry.model.now self.entry.name s) }
     {
-        each_choice(self.model, s, |c| self.sign_at(s, c))
+        let at = AtState {
+            claimed: self,
+            state: s,
+        };
+        each_choice(self.model, s, at)
     }
 
     /// The rules for the value and the rank of state `s`, and for its rewards.
@@ -204,10 +254,7 @@ impl Claimed<'_> {
     fn states(self) -> Result<(), Objection>
         ensures { result ≡ objection_to (reward_checks self.entry.dir self.entry.model.now self.entry.name self.entry.goals.now self.entry.values.now self.entry.choices.now self.entry.ranks.now) }
     {
-        each_below(
-            self.model.states(),
-            |s| self.state_at(s, self.choices[s as usize]),
-        )
+        each_below(self.model.states(), self)
     }
 }
 

@@ -7,7 +7,7 @@ ghost use Rattle.mdp_spec.specs.Bounds.{Above};
 use crate::bellman::Held;
 use crate::compare::{at_least, at_most, equal};
 use crate::verdict::{judged, verdict_after};
-use crate::walk::each_below;
+use crate::walk::{Checks, each_below};
 use mdp_claims::{Objection, Rule, UpperCert, Verdict};
 use mdp_num::Frac;
 use mdp_rows::{Dir, Marks, Model};
@@ -55,8 +55,30 @@ fn upper_at_state(model: &Model, goals: &Marks, values: &[Frac], s: u32) -> Resu
             dir: Dir::Max,
             model,
             values,
+            rule: Rule::ValueOnEachChoice,
+            state: s,
         };
-        held.meets_on_each(Rule::ValueOnEachChoice, s)
+        held.meets_on_each()
+    }
+}
+
+/// Values that are held against a model.
+#[derive(Clone, Copy)]
+struct Claimed<'a> {
+    model: &'a Model,
+    goals: &'a Marks,
+    values: &'a [Frac],
+    ghost goals_each: { length goals.now ≡ states_of model.now },
+    ghost values_each: { length values.now ≡ states_of model.now },
+}
+
+impl Checks for Claimed<'_> {
+    ghost count = { λ x. states_of x.model.now };
+
+    ghost checks = { λ x. upper_at x.model.now x.goals.now x.values.now };
+
+    fn check(self, s: u32) -> Result<(), Objection> {
+        upper_at_state(self.model, self.goals, self.values, s)
     }
 }
 
@@ -66,7 +88,12 @@ fn upper_at_states(model: &Model, goals: &Marks, values: &[Frac]) -> Result<(), 
     requires values { length values.now ≡ states_of model.now }
     ensures { result ≡ objection_to (upper_checks model.now goals.now values.now) }
 {
-    each_below(model.states(), |s| upper_at_state(model, goals, values, s))
+    let claimed = Claimed {
+        model,
+        goals,
+        values,
+    };
+    each_below(model.states(), claimed)
 }
 
 /// Whether the values are a Farkas certificate of upper bounds: what rules 3, 4 and 5 say of them. Yes, the first rule that is false with

@@ -1,7 +1,6 @@
 pub mod Added
 pub mod Adding
 pub mod Sizes
-pub mod ByPlace
 pub mod Kept
 pub mod Floors
 pub mod Picks

@@ -1,17 +1,23 @@
 -- The sums keep their lengths, whatever is added.
-use Rattle.std.proofs.Common.{◌≡◌, ℕ, Bool, true, false, cond, List, [], ◌∷◌, set, Option, Some, None, refl, sym, ◌∙◌, subst}
-use Rattle.std.proofs.lemmas.List.{length-set}
-use Rattle.std.specs.Prelude.{unwrap_or}
-use Rattle.mdp_math.specs.Rational.{ℚ}
+use Rattle.std.proofs.Common.{◌≡◌, ℕ, Bool, true, false, cond, List, [], ◌∷◌, set, Option, Some, None, pos, refl, sym, ◌∙◌, subst}
+use Rattle.std.proofs.lemmas.List.{length-replicate, length-set}
+use Rattle.std.specs.Prelude.{replicate, unwrap_or}
+use Rattle.mdp_math.specs.Rational.{ℚ, of_int}
 use Rattle.mdp_math.specs.Written.{written_add, written_mul}
 use Rattle.mdp_math.proofs.Options.{Some_same, step_told}
 use Rattle.mdp_spec.specs.Mdp.{Entry, Mdp, value_at}
 use Rattle.mdp_spec.specs.Tree.{is_marked}
 use Rattle.mdp_claims.specs.declared.subsystem.Flow.{Flow}
 use Rattle.mdp_subsystem_rules.specs.Flow.{flow_row}
-use Rattle.mdp_subsystem_rules.specs.Sums.{FlowSums, AreSums, with_outflow, with_goal, with_inflow, with_entry, with_row, with_flow, after_flow, after_flows}
+use Rattle.mdp_subsystem_rules.specs.Sums.{FlowSums, AreSums, first_sums, with_outflow, with_goal, with_inflow, with_entry, with_row, with_flow, after_flow, after_flows}
 
 module _ (n : ℕ) where
+  pub sized_first : (goals : List Bool) (start : ℕ) → AreSums n (first_sums n goals start)
+  sized_first goals start = record {
+    outflows = length-replicate n (of_int (pos 0));
+    inflows = length-set (replicate n (of_int (pos 0))) start (of_int (pos 1)) ∙ length-replicate n (of_int (pos 0));
+  }
+
   pub sized_outflow : (sums t : FlowSums) (s : ℕ) (amount : ℚ) → AreSums n sums → Some t ≡ with_outflow sums s amount → AreSums n t
   sized_outflow sums t s amount are e =
       let p = step_told (written_add (value_at sums.outflows s) amount) (λ sum. Some (record sums { outflows = set sums.outflows s sum })) t e in

@@ -1,5 +1,4 @@
 ghost use Rattle.std.specs.Prelude.{◌≡◌, ◌<◌, ◌↔◌, ◌||◌, not, length, [], ◌∷◌, ◌++◌, All, MatchOption, nat_lt, slice_index, false};
-ghost use Rattle.std.specs.List.{list_any};
 ghost use Rattle.std.specs.Result.{result_ok};
 ghost use Rattle.mdp_math.specs.Rational.{lt_ℚ};
 ghost use Rattle.mdp_spec.specs.Bounds.{SubMin};
@@ -19,10 +18,10 @@ ghost use Rattle.mdp_subsystem_rules.specs.Shape.{IsFloorShape};
 
 use crate::flow::kept_at;
 use crate::lines::place_of;
-use crate::walk::each_place;
 use mdp_claims::FloorCert;
 use mdp_farkas::{
-    Objection, Rule, Verdict, at_least, at_most, each_choice, judged, judged_at, verdict_after,
+    Objection, OneCheck, Rule, StateTest, Verdict, at_least, at_most, each_choice, judged,
+    judged_at, some_target, verdict_after,
 };
 use mdp_num::{Frac, Wide};
 use mdp_rows::{Marks, Model, Row, ValuesOf};
@@ -42,6 +41,60 @@ impl ValuesOf for Claimed<'_> {
 
     fn value_of(&self, t: u32) -> Frac {
         self.counted(t)
+    }
+}
+
+/// The value of a kept state, which is held against the rows of its choices.
+#[derive(Clone, Copy)]
+struct Covers<'a> {
+    claimed: Claimed<'a>,
+    state: u32,
+    value: &'a Frac,
+    ghost in_model: { state < states_of claimed.model.now },
+}
+
+impl OneCheck for Covers<'_> {
+    ghost count = { λ x. length (choices_at x.claimed.model.now x.state) };
+
+    ghost check = { λ x. cover_check x.claimed.model.now
+        (line_values x.claimed.model.now x.claimed.goals.now x.claimed.cert.now.kept.items x.claimed.cert.now.values.items) x.state x.value.now };
+
+    /// The value is at most the sum over the row of choice `c`.
+    fn check_at(self, c: u32) -> Result<(), Objection> {
+        self.claimed.cover_at(self.state, self.value, c)
+    }
+}
+
+/// The rank of a kept state, which is held against those of its targets.
+#[derive(Clone, Copy)]
+struct Falls<'a> {
+    claimed: Claimed<'a>,
+    state: u32,
+    rank: u32,
+    ghost in_model: { state < states_of claimed.model.now },
+}
+
+impl StateTest for Falls<'_> {
+    ghost states = { λ x. states_of x.claimed.model.now };
+
+    ghost test = { λ x t. nat_lt (line_rank x.claimed.model.now x.claimed.goals.now x.claimed.cert.now.kept.items x.claimed.cert.now.ranks.items t) x.rank };
+
+    /// Whether state `t` counts with a smaller rank.
+    fn passes(self, t: u32) -> bool {
+        self.claimed.rank_of(t) < self.rank
+    }
+}
+
+impl OneCheck for Falls<'_> {
+    ghost count = { λ x. length (choices_at x.claimed.model.now x.state) };
+
+    ghost check = { λ x. fall_check x.claimed.model.now
+        (line_rank x.claimed.model.now x.claimed.goals.now x.claimed.cert.now.kept.items x.claimed.cert.now.ranks.items) x.state x.rank };
+
+    /// An entry of the row of choice `c` leads to a smaller rank.
+    fn check_at(self, c: u32) -> Result<(), Objection> {
+        let falls = some_target(self.claimed.model, self.state, c, self);
+        judged(Ok(falls), Rule::RankFalls, self.state, Some(c))
     }
 }
 
@@ -92,28 +145,6 @@ impl Claimed<'_> {
         row.sum_over(&Frac::whole(0), &self)
     }
 
-    /// Whether state `s` counts with a rank below this one.
-    fn is_below(self, s: u32, rank: u32) -> bool
-        requires { s < states_of self.model.now }
-        ensures { result ≡ nat_lt (line_rank self.entry.model.now self.entry.goals.now self.entry.cert.now.kept.items self.entry.cert.now.ranks.items s) rank }
-    {
-        self.rank_of(s) < rank
-    }
-
-    /// Whether some entry of a row leads to a rank below this one.
-    fn row_falls(self, row: Row<'_>, rank: u32) -> bool
-        requires { All (λ t. t < states_of self.model.now) row.targets.now }
-        ensures { result ≡ list_any (λ y. nat_lt (line_rank self.entry.model.now self.entry.goals.now self.entry.cert.now.kept.items self.entry.cert.now.ranks.items y.target) rank)
-            (entries row.entry.targets.now row.entry.probs.now) }
-    {
-        for t in row.targets {
-            if self.is_below(*t, rank) {
-                return true;
-            }
-        }
-        false
-    }
-
     /// Whether a value is at most that sum.
     fn row_covers(self, row: Row<'_>, value: &Frac) -> Result<bool, Wide>
         requires { All (λ t. t < states_of self.model.now) row.targets.now }
@@ -135,7 +166,7 @@ impl Claimed<'_> {
         judged(covers, Rule::ValueOnEachChoice, s, Some(c))
     }
 
-    /// The same at each choice of the kept state `s`, where it is no goal.
+    /// The same at each choice, where the state is no goal.
     fn covers_at(self, s: u32, value: &Frac) -> Result<(), Objection>
         requires { s < states_of self.model.now }
         ensures { result ≡ objection_to (cover_checks self.entry.model.now self.entry.goals.now
@@ -144,18 +175,12 @@ impl Claimed<'_> {
         if self.goals.at(s) {
             return Ok(());
         }
-        each_choice(self.model, s, |c| self.cover_at(s, value, c))
-    }
-
-    /// An entry of the row of choice `c` at the kept state `s` leads to a rank below this one.
-    fn fall_at(self, s: u32, rank: u32, c: u32) -> Result<(), Objection>
-        requires state { s < states_of self.model.now }
-        requires choice { c < length (choices_at self.model.now s) }
-        ensures { result ≡ objection_to (fall_check self.entry.model.now
-            (line_rank self.entry.model.now self.entry.goals.now self.entry.cert.now.kept.items self.entry.cert.now.ranks.items) s rank c ∷ []) }
-    {
-        let falls = self.row_falls(self.model.row(s, c), rank);
-        judged(Ok(falls), Rule::RankFalls, s, Some(c))
+        let covers = Covers {
+            claimed: self,
+            state: s,
+            value,
+        };
+        each_choice(self.model, s, covers)
     }
 
     /// An entry of the row of each choice at the kept state `s` leads to a rank below this one.
@@ -164,7 +189,12 @@ impl Claimed<'_> {
         ensures { result ≡ objection_to (at_choices self.entry.model.now s
             (fall_check self.entry.model.now (line_rank self.entry.model.now self.entry.goals.now self.entry.cert.now.kept.items self.entry.cert.now.ranks.items) s rank)) }
     {
-        each_choice(self.model, s, |c| self.fall_at(s, rank, c))
+        let falls = Falls {
+            claimed: self,
+            state: s,
+            rank,
+        };
+        each_choice(self.model, s, falls)
     }
 
     /// The kept state `s` has rank 0 where it is a goal or has value 0; else an entry of each row leads to a smaller rank.
@@ -180,7 +210,6 @@ impl Claimed<'_> {
     }
 
     /// That the value and the rank of the kept state `s` stand so to those of its targets, and that it is no goal.
-    #[tactic(auto, using(mdp_farkas::proofs::Objections::walked))]
     fn rules_at(self, s: u32, value: &Frac, rank: u32) -> Result<(), Objection>
         requires { s < states_of self.model.now }
         ensures { result ≡ objection_to (cover_checks self.entry.model.now self.entry.goals.now
@@ -217,7 +246,10 @@ impl Claimed<'_> {
     fn each_line_at(self) -> Result<(), Objection>
         ensures { result ≡ objection_to (each_line self.entry.model.now self.entry.goals.now self.entry.cert.now.kept.items self.entry.cert.now.values.items self.entry.cert.now.ranks.items) }
     {
-        each_place(self.cert.kept.len(), |i| self.line_at(i))
+        for i in 0..self.cert.kept.len() {
+            self.line_at(i)?;
+        }
+        Ok(())
     }
 
     /// What the start counts as is at least the threshold.

@@ -11,9 +11,11 @@ ghost use Rattle.mdp_subsystem_rules.specs.Sums.{AreSums, after_flow, after_flow
 
 use crate::lines::kept_marks_of;
 use crate::sums::Sums;
-use crate::walk::each_place;
+use crate::walk::each_kept;
 use mdp_claims::{Flow, FlowCert};
-use mdp_farkas::{Objection, Rule, Verdict, at_least, at_most, judged, judged_at, verdict_after};
+use mdp_farkas::{
+    Objection, OneCheck, Rule, Verdict, at_least, at_most, judged, judged_at, verdict_after,
+};
 use mdp_num::{Frac, Memory, Wide};
 use mdp_rows::{Marks, Model};
 use std::alloc::Global;
@@ -26,12 +28,20 @@ pub(crate) fn kept_at(goals: &Marks, s: u32) -> Result<(), Objection>
     judged(Ok(!goals.at(s)), Rule::StateIsKept, s, None)
 }
 
-/// The same of each kept state.
-fn each_kept_at(goals: &Marks, kept: &[u32]) -> Result<(), Objection>
-    requires { All (λ s. s < length goals.now) kept.now }
-    ensures { result ≡ objection_to (map (kept_check goals.now) kept.now) }
-{
-    each_place(kept.len(), |i| kept_at(goals, kept[i]))
+/// The marks of goals, which no kept state may have.
+#[derive(Clone, Copy)]
+struct Goals<'a> {
+    goals: &'a Marks,
+}
+
+impl OneCheck for Goals<'_> {
+    ghost count = { λ x. length x.goals.now };
+
+    ghost check = { λ x. kept_check x.goals.now };
+
+    fn check_at(self, s: u32) -> Result<(), Objection> {
+        kept_at(self.goals, s)
+    }
 }
 
 /// The flow's state has its choice.
@@ -57,27 +67,27 @@ fn amount_at(kept: &Marks, flow: &Flow) -> Result<(), Objection>
     judged(Ok(flows), Rule::StateIsKept, flow.state, Some(flow.choice))
 }
 
-/// What leaves the kept state `s` is at most what comes in.
-fn balance_at(sums: &Sums, s: u32) -> Result<(), Objection>
-    requires outflow { s < length sums.now.outflows }
-    requires inflow { s < length sums.now.inflows }
-    ensures { result ≡ objection_to (balance_check sums.now s ∷ []) }
-{
-    judged(
-        at_most(&sums.outflow(s), &sums.inflow(s)),
-        Rule::FlowsBalance,
-        s,
-        None,
-    )
+/// The sums of flows, which balance at each kept state.
+#[derive(Clone, Copy)]
+struct Balances<'a> {
+    sums: &'a Sums,
+    ghost same_length: { length sums.now.outflows ≡ length sums.now.inflows },
 }
 
-/// The same at each kept state.
-fn each_balance_at(sums: &Sums, kept: &[u32]) -> Result<(), Objection>
-    requires outflows { All (λ s. s < length sums.now.outflows) kept.now }
-    requires inflows { All (λ s. s < length sums.now.inflows) kept.now }
-    ensures { result ≡ objection_to (map (balance_check sums.now) kept.now) }
-{
-    each_place(kept.len(), |i| balance_at(sums, kept[i]))
+impl OneCheck for Balances<'_> {
+    ghost count = { λ x. length x.sums.now.outflows };
+
+    ghost check = { λ x. balance_check x.sums.now };
+
+    /// What leaves the kept state `s` is at most what comes in.
+    fn check_at(self, s: u32) -> Result<(), Objection> {
+        judged(
+            at_most(&self.sums.outflow(s), &self.sums.inflow(s)),
+            Rule::FlowsBalance,
+            s,
+            None,
+        )
+    }
 }
 
 /// What comes to the goals is at least the threshold.
@@ -94,11 +104,11 @@ fn arrival_at(sums: &Sums, threshold: &Frac) -> Result<(), Objection>
 
 /// The rules on the sums.
 fn sums_at(sums: &Sums, kept: &[u32], threshold: &Frac) -> Result<(), Objection>
-    requires outflows { All (λ s. s < length sums.now.outflows) kept.now }
-    requires inflows { All (λ s. s < length sums.now.inflows) kept.now }
+    requires same_length { length sums.now.outflows ≡ length sums.now.inflows }
+    requires kept { All (λ s. s < length sums.now.outflows) kept.now }
     ensures { result ≡ objection_to (sum_checks kept.now threshold.now sums.now) }
 {
-    each_balance_at(sums, kept)?;
+    each_kept(kept, Balances { sums })?;
     arrival_at(sums, threshold)
 }
 
@@ -161,7 +171,8 @@ impl Claimed<'_> {
         requires sums { AreSums (states_of self.model.now) sums.old }
         ensures { result ≡ objection_to (map (kept_check self.entry.goals.now) self.entry.cert.now.kept.items ++ checks_from self.entry.model.now self.entry.goals.now threshold.now self.entry.cert.now.kept.items self.entry.cert.now.flows.items sums.old) }
     {
-        each_kept_at(self.goals, self.cert.kept.as_slice())?;
+        let goals = Goals { goals: self.goals };
+        each_kept(self.cert.kept.as_slice(), goals)?;
         self.flows_walk(threshold, sums)
     }
 }

@@ -1,19 +1,16 @@
-ghost use Rattle.std.specs.Prelude.{◌≡◌, ℕ, ◌<◌, List};
-ghost use Rattle.std.specs.List.{flat_map, range_with_len};
-ghost use Rattle.mdp_farkas.specs.Verdict.{Check, objection_to};
+ghost use Rattle.std.specs.Prelude.{◌≡◌, ◌<◌, All, map};
+ghost use Rattle.mdp_farkas.specs.Verdict.{objection_to};
 
-use mdp_farkas::Objection;
+use mdp_farkas::{Objection, OneCheck};
 
-/// The checks at each place below `count`, in order: the first objection ends the walk.
-pub(crate) fn each_place<F: Fn(usize) -> Result<(), Objection>>(
-    count: usize,
-    at: F,
-) -> Result<(), Objection>
-    requires { (i : ℕ) → i < count → F.pre at i }
-    ensures { (checks : ℕ → List Check) → ((i : ℕ) (r : _) → i < count → F.post at i r → r ≡ objection_to (checks i)) → result ≡ objection_to (flat_map checks (range_with_len 0 count)) }
+/// The check at each of these states, in order: the first objection ends the walk.
+#[tactic(auto, using(mdp_farkas::proofs::Objections::walked))]
+pub(crate) fn each_kept<C: OneCheck>(kept: &[u32], check: C) -> Result<(), Objection>
+    requires { All (λ s. s < C.count check) kept.now }
+    ensures { result ≡ objection_to (map (C.check check) kept.now) }
 {
-    for i in 0..count {
-        at(i)?;
+    for s in kept {
+        check.check_at(*s)?;
     }
     Ok(())
 }

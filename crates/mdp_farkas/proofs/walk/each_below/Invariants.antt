@@ -1,12 +1,9 @@
-use Rattle.std.proofs.Common.{◌≡◌, ℕ, ◌<◌, List}
+use Rattle.std.proofs.Common.{◌≡◌}
 use Rattle.std.specs.Prelude.{Ok}
 use Rattle.std.specs.List.{flat_map, range_with_len}
-use Rattle.mdp_farkas.specs.Verdict.{Check, objection_to}
+use Rattle.mdp_farkas.specs.Verdict.{objection_to}
 use Rattle.mdp_farkas.proofs.walk.each_below.Given as goal
 
 -- nothing stands against the checks below i
 abbrev pub invariant-loop-i : goal.invariant-loop-i
-invariant-loop-i g l =
-    (checks : ℕ → List Check)
-    → ((i : ℕ) (r : _) → i < l.count → goal.F-post g l.at i r → r ≡ objection_to (checks i))
-    → Ok tt ≡ objection_to (flat_map checks (range_with_len 0 l.i))
+invariant-loop-i g l = Ok tt ≡ objection_to (flat_map (g.C.Checks.checks l.checks) (range_with_len 0 l.i))

@@ -1,11 +1,12 @@
-use Rattle.std.proofs.Common.{◌≡◌, ℕ, Bool, List, ◌++◌, length, map, ap, ◌∙◌}
+use Rattle.std.proofs.Common.{◌≡◌, ℕ, Bool, List, ◌++◌, length, map, sym, ap, ◌∙◌, subst}
 use Rattle.mdp_spec.specs.Mdp.{states_of}
 use Rattle.mdp_farkas.specs.Verdict.{verdict_of}
 use Rattle.mdp_subsystem_rules.specs.FlowChecks.{kept_check, checks_from, flow_checks}
 use Rattle.mdp_subsystem_rules.specs.Kept.{kept_marks}
-use Rattle.mdp_subsystem_rules.specs.Sums.{FlowSums, first_sums}
+use Rattle.mdp_subsystem_rules.specs.Sums.{FlowSums, AreSums, first_sums}
 use Rattle.mdp_farkas.specs.Verdict.{objection_to, verdict}
 use Rattle.mdp_subsystem_rules.proofs.Kept.{length-kept_marks}
+use Rattle.mdp_subsystem_rules.proofs.Sizes.{sized_first}
 use Rattle.mdp_subsystem_rules.proofs.FlowRules.{flow_rules, flow_sub_max, flow_within}
 use Rattle.mdp_subsystem_rules.proofs.flow.holds_flow.Goals as goal
 
@@ -18,6 +19,12 @@ invariant_of-claimed-clause-marks c =
 pub invariant_of-claimed-clause-marks_each : goal.invariant_of-claimed-clause-marks_each
 invariant_of-claimed-clause-marks_each c =
     ap (λ (marks : List Bool). length marks) (c.in_ok-kept.ensures {u = tt}) ∙ length-kept_marks c.states.result c.as_slice.result.now ∙ c.states.ensures
+
+pub walk-walk-requires : goal.walk-walk-requires
+walk-walk-requires c =
+    let m = c.args.model.now in
+    let begun = c.in_ok-sums.ensures {u = tt} ∙ ap (λ (n : ℕ). first_sums n c.args.goals.now c.args.start) c.states-2.ensures in
+    record { sums = subst (λ (sums : FlowSums). AreSums (states_of m) sums) (sym begun) (sized_first (states_of m) c.args.goals.now c.args.start) }
 
 pub returns : goal.returns
 returns c =

@@ -24,8 +24,8 @@ from_first-requires-clause-reaches c =
     told (value_at a.values c.args.start) c.value_of-value.result c.args.threshold (c.value_of-value.ensures ∙ ap (λ (z : List ℚ). value_at z c.args.start) c.deref.ensures.value) (Some true)
     (sym (c.in-Ok-true.ensures {u = tt}) ∙ ap (λ (b : Bool). Some b) c.in-Ok-true.field-0-test)
 
-pub returns-in-Ok-true-clause-path : goal.returns-in-Ok-true-clause-path
-returns-in-Ok-true-clause-path c =
+pub returns-in-Ok-true : goal.returns-in-Ok-true
+returns-in-Ok-true c =
     let dir = c.args.dir in
     let m = c.args.model.now in
     let goals = c.args.goals.now in
@@ -33,194 +33,32 @@ returns-in-Ok-true-clause-path c =
     let threshold = c.args.threshold in
     let a = reach.plain c.in_ok-cert.field-0.cert in
     let solved = (c.in_ok-cert.ensures {u = tt}).path in
+    let value = c.value_of-value.ensures ∙ ap (λ (z : List ℚ). value_at z start) c.deref.ensures.value in
     let reaches : is_at_least (value_at a.values start) threshold ≡ Some true =
-    told (value_at a.values start) c.value_of-value.result threshold (c.value_of-value.ensures ∙ ap (λ (z : List ℚ). value_at z start) c.deref.ensures.value) (Some true)
-    (sym (c.in-Ok-true.ensures {u = tt}) ∙ ap (λ (b : Bool). Some b) c.in-Ok-true.field-0-test) in
-    goes-through plain (FromFirst m goals start threshold dir a) (EndsSo dir m goals start threshold) c.from_first.result (ends-found dir m goals start threshold solved.0 a solved.2 reaches)
-    c.from_first.ensures
+    told (value_at a.values start) c.value_of-value.result threshold value (Some true) (sym (c.in-Ok-true.ensures {u = tt}) ∙ ap (λ (b : Bool). Some b) c.in-Ok-true.field-0-test) in
+    let ends = EndsSo dir m goals start threshold in
+    let found = c.from_first.result in
+    let law = c.witness_law.ensures in
+    let known = c.known.ensures.mdp in
+    let each = c.requires.goals in
+    let starts = c.requires.start in
+    let path = goes-through plain (FromFirst m goals start threshold dir a) ends found (ends-found dir m goals start threshold solved.0 a solved.2 reaches) c.from_first.ensures in
+    record {
+      path = path;
+      shape = if_found plain (HasShape dir m) ends found (λ x end. law.shape dir m goals start threshold x known each starts end) path;
+      holds = if_found plain (Holds dir m goals start threshold) ends found (λ x end. law.holds dir m goals start threshold x known each starts end) path;
+      sub_max = λ e. if_found plain (λ x. SubMax m goals (kept_in m x) start threshold) ends found (λ x end. law.sub_max dir m goals start threshold x known each starts end e) path;
+      sub_min = λ e. if_found plain (λ x. SubMin m goals (kept_in m x) start threshold) ends found (λ x end. law.sub_min dir m goals start threshold x known each starts end e) path;
+      policy = λ e. if_found plain (PolicyReaches m goals start threshold) ends found (λ x end. law.policy dir m goals start threshold x known each starts end e) path;
+      needed_max = λ e. if_found plain (AreNeeded (IsNeededMax m goals start threshold) m) ends found (λ x end. law.needed_max dir m goals start threshold x known each starts end e) path;
+      needed_min = λ e. if_found plain (AreNeeded (IsNeededMin m goals start threshold) m) ends found (λ x end. law.needed_min dir m goals start threshold x known each starts end e) path;
+      wide_max = λ e. if_found plain (MarksAreExactMax m goals start threshold) ends found (λ x end. law.wide_max dir m goals start threshold x known each starts end e) path;
+      wide_min = λ e. if_found plain (MarksAreExactMin m goals start threshold) ends found (λ x end. law.wide_min dir m goals start threshold x known each starts end e) path;
+      below = if_below plain (IsBestBelow dir m goals start threshold) ends found (λ v end. law.below dir m goals start threshold v known end) path;
+    }
 
-pub returns-in-Ok-true-clause-shape : goal.returns-in-Ok-true-clause-shape
-returns-in-Ok-true-clause-shape c =
-    let dir = c.args.dir in
-    let m = c.args.model.now in
-    let goals = c.args.goals.now in
-    let start = c.args.start in
-    let threshold = c.args.threshold in
-    let a = reach.plain c.in_ok-cert.field-0.cert in
-    let solved = (c.in_ok-cert.ensures {u = tt}).path in
-    let reaches : is_at_least (value_at a.values start) threshold ≡ Some true =
-    told (value_at a.values start) c.value_of-value.result threshold (c.value_of-value.ensures ∙ ap (λ (z : List ℚ). value_at z start) c.deref.ensures.value) (Some true)
-    (sym (c.in-Ok-true.ensures {u = tt}) ∙ ap (λ (b : Bool). Some b) c.in-Ok-true.field-0-test) in
-    let path = goes-through plain (FromFirst m goals start threshold dir a) (EndsSo dir m goals start threshold) c.from_first.result
-    (ends-found dir m goals start threshold solved.0 a solved.2 reaches)
-    c.from_first.ensures in
-    if_found plain (HasShape dir m) (EndsSo dir m goals start threshold) c.from_first.result
-    (λ found end. c.witness_law.ensures.shape dir m goals start threshold found c.known.ensures.mdp c.requires.goals c.requires.start end) path
-
-pub returns-in-Ok-true-clause-holds : goal.returns-in-Ok-true-clause-holds
-returns-in-Ok-true-clause-holds c =
-    let dir = c.args.dir in
-    let m = c.args.model.now in
-    let goals = c.args.goals.now in
-    let start = c.args.start in
-    let threshold = c.args.threshold in
-    let a = reach.plain c.in_ok-cert.field-0.cert in
-    let solved = (c.in_ok-cert.ensures {u = tt}).path in
-    let reaches : is_at_least (value_at a.values start) threshold ≡ Some true =
-    told (value_at a.values start) c.value_of-value.result threshold (c.value_of-value.ensures ∙ ap (λ (z : List ℚ). value_at z start) c.deref.ensures.value) (Some true)
-    (sym (c.in-Ok-true.ensures {u = tt}) ∙ ap (λ (b : Bool). Some b) c.in-Ok-true.field-0-test) in
-    let path = goes-through plain (FromFirst m goals start threshold dir a) (EndsSo dir m goals start threshold) c.from_first.result
-    (ends-found dir m goals start threshold solved.0 a solved.2 reaches)
-    c.from_first.ensures in
-    if_found plain (Holds dir m goals start threshold) (EndsSo dir m goals start threshold) c.from_first.result
-    (λ found end. c.witness_law.ensures.holds dir m goals start threshold found c.known.ensures.mdp c.requires.goals c.requires.start end) path
-
-pub returns-in-Ok-true-clause-sub_max : goal.returns-in-Ok-true-clause-sub_max
-returns-in-Ok-true-clause-sub_max c =
-    let dir = c.args.dir in
-    let m = c.args.model.now in
-    let goals = c.args.goals.now in
-    let start = c.args.start in
-    let threshold = c.args.threshold in
-    let a = reach.plain c.in_ok-cert.field-0.cert in
-    let solved = (c.in_ok-cert.ensures {u = tt}).path in
-    let reaches : is_at_least (value_at a.values start) threshold ≡ Some true =
-    told (value_at a.values start) c.value_of-value.result threshold (c.value_of-value.ensures ∙ ap (λ (z : List ℚ). value_at z start) c.deref.ensures.value) (Some true)
-    (sym (c.in-Ok-true.ensures {u = tt}) ∙ ap (λ (b : Bool). Some b) c.in-Ok-true.field-0-test) in
-    let path = goes-through plain (FromFirst m goals start threshold dir a) (EndsSo dir m goals start threshold) c.from_first.result
-    (ends-found dir m goals start threshold solved.0 a solved.2 reaches)
-    c.from_first.ensures in
-    λ e. if_found plain (λ found. SubMax m goals (kept_in m found) start threshold) (EndsSo dir m goals start threshold) c.from_first.result
-    (λ found end. c.witness_law.ensures.sub_max dir m goals start threshold found c.known.ensures.mdp c.requires.goals c.requires.start end e) path
-
-pub returns-in-Ok-true-clause-sub_min : goal.returns-in-Ok-true-clause-sub_min
-returns-in-Ok-true-clause-sub_min c =
-    let dir = c.args.dir in
-    let m = c.args.model.now in
-    let goals = c.args.goals.now in
-    let start = c.args.start in
-    let threshold = c.args.threshold in
-    let a = reach.plain c.in_ok-cert.field-0.cert in
-    let solved = (c.in_ok-cert.ensures {u = tt}).path in
-    let reaches : is_at_least (value_at a.values start) threshold ≡ Some true =
-    told (value_at a.values start) c.value_of-value.result threshold (c.value_of-value.ensures ∙ ap (λ (z : List ℚ). value_at z start) c.deref.ensures.value) (Some true)
-    (sym (c.in-Ok-true.ensures {u = tt}) ∙ ap (λ (b : Bool). Some b) c.in-Ok-true.field-0-test) in
-    let path = goes-through plain (FromFirst m goals start threshold dir a) (EndsSo dir m goals start threshold) c.from_first.result
-    (ends-found dir m goals start threshold solved.0 a solved.2 reaches)
-    c.from_first.ensures in
-    λ e. if_found plain (λ found. SubMin m goals (kept_in m found) start threshold) (EndsSo dir m goals start threshold) c.from_first.result
-    (λ found end. c.witness_law.ensures.sub_min dir m goals start threshold found c.known.ensures.mdp c.requires.goals c.requires.start end e) path
-
-pub returns-in-Ok-true-clause-policy : goal.returns-in-Ok-true-clause-policy
-returns-in-Ok-true-clause-policy c =
-    let dir = c.args.dir in
-    let m = c.args.model.now in
-    let goals = c.args.goals.now in
-    let start = c.args.start in
-    let threshold = c.args.threshold in
-    let a = reach.plain c.in_ok-cert.field-0.cert in
-    let solved = (c.in_ok-cert.ensures {u = tt}).path in
-    let reaches : is_at_least (value_at a.values start) threshold ≡ Some true =
-    told (value_at a.values start) c.value_of-value.result threshold (c.value_of-value.ensures ∙ ap (λ (z : List ℚ). value_at z start) c.deref.ensures.value) (Some true)
-    (sym (c.in-Ok-true.ensures {u = tt}) ∙ ap (λ (b : Bool). Some b) c.in-Ok-true.field-0-test) in
-    let path = goes-through plain (FromFirst m goals start threshold dir a) (EndsSo dir m goals start threshold) c.from_first.result
-    (ends-found dir m goals start threshold solved.0 a solved.2 reaches)
-    c.from_first.ensures in
-    λ e. if_found plain (PolicyReaches m goals start threshold) (EndsSo dir m goals start threshold) c.from_first.result
-    (λ found end. c.witness_law.ensures.policy dir m goals start threshold found c.known.ensures.mdp c.requires.goals c.requires.start end e) path
-
-pub returns-in-Ok-true-clause-needed_max : goal.returns-in-Ok-true-clause-needed_max
-returns-in-Ok-true-clause-needed_max c =
-    let dir = c.args.dir in
-    let m = c.args.model.now in
-    let goals = c.args.goals.now in
-    let start = c.args.start in
-    let threshold = c.args.threshold in
-    let a = reach.plain c.in_ok-cert.field-0.cert in
-    let solved = (c.in_ok-cert.ensures {u = tt}).path in
-    let reaches : is_at_least (value_at a.values start) threshold ≡ Some true =
-    told (value_at a.values start) c.value_of-value.result threshold (c.value_of-value.ensures ∙ ap (λ (z : List ℚ). value_at z start) c.deref.ensures.value) (Some true)
-    (sym (c.in-Ok-true.ensures {u = tt}) ∙ ap (λ (b : Bool). Some b) c.in-Ok-true.field-0-test) in
-    let path = goes-through plain (FromFirst m goals start threshold dir a) (EndsSo dir m goals start threshold) c.from_first.result
-    (ends-found dir m goals start threshold solved.0 a solved.2 reaches)
-    c.from_first.ensures in
-    λ e. if_found plain (AreNeeded (IsNeededMax m goals start threshold) m) (EndsSo dir m goals start threshold) c.from_first.result
-    (λ found end. c.witness_law.ensures.needed_max dir m goals start threshold found c.known.ensures.mdp c.requires.goals c.requires.start end e) path
-
-pub returns-in-Ok-true-clause-needed_min : goal.returns-in-Ok-true-clause-needed_min
-returns-in-Ok-true-clause-needed_min c =
-    let dir = c.args.dir in
-    let m = c.args.model.now in
-    let goals = c.args.goals.now in
-    let start = c.args.start in
-    let threshold = c.args.threshold in
-    let a = reach.plain c.in_ok-cert.field-0.cert in
-    let solved = (c.in_ok-cert.ensures {u = tt}).path in
-    let reaches : is_at_least (value_at a.values start) threshold ≡ Some true =
-    told (value_at a.values start) c.value_of-value.result threshold (c.value_of-value.ensures ∙ ap (λ (z : List ℚ). value_at z start) c.deref.ensures.value) (Some true)
-    (sym (c.in-Ok-true.ensures {u = tt}) ∙ ap (λ (b : Bool). Some b) c.in-Ok-true.field-0-test) in
-    let path = goes-through plain (FromFirst m goals start threshold dir a) (EndsSo dir m goals start threshold) c.from_first.result
-    (ends-found dir m goals start threshold solved.0 a solved.2 reaches)
-    c.from_first.ensures in
-    λ e. if_found plain (AreNeeded (IsNeededMin m goals start threshold) m) (EndsSo dir m goals start threshold) c.from_first.result
-    (λ found end. c.witness_law.ensures.needed_min dir m goals start threshold found c.known.ensures.mdp c.requires.goals c.requires.start end e) path
-
-pub returns-in-Ok-true-clause-wide_max : goal.returns-in-Ok-true-clause-wide_max
-returns-in-Ok-true-clause-wide_max c =
-    let dir = c.args.dir in
-    let m = c.args.model.now in
-    let goals = c.args.goals.now in
-    let start = c.args.start in
-    let threshold = c.args.threshold in
-    let a = reach.plain c.in_ok-cert.field-0.cert in
-    let solved = (c.in_ok-cert.ensures {u = tt}).path in
-    let reaches : is_at_least (value_at a.values start) threshold ≡ Some true =
-    told (value_at a.values start) c.value_of-value.result threshold (c.value_of-value.ensures ∙ ap (λ (z : List ℚ). value_at z start) c.deref.ensures.value) (Some true)
-    (sym (c.in-Ok-true.ensures {u = tt}) ∙ ap (λ (b : Bool). Some b) c.in-Ok-true.field-0-test) in
-    let path = goes-through plain (FromFirst m goals start threshold dir a) (EndsSo dir m goals start threshold) c.from_first.result
-    (ends-found dir m goals start threshold solved.0 a solved.2 reaches)
-    c.from_first.ensures in
-    λ e. if_found plain (MarksAreExactMax m goals start threshold) (EndsSo dir m goals start threshold) c.from_first.result
-    (λ found end. c.witness_law.ensures.wide_max dir m goals start threshold found c.known.ensures.mdp c.requires.goals c.requires.start end e) path
-
-pub returns-in-Ok-true-clause-wide_min : goal.returns-in-Ok-true-clause-wide_min
-returns-in-Ok-true-clause-wide_min c =
-    let dir = c.args.dir in
-    let m = c.args.model.now in
-    let goals = c.args.goals.now in
-    let start = c.args.start in
-    let threshold = c.args.threshold in
-    let a = reach.plain c.in_ok-cert.field-0.cert in
-    let solved = (c.in_ok-cert.ensures {u = tt}).path in
-    let reaches : is_at_least (value_at a.values start) threshold ≡ Some true =
-    told (value_at a.values start) c.value_of-value.result threshold (c.value_of-value.ensures ∙ ap (λ (z : List ℚ). value_at z start) c.deref.ensures.value) (Some true)
-    (sym (c.in-Ok-true.ensures {u = tt}) ∙ ap (λ (b : Bool). Some b) c.in-Ok-true.field-0-test) in
-    let path = goes-through plain (FromFirst m goals start threshold dir a) (EndsSo dir m goals start threshold) c.from_first.result
-    (ends-found dir m goals start threshold solved.0 a solved.2 reaches)
-    c.from_first.ensures in
-    λ e. if_found plain (MarksAreExactMin m goals start threshold) (EndsSo dir m goals start threshold) c.from_first.result
-    (λ found end. c.witness_law.ensures.wide_min dir m goals start threshold found c.known.ensures.mdp c.requires.goals c.requires.start end e) path
-
-pub returns-in-Ok-true-clause-below : goal.returns-in-Ok-true-clause-below
-returns-in-Ok-true-clause-below c =
-    let dir = c.args.dir in
-    let m = c.args.model.now in
-    let goals = c.args.goals.now in
-    let start = c.args.start in
-    let threshold = c.args.threshold in
-    let a = reach.plain c.in_ok-cert.field-0.cert in
-    let solved = (c.in_ok-cert.ensures {u = tt}).path in
-    let reaches : is_at_least (value_at a.values start) threshold ≡ Some true =
-    told (value_at a.values start) c.value_of-value.result threshold (c.value_of-value.ensures ∙ ap (λ (z : List ℚ). value_at z start) c.deref.ensures.value) (Some true)
-    (sym (c.in-Ok-true.ensures {u = tt}) ∙ ap (λ (b : Bool). Some b) c.in-Ok-true.field-0-test) in
-    let path = goes-through plain (FromFirst m goals start threshold dir a) (EndsSo dir m goals start threshold) c.from_first.result
-    (ends-found dir m goals start threshold solved.0 a solved.2 reaches)
-    c.from_first.ensures in
-    if_below plain (IsBestBelow dir m goals start threshold) (EndsSo dir m goals start threshold) c.from_first.result
-    (λ v end. c.witness_law.ensures.below dir m goals start threshold v c.known.ensures.mdp end) path
-
-pub returns-in-Ok-false-clause-path : goal.returns-in-Ok-false-clause-path
-returns-in-Ok-false-clause-path c =
+pub returns-in-Ok-false : goal.returns-in-Ok-false
+returns-in-Ok-false c =
     let dir = c.args.dir in
     let m = c.args.model.now in
     let goals = c.args.goals.now in
@@ -231,10 +69,22 @@ returns-in-Ok-false-clause-path c =
     let value = c.value_of-value.ensures ∙ ap (λ (z : List ℚ). value_at z start) c.deref.ensures.value in
     let end = ends-below dir m goals start threshold solved.0 a solved.2 c.value_of-value.result value
     (told (value_at a.values start) c.value_of-value.result threshold value (Some false) (sym (c.in-Ok-false.ensures {u = tt}) ∙ ap (λ (b : Bool). Some b) c.in-Ok-false.field-0-test)) in
-    end
+    record {
+      path = end;
+      shape = tt;
+      holds = tt;
+      sub_max = λ e. tt;
+      sub_min = λ e. tt;
+      policy = λ e. tt;
+      needed_max = λ e. tt;
+      needed_min = λ e. tt;
+      wide_max = λ e. tt;
+      wide_min = λ e. tt;
+      below = c.witness_law.ensures.below dir m goals start threshold c.value_of-value.result c.known.ensures.mdp end;
+    }
 
-pub returns-in-Ok-false-clause-below : goal.returns-in-Ok-false-clause-below
-returns-in-Ok-false-clause-below c =
+pub returns-in-Err : goal.returns-in-Err
+returns-in-Err c =
     let dir = c.args.dir in
     let m = c.args.model.now in
     let goals = c.args.goals.now in
@@ -243,22 +93,20 @@ returns-in-Ok-false-clause-below c =
     let a = reach.plain c.in_ok-cert.field-0.cert in
     let solved = (c.in_ok-cert.ensures {u = tt}).path in
     let value = c.value_of-value.ensures ∙ ap (λ (z : List ℚ). value_at z start) c.deref.ensures.value in
-    let end = ends-below dir m goals start threshold solved.0 a solved.2 c.value_of-value.result value
-    (told (value_at a.values start) c.value_of-value.result threshold value (Some false) (sym (c.in-Ok-false.ensures {u = tt}) ∙ ap (λ (b : Bool). Some b) c.in-Ok-false.field-0-test)) in
-    c.witness_law.ensures.below dir m goals start threshold c.value_of-value.result c.known.ensures.mdp end
-
-pub returns-in-Err-clause-path : goal.returns-in-Err-clause-path
-returns-in-Err-clause-path c =
-    let dir = c.args.dir in
-    let m = c.args.model.now in
-    let goals = c.args.goals.now in
-    let start = c.args.start in
-    let threshold = c.args.threshold in
-    let a = reach.plain c.in_ok-cert.field-0.cert in
-    let solved = (c.in_ok-cert.ensures {u = tt}).path in (
-      solved.0,
-      solved.1,
-      ends-wide dir m goals start threshold solved.0 a solved.2
-          (told (value_at a.values start) c.value_of-value.result threshold (c.value_of-value.ensures ∙ ap (λ (z : List ℚ). value_at z start) c.deref.ensures.value) None
-          (sym (c.in-Err.ensures {u = tt}))),
-    )
+    record {
+      path = (
+        solved.0,
+        solved.1,
+        ends-wide dir m goals start threshold solved.0 a solved.2 (told (value_at a.values start) c.value_of-value.result threshold value None (sym (c.in-Err.ensures {u = tt}))),
+      );
+      shape = tt;
+      holds = tt;
+      sub_max = λ e. tt;
+      sub_min = λ e. tt;
+      policy = λ e. tt;
+      needed_max = λ e. tt;
+      needed_min = λ e. tt;
+      wide_max = λ e. tt;
+      wide_min = λ e. tt;
+      below = tt;
+    }

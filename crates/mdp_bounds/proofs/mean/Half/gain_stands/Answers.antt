@@ -6,5 +6,5 @@ use Rattle.mdp_bounds.proofs.mean.Half.gain_stands.Goals as goal
 pub returns-then-gains : goal.returns-then-gains
 returns-then-gains c =
     let x = c.args.self in
-    sym (gain_trivial x.model.now c.known.ensures.mdp 0 c.args.s c.args.c c.requires.state c.requires.choice c.args.dir x.gains.values.now (value_at x.gains.values.now 0)
+    sym (gain_trivial x.model.now c.known.ensures.mdp 0 x.state c.args.c x.in_model c.requires c.args.dir x.gains.values.now (value_at x.gains.values.now 0)
     (λ t l. x.gains.one c.if-gains.true t (subst (λ (n : ℕ). t < n) (sym x.gains_each) l)))

@@ -33,17 +33,17 @@ returns-in_err-each_flow_at c =
     ∙ ap (λ (flows : List Flow). objection_to (each_flow m goals c.args.self.kept.now c.args.sums.now flows)) c.as_slice.ensures.value
     ∙ ap (λ (marks : List Bool). objection_to (each_flow m goals marks c.args.sums.now cert.flows.items)) c.args.self.marks))
 
-pub sums_at-requires-clause-outflows : goal.sums_at-requires-clause-outflows
-sums_at-requires-clause-outflows c =
+pub sums_at-requires-clause-same_length : goal.sums_at-requires-clause-same_length
+sums_at-requires-clause-same_length c =
+    let x = c.args.self in
+    let sized = sized_end x.model.now x.goals.now c.args.sums.now c.each_flow_at.new.sums c.as_slice.result.now c.requires.sums (c.in_ok-each_flow_at.ensures {u = tt}).sums in
+    sized.outflows ∙ sym sized.inflows
+
+pub sums_at-requires-clause-kept : goal.sums_at-requires-clause-kept
+sums_at-requires-clause-kept c =
     let x = c.args.self in
     let sized = sized_end x.model.now x.goals.now c.args.sums.now c.each_flow_at.new.sums c.as_slice.result.now c.requires.sums (c.in_ok-each_flow_at.ensures {u = tt}).sums in
     in_sums (states_of x.model.now) c.each_flow_at.new.sums.outflows x.cert.now.kept.items c.as_slice-2.result.now sized.outflows c.as_slice-2.ensures.value x.shape.kept_in_range
-
-pub sums_at-requires-clause-inflows : goal.sums_at-requires-clause-inflows
-sums_at-requires-clause-inflows c =
-    let x = c.args.self in
-    let sized = sized_end x.model.now x.goals.now c.args.sums.now c.each_flow_at.new.sums c.as_slice.result.now c.requires.sums (c.in_ok-each_flow_at.ensures {u = tt}).sums in
-    in_sums (states_of x.model.now) c.each_flow_at.new.sums.inflows x.cert.now.kept.items c.as_slice-2.result.now sized.inflows c.as_slice-2.ensures.value x.shape.kept_in_range
 
 pub returns : goal.returns
 returns c =

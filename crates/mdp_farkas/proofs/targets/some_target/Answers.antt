@@ -1,0 +1,6 @@
+use Rattle.std.proofs.Common.{◌∙◌}
+use Rattle.mdp_farkas.proofs.Entries.{any_of_row}
+use Rattle.mdp_farkas.proofs.targets.some_target.Goals as goal
+
+pub returns : goal.returns
+returns g c = c.some_passes.ensures ∙ any_of_row (g.T.StateTest.test c.args.test) c.row.result.targets.now c.row.result.probs.now _ c.row.result.same_length c.row.ensures.row

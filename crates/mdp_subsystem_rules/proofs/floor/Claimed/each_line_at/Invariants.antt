@@ -1,0 +1,11 @@
+use Rattle.std.proofs.Common.{◌≡◌}
+use Rattle.std.specs.Prelude.{Ok}
+use Rattle.std.specs.List.{flat_map, range_with_len}
+use Rattle.mdp_farkas.specs.Verdict.{objection_to}
+use Rattle.mdp_subsystem_rules.specs.FloorChecks.{checks_of_line}
+use Rattle.mdp_subsystem_rules.proofs.floor.Claimed.each_line_at.Given as goal
+
+-- nothing stands against the checks of the lines before i
+abbrev pub invariant-loop-i : goal.invariant-loop-i
+invariant-loop-i l =
+    Ok tt ≡ objection_to (flat_map (checks_of_line l.self.model.now l.self.goals.now l.self.cert.now.kept.items l.self.cert.now.values.items l.self.cert.now.ranks.items) (range_with_len 0 l.i))

@@ -1,0 +1,38 @@
+use Rattle.std.proofs.Common.{List, [], ◌∷◌, ◌++◌}
+use Rattle.std.proofs.lemmas.Result.{err_from_is_err_and}
+use Rattle.mdp_farkas.specs.Verdict.{Check}
+use Rattle.mdp_farkas.proofs.Objections.{halts, goes_on}
+use Rattle.mdp_subsystem_rules.specs.FloorChecks.{cover_checks, rank_checks, line_rank, line_values}
+use Rattle.mdp_subsystem_rules.specs.FlowChecks.{kept_check}
+use Rattle.mdp_subsystem_rules.proofs.floor.Claimed.rules_at.Goals as goal
+
+pub returns-in_err-covers_at : goal.returns-in_err-covers_at
+returns-in_err-covers_at c =
+    let m = c.args.self.model.now in
+    let goals = c.args.self.goals.now in
+    let cert = c.args.self.cert.now in
+    let covers = cover_checks m goals (line_values m goals cert.kept.items cert.values.items) c.args.s c.args.value.now in
+    let ranks = rank_checks m goals (line_rank m goals cert.kept.items cert.ranks.items) c.args.s c.args.value.now c.args.rank in
+    let p = err_from_is_err_and c.from_residual.result c.from_residual.ensures.1 in
+    rw (p.1, p.2) (halts covers (ranks ++ kept_check goals c.args.s ∷ []) c.in_err-covers_at.field-0.0 (c.in_err-covers_at.ensures {u = tt}))
+
+pub returns-in_err-rank_at : goal.returns-in_err-rank_at
+returns-in_err-rank_at c =
+    let m = c.args.self.model.now in
+    let goals = c.args.self.goals.now in
+    let cert = c.args.self.cert.now in
+    let covers = cover_checks m goals (line_values m goals cert.kept.items cert.values.items) c.args.s c.args.value.now in
+    let ranks = rank_checks m goals (line_rank m goals cert.kept.items cert.ranks.items) c.args.s c.args.value.now c.args.rank in
+    let last : List Check = kept_check goals c.args.s ∷ [] in
+    let p = err_from_is_err_and c.from_residual-in_err-rank_at.result c.from_residual-in_err-rank_at.ensures.1 in
+    rw (p.1, p.2) (goes_on covers (ranks ++ last) tt _ (c.in_ok-covers_at.ensures {u = tt}) (halts ranks last c.in_err-rank_at.field-0.0 (c.in_err-rank_at.ensures {u = tt})))
+
+pub returns : goal.returns
+returns c =
+    let m = c.args.self.model.now in
+    let goals = c.args.self.goals.now in
+    let cert = c.args.self.cert.now in
+    let covers = cover_checks m goals (line_values m goals cert.kept.items cert.values.items) c.args.s c.args.value.now in
+    let ranks = rank_checks m goals (line_rank m goals cert.kept.items cert.ranks.items) c.args.s c.args.value.now c.args.rank in
+    let last : List Check = kept_check goals c.args.s ∷ [] in
+    goes_on covers (ranks ++ last) tt c.kept_at.result (c.in_ok-covers_at.ensures {u = tt}) (goes_on ranks last tt c.kept_at.result (c.in_ok-rank_at.ensures {u = tt}) c.kept_at.ensures)
