@@ -4,7 +4,6 @@ mod Putting
 mod BiasOf
 mod ExcessOf
 mod Meets
-mod FoundParts
 mod Adding
 mod Passing
 pub mod OneEnd

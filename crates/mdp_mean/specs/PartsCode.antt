@@ -1,19 +1,15 @@
 -- The solved parts, as the code holds them.
-use Rattle.std.specs.Prelude.{◌≡◌, ◌<◌, ℕ, [], ◌∷◌, ◌++◌, length, slice_index, pos}
+use Rattle.std.specs.Prelude.{◌≡◌, ℕ, [], ◌∷◌, ◌++◌, length, slice_index, pos}
 use Rattle.mdp_math.specs.Rational.{of_int}
-use Rattle.mdp_spec.specs.Mdp.{value_at}
+use Rattle.mdp_spec.specs.Mdp.{Mdp, value_at}
 use Rattle.mdp_gain.specs.Query.{Answer}
 use Rattle.mdp_gain.specs.Best.{entry_of}
-use Rattle.mdp_parts.specs.FoundEnds.{AreEndsOf}
-use Rattle.mdp_quot.specs.Quotient.{IsQuotient}
+use Rattle.mdp_rows.specs.declared.dir.Dir.{Dir}
 use Rattle.mdp_quot_exits.specs.Outer as outer
-use Rattle.mdp_quot_exits.specs.Steps.{IsLongest}
 use Rattle.mdp_mean.specs.Terms.{Joining}
 use Rattle.mdp_mean.specs.Query.{joining}
 use Rattle.mdp_mean.specs.Inners as spec
-use Rattle.mdp_mean.specs.Best.{AreBest}
 use Rattle.mdp_mean.specs.declared.parts.Parts.{Parts}
-use Rattle.mdp_mean.specs.declared.parts.Lists.{Lists}
 use Rattle.mdp_mean.specs.declared.inners.Inners.{Inners}
 
 abbrev pub inners_in : Inners → spec.Inners
@@ -36,21 +32,5 @@ pub record IsAdded (a : Answer) (old new : spec.Inners) : Type 0 where
   pub choices : (s : ℕ) → slice_index new.choices s ≡ entry_of (slice_index old.choices s) a.states a.choices s
 
 -- what is joined of the parts that the code holds
-abbrev pub joining_of : Parts → Joining
-joining_of p = joining p.dir p.model.now p.name p.ends.now.parts p.quotient.now (inners_in p.inner.now) (outer.plain p.outer.now) p.steps.now
-
--- they are the parts of the query
-pub record AreFound (p : Parts) : Type 0 where
-  pub name : p.name < length p.model.now.names
-  pub ends : AreEndsOf p.model.now p.ends.now
-  pub quotient : IsQuotient p.model.now p.ends.now.parts p.quotient.now
-  pub inner : AreBest p.dir p.model.now p.ends.now.parts p.name (inners_in p.inner.now)
-  pub outer : outer.IsBestOuter p.dir p.quotient.now p.inner.now.gains.items (outer.plain p.outer.now)
-  pub steps : IsLongest p.quotient.now p.steps.now
-
--- these lists are joined of them
-pub record AreListsOf (p : Parts) (lists : Lists) : Type 0 where
-  pub policy : lists.policy.items ≡ Joining.policy (joining_of p)
-  pub active : lists.active ≡ Joining.active (joining_of p)
-  pub gains : lists.gains.items ≡ Joining.gains (joining_of p)
-  pub steps : lists.steps.items ≡ Joining.steps (joining_of p)
+abbrev pub joining_of : Dir → Mdp → ℕ → Parts → Joining
+joining_of dir m r parts = joining dir m r parts.ends.now.parts parts.quotient.now (inners_in parts.inner.now) (outer.plain parts.outer.now) parts.steps.now

@@ -17,7 +17,6 @@ use mdp_policy_iteration::outer_sum;
 use mdp_rows::PolicyRows;
 use mdp_wide::Kind;
 use std::alloc::{AllocError, Global};
-use std::slice;
 
 /// The constant of the equation of state `s`: its reward less its gain, and the sum over its entries to states that aren't active.
 fn constant_at(join: &Joining<'_>, s: u32) -> Result<Frac, Wide>
@@ -65,18 +64,20 @@ fn constants_of(alloc: Global, join: &Joining<'_>) -> Result<Vec<Frac>, JoinErro
 fn solution_of(
     alloc: Global,
     join: &Joining<'_>,
-    constants: &Vec<Frac>,
+    constants: Vec<Frac>,
 ) -> Result<Vec<Frac>, JoinError>
-    requires constants { length constants.now.items ≡ states_of join.now.model.now }
+    requires constants { length constants.items ≡ states_of join.now.model.now }
     requires leaves { (ranks : List ℕ) × Leaves (policy_rows (joining_in join.now)) join.now.active.now ranks }
-    ensures value { Answers (λ x. x.items ∷ []) result (eliminated (joining_in join.now) constants.now.items) }
+    ensures value { Answers (λ x. x.items ∷ []) result (eliminated (joining_in join.now) constants.items) }
     ensures count { IfOk result (λ x. length x.items ≡ states_of join.now.model.now) }
 {
     let rows = PolicyRows {
         model: join.model,
         policy: join.policy,
     };
-    match solve_leaving(alloc, &rows, join.active, slice::from_ref(constants)) {
+    let mut columns = Vec::new(alloc);
+    columns.push(constants)?;
+    match solve_leaving(alloc, &rows, join.active, &columns) {
         Ok(solutions) => {
             let mut solutions = solutions;
             Ok(solutions.remove(0))
@@ -121,6 +122,6 @@ pub(crate) fn bias_of(alloc: Global, join: &Joining<'_>) -> Result<Vec<Frac>, Jo
     ensures { Answers (λ h. h.items) result (written_bias (joining_in join.now)) }
 {
     let constants = constants_of(alloc, join)?;
-    let solution = solution_of(alloc, join, &constants)?;
+    let solution = solution_of(alloc, join, constants)?;
     Ok(filled(alloc, join, &solution)?)
 }

@@ -2,21 +2,24 @@ ghost use Rattle.std.specs.Prelude.{ℕ, ◌≡◌, ◌<◌, ◌==◌, not, leng
 ghost use Rattle.mdp_spec.specs.Bounds.{MeanMax, MeanMin};
 ghost use Rattle.mdp_spec.specs.Mdp.{states_of, value_at};
 ghost use Rattle.mdp_rows.specs.declared.dir.Dir.TheVariants.{Max, Min};
+ghost use Rattle.mdp_parts.specs.FoundEnds.{AreEndsOf};
 ghost use Rattle.mdp_policy_iteration.specs.Queries.{Solves};
+ghost use Rattle.mdp_quot.specs.Quotient.{IsQuotient};
+ghost use Rattle.mdp_quot_exits.specs.Steps.{IsLongest};
+ghost use Rattle.mdp_quot_exits.specs.Outer as outer;
 ghost use Rattle.mdp_farkas.specs.Mean.{IsMean};
-ghost use Rattle.mdp_mean.specs.Code.{shown};
-ghost use Rattle.mdp_mean.specs.Join.{written_join};
-ghost use Rattle.mdp_mean.specs.PartsCode.{AreFound, AreListsOf, joining_of};
+ghost use Rattle.mdp_mean.specs.Best.{AreBest};
+ghost use Rattle.mdp_mean.specs.PartsCode.{inners_in, joining_of};
 ghost use Rattle.mdp_mean.specs.Query.{plain, at_nodes, leaving, JoinEndsSo};
-ghost use Rattle.mdp_mean.specs.Faults.{in_join, Answers};
+ghost use Rattle.mdp_mean.specs.Faults.{in_join};
 
 use crate::certificate::held;
 use crate::errors::{JoinError, JoinPlace};
 use crate::inners::Inners;
-use crate::join::{JoinedValues, joined};
+use crate::join::joined;
 use crate::joining::Joining;
 use mdp_farkas::MeanCert;
-use mdp_num::{Frac, Memory};
+use mdp_num::Frac;
 use mdp_parts::Ends;
 use mdp_quot::Quotient;
 use mdp_quot_exits::Outer;
@@ -24,27 +27,15 @@ use mdp_rows::{Dir, Marks, Model};
 use mdp_wide::{Part, SolveError, TooWide};
 use std::alloc::{AllocError, Global};
 
-/// A query and what was found of its parts: the end components and their best gains, the quotient, the best gains that can be come to over it, and the
+/// What was found of the parts of a query: the end components and their best gains, the quotient, the best gains that can be come to over it, and the
 /// greatest expected number of exits from each of its nodes.
-#[derive(Clone, Copy)]
+#[derive(Drop)]
 pub(crate) struct Parts<'a, 'b> {
-    pub(crate) dir: Dir,
-    pub(crate) model: &'a Model,
-    pub(crate) name: u32,
     pub(crate) ends: &'a Ends,
     pub(crate) quotient: &'a Quotient<'b>,
     pub(crate) inner: &'a Inners,
     pub(crate) outer: &'a Outer,
     pub(crate) steps: &'a [Frac],
-}
-
-/// What the parts give for each state: the policy, whether its node takes an exit, the gain of its node, and the greatest expected number of exits from it.
-#[derive(Drop)]
-pub(crate) struct Lists {
-    policy: Vec<u32>,
-    active: Marks,
-    gains: Vec<Frac>,
-    steps: Vec<Frac>,
 }
 
 /// The value of the node of state `s`.
@@ -124,72 +115,54 @@ fn in_join(error: JoinError, policy: Vec<u32>) -> SolveError
     }
 }
 
-impl Parts<'_, '_> {
-    /// The lists that are joined.
-    fn lists(&self, alloc: Global) -> Result<Lists, Memory>
-        requires { AreFound self.now }
-        ensures { IfOk result (λ lists. AreListsOf self.now lists) }
-    {
-        self.model.known();
-        let exits = &self.outer.policy;
-        let policy = self
-            .quotient
-            .lift(alloc, self.model, self.ends, exits, &self.inner.choices)?;
-        let active = leaving(alloc, self.model, self.quotient, exits)?;
-        let gains = at_nodes(alloc, self.model, self.quotient, &self.outer.values)?;
-        let steps = at_nodes(alloc, self.model, self.quotient, self.steps)?;
-        Ok(Lists {
-            policy,
-            active,
-            gains,
-            steps,
-        })
-    }
-
-    /// What is joined of these lists.
-    fn values(&self, alloc: Global, lists: &Lists) -> Result<JoinedValues, JoinError>
-        requires found { AreFound self.now }
-        requires lists { AreListsOf self.now lists.now }
-        ensures { Answers shown result (written_join (joining_of self.now)) }
-    {
-        self.model.known();
-        let join = Joining {
-            dir: self.dir,
-            model: self.model,
-            name: self.name,
-            ends: self.ends,
-            policy: &lists.policy,
-            active: &lists.active,
-            gains: &lists.gains,
-            steps: &lists.steps,
-            inner: &self.inner.bias,
-        };
-        joined(alloc, &join)
-    }
-
-    /// The certificate that the parts make together, held against the rules.
-    pub(crate) fn join(&self, alloc: Global) -> Result<MeanCert, SolveError>
-        requires { AreFound self.now }
-        ensures join { Solves plain (JoinEndsSo (joining_of self.now)) result }
-        ensures each { IfOk result (λ cert. length cert.gains.items ≡ states_of self.now.model.now) }
-        ensures rules { IfOk result (λ cert. IsMean self.now.dir self.now.model.now self.now.name cert.gains.items cert.bound.items cert.bias.items cert.spread cert.choices.items) }
-        ensures max { self.now.dir ≡ Max → IfOk result (λ cert. MeanMax self.now.model.now self.now.name cert.gains.items cert.spread cert.choices.items) }
-        ensures min { self.now.dir ≡ Min → IfOk result (λ cert. MeanMin self.now.model.now self.now.name cert.gains.items cert.spread cert.choices.items) }
-    {
-        self.model.known();
-        let lists = self.lists(alloc)?;
-        match self.values(alloc, &lists) {
-            Ok(values) => {
-                let cert = MeanCert {
-                    gains: lists.gains,
-                    bound: values.bound,
-                    bias: values.bias,
-                    choices: lists.policy,
-                    spread: values.spread,
-                };
-                held(self.model, self.name, self.dir, cert)
-            }
-            Err(error) => Err(in_join(error, lists.policy)),
-        }
-    }
+/// The certificate that the parts make together, held against the rules.
+pub(crate) fn join_parts(
+    alloc: Global,
+    model: &Model,
+    m: u32,
+    dir: Dir,
+    parts: &Parts<'_, '_>,
+) -> Result<MeanCert, SolveError>
+    requires name { m < length model.now.names }
+    requires ends { AreEndsOf model.now parts.now.ends.now }
+    requires quotient { IsQuotient model.now parts.now.ends.now.parts parts.now.quotient.now }
+    requires inner { AreBest dir model.now parts.now.ends.now.parts m (inners_in parts.now.inner.now) }
+    requires outer { outer.IsBestOuter dir parts.now.quotient.now parts.now.inner.now.gains.items (outer.plain parts.now.outer.now) }
+    requires steps { IsLongest parts.now.quotient.now parts.now.steps.now }
+    ensures join { Solves plain (JoinEndsSo (joining_of dir model.now m parts.now)) result }
+    ensures each { IfOk result (λ cert. length cert.gains.items ≡ states_of model.now) }
+    ensures rules { IfOk result (λ cert. IsMean dir model.now m cert.gains.items cert.bound.items cert.bias.items cert.spread cert.choices.items) }
+    ensures max { dir ≡ Max → IfOk result (λ cert. MeanMax model.now m cert.gains.items cert.spread cert.choices.items) }
+    ensures min { dir ≡ Min → IfOk result (λ cert. MeanMin model.now m cert.gains.items cert.spread cert.choices.items) }
+{
+    model.known();
+    let quotient = parts.quotient;
+    let exits = &parts.outer.policy;
+    let policy = quotient.lift(alloc, model, parts.ends, exits, &parts.inner.choices)?;
+    let active = leaving(alloc, model, quotient, exits)?;
+    let gains = at_nodes(alloc, model, quotient, &parts.outer.values)?;
+    let steps = at_nodes(alloc, model, quotient, parts.steps)?;
+    let join = Joining {
+        dir,
+        model,
+        name: m,
+        ends: parts.ends,
+        policy: &policy,
+        active: &active,
+        gains: &gains,
+        steps: &steps,
+        inner: &parts.inner.bias,
+    };
+    let values = match joined(alloc, &join) {
+        Ok(values) => values,
+        Err(error) => return Err(in_join(error, policy)),
+    };
+    let cert = MeanCert {
+        gains,
+        bound: values.bound,
+        bias: values.bias,
+        choices: policy,
+        spread: values.spread,
+    };
+    held(model, m, dir, cert)
 }

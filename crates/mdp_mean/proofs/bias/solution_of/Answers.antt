@@ -11,13 +11,13 @@ solve_leaving-requires-clause-active c = c.args.join.now.marks ∙ sym (length-m
 
 pub solve_leaving-requires-clause-columns : goal.solve_leaving-requires-clause-columns
 solve_leaving-requires-clause-columns c =
-    one_column (λ x. x.items) c.from_ref.result.now c.args.constants.now _ c.from_ref.ensures.value
+    one_column (λ x. x.items) c.deref.result.now c.args.constants _ (c.deref.ensures.value ∙ (c.in_ok-push.ensures {u = tt}).items ∙ search rules)
     (c.requires.constants ∙ sym (length-map-range_with_len _ 0 _))
 
 pub returns-in-Ok-clause-count : goal.returns-in-Ok-clause-count
 returns-in-Ok-clause-count c =
-    first_len (λ x. x.items) (policy_rows (joining_in c.args.join.now)) c.args.join.now.active.now c.from_ref.result.now c.in-Ok.solutions.items c.args.constants.now c.remove.result
-    c.from_ref.ensures.value (c.in-Ok.ensures {u = tt}).solves c.remove.ensures.value
+    first_len (λ x. x.items) (policy_rows (joining_in c.args.join.now)) c.args.join.now.active.now c.deref.result.now c.in-Ok.solutions.items c.args.constants c.remove.result
+    (c.deref.ensures.value ∙ (c.in_ok-push.ensures {u = tt}).items ∙ search rules) (c.in-Ok.ensures {u = tt}).solves c.remove.ensures.value
     ∙ length-map-range_with_len _ 0 _
 
 pub bounds-join-state : goal.bounds-join-state
