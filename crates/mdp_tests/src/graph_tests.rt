@@ -57,41 +57,33 @@ fn may_gives(alloc: Global, model: &Model, goals: &Marks, due: &str) -> bool
     gives(&pass, model.states(), due)
 }
 
-/// Whether `must_meet` gives what the words say.
-fn must_gives(alloc: Global, model: &Model, goals: &Marks, due: &str) -> bool
-    requires { length goals.now ≡ states_of model.now }
-{
-    let Ok(pass) = must_meet(alloc, model, goals) else {
-        return false;
-    };
-    gives(&pass, model.states(), due)
+/// The passes that the goals alone settle.
+#[derive(Clone, Copy)]
+enum ByGoals {
+    Must,
+    Avoid,
+    Some,
+    All,
 }
 
-/// Whether `may_avoid` gives what the words say.
-fn avoid_gives(alloc: Global, model: &Model, goals: &Marks, due: &str) -> bool
+/// What a pass gives.
+fn pass_by(alloc: Global, model: &Model, goals: &Marks, pass: ByGoals) -> Result<Pass, Memory>
     requires { length goals.now ≡ states_of model.now }
+    ensures { IfOk result (λ pass. length pass.marks ≡ states_of model.now) }
 {
-    let Ok(pass) = may_avoid(alloc, model, goals) else {
-        return false;
-    };
-    gives(&pass, model.states(), due)
+    match pass {
+        ByGoals::Must => must_meet(alloc, model, goals),
+        ByGoals::Avoid => may_avoid(alloc, model, goals),
+        ByGoals::Some => sure_some(alloc, model, goals),
+        ByGoals::All => sure_all(alloc, model, goals),
+    }
 }
 
-/// Whether `sure_some` gives what the words say.
-fn some_gives(alloc: Global, model: &Model, goals: &Marks, due: &str) -> bool
+/// Whether a pass gives what the words say.
+fn goals_give(alloc: Global, model: &Model, goals: &Marks, pass: ByGoals, due: &str) -> bool
     requires { length goals.now ≡ states_of model.now }
 {
-    let Ok(pass) = sure_some(alloc, model, goals) else {
-        return false;
-    };
-    gives(&pass, model.states(), due)
-}
-
-/// Whether `sure_all` gives what the words say.
-fn all_gives(alloc: Global, model: &Model, goals: &Marks, due: &str) -> bool
-    requires { length goals.now ≡ states_of model.now }
-{
-    let Ok(pass) = sure_all(alloc, model, goals) else {
+    let Ok(pass) = pass_by(alloc, model, goals, pass) else {
         return false;
     };
     gives(&pass, model.states(), due)
@@ -124,10 +116,10 @@ fn finds_in(alloc: Global, model: &Model, due: &Due<'_>) -> bool {
         return false;
     };
     may_gives(alloc, model, &goals, due.may)
-        && must_gives(alloc, model, &goals, due.must)
-        && avoid_gives(alloc, model, &goals, due.avoid)
-        && some_gives(alloc, model, &goals, due.some)
-        && all_gives(alloc, model, &goals, due.all)
+        && goals_give(alloc, model, &goals, ByGoals::Must, due.must)
+        && goals_give(alloc, model, &goals, ByGoals::Avoid, due.avoid)
+        && goals_give(alloc, model, &goals, ByGoals::Some, due.some)
+        && goals_give(alloc, model, &goals, ByGoals::All, due.all)
         && rounds_are(alloc, model, &goals, due.rounds)
 }
 
