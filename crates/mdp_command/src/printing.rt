@@ -13,8 +13,6 @@ pub fn certificate_text(alloc: Global, cert: &Cert) -> Result<Vec<u8>, Refusal>
     ensures { (said result ≡ Err no_memory) ⊎ (said result ≡ Ok (text_of (plain cert.now))) }
 {
     let mut text = Vec::new(alloc);
-    match write_cert(cert, &mut text) {
-        Ok(()) => Ok(text),
-        Err(_) => Err(Refusal::Memory),
-    }
+    write_cert(cert, &mut text)?;
+    Ok(text)
 }

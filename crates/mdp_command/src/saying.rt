@@ -12,10 +12,7 @@ use std::alloc::Global;
 fn yes(alloc: Global) -> Result<Vec<u8>, Refusal>
     ensures { (said result ≡ Err no_memory) ⊎ (said result ≡ Ok yes_text) }
 {
-    match b"yes\n".to_vec(alloc) {
-        Ok(text) => Ok(text),
-        Err(_) => Err(Refusal::Memory),
-    }
+    Ok(b"yes\n".to_vec(alloc)?)
 }
 
 /// What a checker says, as the text of a run or its refusal.

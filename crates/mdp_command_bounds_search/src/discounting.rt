@@ -22,10 +22,8 @@ fn certificate_text(alloc: Global, cert: &DiscountBoundsCert) -> Result<Vec<u8>,
     ensures { (said result ≡ Err no_memory) ⊎ (said result ≡ Ok (text_of (plain cert.now))) }
 {
     let mut text = Vec::new(alloc);
-    match write_discount_bounds(cert, &mut text) {
-        Ok(()) => Ok(text),
-        Err(_) => Err(Refusal::Memory),
-    }
+    write_discount_bounds(cert, &mut text)?;
+    Ok(text)
 }
 
 /// The text of a certificate of bounds of the discounted rewards of a name, or the refusal of a name that isn't there.
@@ -47,12 +45,8 @@ fn bounds_named(
     let Some(place) = model.reward_named(name) else {
         return Err(Refusal::QueryReward);
     };
-    let Ok(bounds) = bounds_discount(alloc, model, place, dir, &factor, digits) else {
-        return Err(Refusal::Memory);
-    };
-    let Ok(cert) = certificate_of(alloc, model, place, dir, name, factor, bounds) else {
-        return Err(Refusal::Memory);
-    };
+    let bounds = bounds_discount(alloc, model, place, dir, &factor, digits)?;
+    let cert = certificate_of(alloc, model, place, dir, name, factor, bounds)?;
     certificate_text(alloc, &cert)
 }
 
@@ -72,8 +66,6 @@ pub fn bounds_discount_file<S: Source>(
     ensures read { IsDiscountBoundsRead rule dir name.now factor (input S.left S.faults model.old model.new) (said result) }
     ensures end { OnOk (said result) (IsAtEnd (S.left model.new)) }
 {
-    match read_model(alloc, model, rule) {
-        Ok(model) => bounds_named(alloc, &model, dir, name, factor, digits),
-        Err(refusal) => Err(refusal),
-    }
+    let model = read_model(alloc, model, rule)?;
+    bounds_named(alloc, &model, dir, name, factor, digits)
 }

@@ -24,20 +24,15 @@ pub(crate) fn states_with(alloc: Global, model: &Model, label: &[u8]) -> Result<
     let Some(place) = model.label(label) else {
         return Err(Refusal::QueryLabel);
     };
-    match model.marks_of(alloc, place) {
-        Ok(marks) => Ok(marks),
-        Err(_) => Err(Refusal::Memory),
-    }
+    Ok(model.marks_of(alloc, place)?)
 }
 
 /// Every state.
 fn all_states(alloc: Global, model: &Model) -> Result<Marks, Refusal>
     ensures { (plain_error result ≡ Err no_memory) ⊎ (plain_error result ≡ Ok (replicate (states_of model.now) true)) }
 {
-    match vec![in alloc; true; model.states() as usize] {
-        Ok(values) => Ok(Marks::from_values(values)),
-        Err(_) => Err(Refusal::Memory),
-    }
+    let values = vec![in alloc; true; model.states() as usize]?;
+    Ok(Marks::from_values(values))
 }
 
 /// The states that stay: those with a label, or every state.
@@ -80,17 +75,15 @@ impl Asked<'_> {
         ensures { (said result ≡ Err no_memory) ⊎ (said result ≡ Ok (until_text self.entry.dir (stay_word (names_of self.entry.stay)) self.entry.label.now model.now (plain found.now))) }
     {
         let mut text = Vec::new(alloc);
-        match write_until(
+        write_until(
             model,
             self.dir,
             stay_word(self.stay),
             self.label,
             found,
             &mut text,
-        ) {
-            Ok(()) => Ok(text),
-            Err(_) => Err(Refusal::Memory),
-        }
+        )?;
+        Ok(text)
     }
 
     /// The text for these states, or its refusal.
@@ -121,14 +114,8 @@ impl Asked<'_> {
     {
         model.known();
         horizon_law();
-        let stays = match states_that_stay(alloc, model, self.stay) {
-            Ok(stays) => stays,
-            Err(refusal) => return Err(refusal),
-        };
-        let goals = match states_with(alloc, model, self.label) {
-            Ok(goals) => goals,
-            Err(refusal) => return Err(refusal),
-        };
+        let stays = states_that_stay(alloc, model, self.stay)?;
+        let goals = states_with(alloc, model, self.label)?;
         self.of_marks(alloc, model, &stays, &goals)
     }
 }
@@ -153,8 +140,6 @@ pub fn horizon_file<S: Source>(
         label,
         steps,
     };
-    match read_model(alloc, model, rule) {
-        Ok(model) => asked.of_model(alloc, &model),
-        Err(refusal) => Err(refusal),
-    }
+    let model = read_model(alloc, model, rule)?;
+    asked.of_model(alloc, &model)
 }

@@ -42,10 +42,8 @@ impl Wanted {
         ensures { (said result ≡ Err no_memory) ⊎ (said result ≡ Ok (bounds_text self.dir (plain_claim claim.entry) model.now (plain found.now))) }
     {
         let mut text = Vec::new(alloc);
-        match write_horizon_bounds(model, self.dir, claim, found, &mut text) {
-            Ok(()) => Ok(text),
-            Err(_) => Err(Refusal::Memory),
-        }
+        write_horizon_bounds(model, self.dir, claim, found, &mut text)?;
+        Ok(text)
     }
 
     /// The text for these states, or its refusal.
@@ -67,7 +65,7 @@ impl Wanted {
             return Err(Refusal::QuerySteps);
         }
         let claim = Claim::Until(stay_word(stay), label);
-        match until_bounds(
+        let found = until_bounds(
             alloc,
             model,
             self.dir,
@@ -75,10 +73,8 @@ impl Wanted {
             goals,
             self.steps,
             self.digits,
-        ) {
-            Ok(found) => self.text_of(alloc, model, claim, &found),
-            Err(_) => Err(Refusal::Memory),
-        }
+        )?;
+        self.text_of(alloc, model, claim, &found)
     }
 
     /// The text of a bounded until for a model, or its refusal: the labels are looked up first.
@@ -92,14 +88,8 @@ impl Wanted {
         ensures { (said result ≡ Err no_memory) ⊎ IsUntilBoundsDue self.dir (names_of stay.entry) label.now self.steps self.digits model.now (said result) }
     {
         model.known();
-        let stays = match states_that_stay(alloc, model, stay) {
-            Ok(stays) => stays,
-            Err(refusal) => return Err(refusal),
-        };
-        let goals = match states_with(alloc, model, label) {
-            Ok(goals) => goals,
-            Err(refusal) => return Err(refusal),
-        };
+        let stays = states_that_stay(alloc, model, stay)?;
+        let goals = states_with(alloc, model, label)?;
         self.of_marks(alloc, model, stay, label, &stays, &goals)
     }
 
@@ -118,10 +108,8 @@ impl Wanted {
         if is_too_long(model, self.steps) {
             return Err(Refusal::QuerySteps);
         }
-        match total_bounds(alloc, model, self.dir, place, self.steps, self.digits) {
-            Ok(found) => self.text_of(alloc, model, Claim::Total(name), &found),
-            Err(_) => Err(Refusal::Memory),
-        }
+        let found = total_bounds(alloc, model, self.dir, place, self.steps, self.digits)?;
+        self.text_of(alloc, model, Claim::Total(name), &found)
     }
 
     /// The text of a total reward for a model, or its refusal: the name is looked up first.
@@ -153,10 +141,8 @@ pub fn until_bounds_file<S: Source>(
     ensures end { OnOk (said result) (IsAtEnd (S.left model.new)) }
 {
     let wanted = Wanted { dir, steps, digits };
-    match read_model(alloc, model, rule) {
-        Ok(model) => wanted.until_in(alloc, &model, stay, label),
-        Err(refusal) => Err(refusal),
-    }
+    let model = read_model(alloc, model, rule)?;
+    wanted.until_in(alloc, &model, stay, label)
 }
 
 /// The same of the best total reward of this name within so many steps. A value that would be too wide is missing.
@@ -174,8 +160,6 @@ pub fn total_bounds_file<S: Source>(
     ensures end { OnOk (said result) (IsAtEnd (S.left model.new)) }
 {
     let wanted = Wanted { dir, steps, digits };
-    match read_model(alloc, model, rule) {
-        Ok(model) => wanted.total_in(alloc, &model, name),
-        Err(refusal) => Err(refusal),
-    }
+    let model = read_model(alloc, model, rule)?;
+    wanted.total_in(alloc, &model, name)
 }

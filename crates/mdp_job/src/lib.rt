@@ -2,6 +2,7 @@
 #![tactic(auto)]
 
 mod digits;
+mod errors;
 mod files;
 mod job;
 mod refusal;

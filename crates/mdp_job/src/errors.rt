@@ -1,0 +1,57 @@
+//! The refusals that answer the errors of what a command calls.
+
+use crate::refusal::Refusal;
+use mdp_num::Memory;
+use mdp_text::CertError;
+use mdp_wide::SolveError;
+use std::alloc::AllocError;
+
+impl From<AllocError> for Refusal {
+    ghost use Rattle.std.specs.Prelude.{◌≡◌};
+    ghost use Rattle.mdp_job.specs.declared.refusal.Refusal.TheVariants as variant;
+
+    ghost from_gives = { λ _ refusal. refusal ≡ variant.Memory };
+
+    fn from(_error: AllocError) -> Refusal {
+        Refusal::Memory
+    }
+}
+
+impl From<Memory> for Refusal {
+    ghost use Rattle.std.specs.Prelude.{◌≡◌};
+    ghost use Rattle.mdp_job.specs.declared.refusal.Refusal.TheVariants as variant;
+
+    ghost from_gives = { λ _ refusal. refusal ≡ variant.Memory };
+
+    fn from(_error: Memory) -> Refusal {
+        Refusal::Memory
+    }
+}
+
+impl From<SolveError> for Refusal {
+    ghost use Rattle.std.specs.Prelude.{◌≡◌};
+    ghost use Rattle.mdp_job.specs.Errors.{of_solve};
+
+    ghost from_gives = { λ error refusal. refusal ≡ of_solve error };
+
+    fn from(error: SolveError) -> Refusal {
+        match error {
+            SolveError::TooWide(wide) => Refusal::TooWide(wide),
+            SolveError::Memory => Refusal::Memory,
+        }
+    }
+}
+
+impl From<CertError> for Refusal {
+    ghost use Rattle.std.specs.Prelude.{◌≡◌};
+    ghost use Rattle.mdp_job.specs.Errors.{of_certificate};
+
+    ghost from_gives = { λ error refusal. refusal ≡ of_certificate error };
+
+    fn from(error: CertError) -> Refusal {
+        match error {
+            CertError::At { line, kind } => Refusal::CertText { line, kind },
+            CertError::Memory => Refusal::Memory,
+        }
+    }
+}
