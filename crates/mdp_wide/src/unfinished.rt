@@ -2,7 +2,7 @@ use mdp_num::{Memory, Wide};
 use std::alloc::{AllocError, AllocFailed};
 
 /// Why a computation isn't finished.
-#[derive(Clone, Copy, Drop)]
+#[derive(Drop)]
 pub enum Unfinished<P> {
     /// A written term is past width, at this place.
     TooWide(P),
