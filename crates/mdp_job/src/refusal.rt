@@ -2,10 +2,10 @@ ghost use Rattle.std.specs.Prelude.{◌≡◌, ◌++◌, OnOk, OnErr};
 ghost use Rattle.mdp_job.specs.Refusal.{plain_refusal, no_job};
 ghost use Rattle.mdp_job.specs.Status.{status_of};
 ghost use Rattle.mdp_job.specs.Text.{text_of, words_word, at_line, place_text, number_or_dash, below_text};
-ghost use Rattle.mdp_job.specs.Text.{denied_text, wide_text, horizon_text, part_word, kind_word, policy_words, too_wide_text};
+ghost use Rattle.mdp_job.specs.Text.{part_word, kind_word, policy_words, too_wide_text};
 ghost use Rattle.mdp_job.specs.WideLines.{wide_place, policy_line};
 ghost use Rattle.mdp_text.specs.Answer.{Keeps};
-ghost use Rattle.mdp_text.specs.Parts.{part_text};
+ghost use Rattle.mdp_text.specs.Parts.{part_text, parts_text};
 ghost use Rattle.mdp_wide.specs.Term.{shown};
 
 use crate::status::Status;
@@ -140,21 +140,25 @@ fn number_or_dash(number: Option<u32>) -> TextPart<'static>
     }
 }
 
-/// Appends ` state S choice C`, with `-` for a state or a choice that isn't there, and ends the line.
-fn push_place(state: Option<u32>, choice: Option<u32>, out: &mut Vec<u8>) -> Result<(), Memory>
-    ensures text { OnOk result (out.new.items ≡ out.old.items ++ place_text state choice) }
+/// Appends the parts and ` state S choice C`, with `-` for a state or a choice that isn't there, and ends the line.
+fn push_with_place(
+    front: &[TextPart<'_>],
+    state: Option<u32>,
+    choice: Option<u32>,
+    out: &mut Vec<u8>,
+) -> Result<(), Memory>
+    ensures text { OnOk result (out.new.items ≡ out.old.items ++ (parts_text front.now ++ place_text state choice)) }
     ensures front { Keeps out.old.items out.new.items }
 {
-    push_parts(
-        out,
-        &[
-            Bytes(b" state "),
-            number_or_dash(state),
-            Bytes(b" choice "),
-            number_or_dash(choice),
-            Bytes(b"\n"),
-        ],
-    )
+    push_parts(out, front)?;
+    let place = [
+        Bytes(b" state "),
+        number_or_dash(state),
+        Bytes(b" choice "),
+        number_or_dash(choice),
+        Bytes(b"\n"),
+    ];
+    push_parts(out, &place)
 }
 
 /// Appends a line that is the same for each refusal of its kind.
@@ -190,16 +194,6 @@ fn push_at<'a>(what: &'a str, line: u64, why: &'a str, out: &mut Vec<u8>) -> Res
             Bytes(b"\n"),
         ],
     )
-}
-
-/// Appends the line of a rule that is false.
-fn push_denied(fault: &Fault, out: &mut Vec<u8>) -> Result<(), Memory>
-    ensures text { OnOk result (out.new.items ≡ out.old.items ++ denied_text fault.now) }
-    ensures front { Keeps out.old.items out.new.items }
-{
-    let number = u64::from(fault.rule.number());
-    push_parts(out, &[Bytes(b"denied rule "), Whole(number)])?;
-    push_place(fault.state, fault.choice, out)
 }
 
 /// Appends the word for a part of what is solved.
@@ -247,16 +241,13 @@ fn push_wide_place(wide: &TooWide, out: &mut Vec<u8>) -> Result<(), Memory>
 {
     let kind = kind_word(wide.kind).as_bytes();
     push_part(wide.part, out)?;
-    push_parts(
-        out,
-        &[
-            Bytes(b" round "),
-            Whole(wide.round),
-            Bytes(b" kind "),
-            Bytes(kind),
-        ],
-    )?;
-    push_place(wide.state, wide.choice, out)
+    let round = [
+        Bytes(b" round "),
+        Whole(wide.round),
+        Bytes(b" kind "),
+        Bytes(kind),
+    ];
+    push_with_place(&round, wide.state, wide.choice, out)
 }
 
 /// Appends the line of a policy.
@@ -277,25 +268,6 @@ fn push_too_wide(wide: &TooWide, out: &mut Vec<u8>) -> Result<(), Memory>
     push_line(b"too-wide part ", out)?;
     push_wide_place(wide, out)?;
     push_policy_line(&wide.policy, out)
-}
-
-/// Appends the line of a term of the check past width.
-fn push_check_wide(state: Option<u32>, choice: Option<u32>, out: &mut Vec<u8>) -> Result<(), Memory>
-    ensures text { OnOk result (out.new.items ≡ out.old.items ++ wide_text state choice) }
-    ensures front { Keeps out.old.items out.new.items }
-{
-    push_line(b"too-wide check", out)?;
-    push_place(state, choice, out)
-}
-
-/// Appends the line of a sum of `horizon` that is past width.
-fn push_horizon_wide(depth: u32, state: u32, choice: u32, out: &mut Vec<u8>) -> Result<(), Memory>
-    ensures text { OnOk result (out.new.items ≡ out.old.items ++ horizon_text depth state choice) }
-    ensures front { Keeps out.old.items out.new.items }
-{
-    let depth = u64::from(depth);
-    push_parts(out, &[Bytes(b"too-wide horizon depth "), Whole(depth)])?;
-    push_place(Some(state), Some(choice), out)
 }
 
 /// Appends the line of the best probability, where it is below the threshold.
@@ -322,13 +294,22 @@ fn push_text(refusal: &Refusal, out: &mut Vec<u8>) -> Result<(), Memory>
         Refusal::QuerySteps => push_line(b"query steps\n", out),
         Refusal::QueryChoice => push_line(b"query choice\n", out),
         Refusal::TooWide(wide) => push_too_wide(wide, out),
-        Refusal::CheckWide { state, choice } => push_check_wide(*state, *choice, out),
+        Refusal::CheckWide { state, choice } => {
+            push_with_place(&[Bytes(b"too-wide check")], *state, *choice, out)
+        }
         Refusal::HorizonWide {
             depth,
             state,
             choice,
-        } => push_horizon_wide(*depth, *state, *choice, out),
-        Refusal::Denied(fault) => push_denied(fault, out),
+        } => {
+            let front = [Bytes(b"too-wide horizon depth "), Whole(u64::from(*depth))];
+            push_with_place(&front, Some(*state), Some(*choice), out)
+        }
+        Refusal::Denied(fault) => {
+            let number = u64::from(fault.rule.number());
+            let front = [Bytes(b"denied rule "), Whole(number)];
+            push_with_place(&front, fault.state, fault.choice, out)
+        }
         Refusal::ReadModel => push_line(b"read-fault model\n", out),
         Refusal::ReadCertificate => push_line(b"read-fault certificate\n", out),
         Refusal::LongModel => push_line(b"long model\n", out),

@@ -29,7 +29,7 @@ fn push_part(out: &mut Vec<u8>, part: &Part<'_>) -> Result<(), Memory>
 /// Appends the parts in order; after `Memory` the text begins as before.
 fn append_parts(out: &mut Vec<u8>, parts: &[Part<'_>]) -> Result<(), Memory>
     ensures text { OnOk result (out.new.items ≡ out.old.items ++ parts_text parts.now) }
-    ensures front { OnErr result (Keeps out.old.items out.new.items) }
+    ensures front { Keeps out.old.items out.new.items }
 {
     for part in parts {
         push_part(out, part)?;

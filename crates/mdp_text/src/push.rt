@@ -1,8 +1,8 @@
 ghost use Rattle.std.specs.Prelude.{◌≡◌, ◌++◌, ◌∷◌, [], take, codes, decimal, OnOk, OnErr};
 ghost use Rattle.mdp_num.specs.Value.{spelling};
-ghost use Rattle.mdp_text.specs.declared.init.Init.TheVariants.{Finite, Start};
+ghost use Rattle.mdp_text.specs.declared.init.Init.TheVariants.{Start};
 ghost use Rattle.mdp_text.specs.Answer.{Keeps};
-ghost use Rattle.mdp_text.specs.Spelling.{line, ◌␣◌, states_text, init_text, value_text, value_lines, end_text};
+ghost use Rattle.mdp_text.specs.Spelling.{line, ◌␣◌, states_text, init_text, value_lines, end_text};
 
 use crate::init::Init;
 use crate::part::Part::{Bytes, Fraction, Whole};
@@ -87,22 +87,20 @@ fn push_ended(out: &mut Vec<u8>, state: u32, end: &[u8]) -> Result<(), Memory>
     push_parts(out, &[Bytes(b"init "), Whole(u64::from(state)), Bytes(end)])
 }
 
-/// Appends the line of the initial state and its value.
-fn push_finite(out: &mut Vec<u8>, state: u32, value: &Frac) -> Result<(), Memory>
-    ensures text { OnOk result (out.new.items ≡ out.old.items ++ line (init_text (Finite state value.now))) }
+/// Appends this word with its blank, the number, a blank, the value and the line's end.
+fn push_numbered(out: &mut Vec<u8>, word: &[u8], number: u64, value: &Frac) -> Result<(), Memory>
+    ensures text { OnOk result (out.new.items ≡ out.old.items ++ line (word.now ++ (decimal number ␣ spelling value.now))) }
     ensures front { Keeps out.old.items out.new.items }
     ensures unchanged { OnErr result (out.new.items ≡ out.old.items) }
 {
-    push_parts(
-        out,
-        &[
-            Bytes(b"init "),
-            Whole(u64::from(state)),
-            Bytes(b" "),
-            Fraction(*value),
-            Bytes(b"\n"),
-        ],
-    )
+    let parts = [
+        Bytes(word),
+        Whole(number),
+        Bytes(b" "),
+        Fraction(*value),
+        Bytes(b"\n"),
+    ];
+    push_parts(out, &parts)
 }
 
 /// Appends the line of the initial state.
@@ -113,27 +111,10 @@ pub fn push_init(out: &mut Vec<u8>, init: &Init) -> Result<(), Memory>
 {
     match init {
         Init::Missing => push_parts(out, &[Bytes(b"init -\n")]),
-        Init::Finite(state, value) => push_finite(out, *state, value),
+        Init::Finite(state, value) => push_numbered(out, b"init ", u64::from(*state), value),
         Init::Infinite(state) => push_ended(out, *state, b" inf\n"),
         Init::Start(state) => push_ended(out, *state, b"\n"),
     }
-}
-
-/// Appends the line of a state and its value.
-fn push_value(out: &mut Vec<u8>, state: u64, value: &Frac) -> Result<(), Memory>
-    ensures text { OnOk result (out.new.items ≡ out.old.items ++ line (value_text state value.now)) }
-    ensures front { Keeps out.old.items out.new.items }
-{
-    push_parts(
-        out,
-        &[
-            Bytes(b"state "),
-            Whole(state),
-            Bytes(b" "),
-            Fraction(*value),
-            Bytes(b"\n"),
-        ],
-    )
 }
 
 /// Appends a line for each state, with its value, in parts.
@@ -142,7 +123,7 @@ fn append_values(out: &mut Vec<u8>, values: &[Frac]) -> Result<(), Memory>
     ensures front { Keeps out.old.items out.new.items }
 {
     for s in 0..values.len() {
-        push_value(out, s as u64, &values[s])?;
+        push_numbered(out, b"state ", s as u64, &values[s])?;
     }
     Ok(())
 }

@@ -1,7 +1,6 @@
 ghost use Rattle.std.specs.Prelude.{◌≡◌, ◌<◌, ◌≤◌, ◌==◌, ◌&&◌, ◌∷◌, [], Ok, Err, IfOk, MatchResult, MatchOption, length, drop};
 ghost use Rattle.std.specs.List.{position_or_len, count_by};
 ghost use Rattle.std.specs.Str.{bytes_eq};
-ghost use Rattle.mdp_text.specs.declared.error.CertKind.TheVariants.{Shape};
 ghost use Rattle.mdp_text.specs.Words.{is_blank, words, first_of, begins_with, words_behind};
 
 use crate::error::{CertKind, Refusal};
@@ -57,16 +56,6 @@ fn has_shape(first: &[u8], others: &[u8], due: &[u8], count: usize) -> bool
     first == due && word_count(others) == count
 }
 
-/// A line of another shape.
-fn shape(line: u64) -> Refusal
-    ensures { result ≡ record { kind = Shape; line = line } }
-{
-    Refusal {
-        kind: CertKind::Shape,
-        line,
-    }
-}
-
 /// The text of the words behind the first one, where it is the one that is due and `count` words follow; else `Shape`.
 pub fn words_behind<'a>(
     line: u64,
@@ -78,16 +67,17 @@ pub fn words_behind<'a>(
     ensures words { MatchResult result (λ a. words_behind due.now count line text.now ≡ Ok (words a.now)) (λ e. words_behind due.now count line text.now ≡ Err e) }
     ensures count { IfOk result (λ a. length (words a.now) ≡ count) }
 {
-    match first_word(text) {
-        Some((first, others)) => {
-            if has_shape(first, others, due, count) {
-                Ok(others)
-            } else {
-                Err(shape(line))
-            }
-        }
-        None => Err(shape(line)),
+    let refusal = Refusal {
+        kind: CertKind::Shape,
+        line,
+    };
+    let Some((first, others)) = first_word(text) else {
+        return Err(refusal);
+    };
+    if !has_shape(first, others, due, count) {
+        return Err(refusal);
     }
+    Ok(others)
 }
 
 /// The first word, and the text of the others. The text has two words or more.

@@ -1,6 +1,6 @@
 use Rattle.std.proofs.Common.{arith}
 use Rattle.mdp_spec.specs.Mdp.{choices_at}
-use Rattle.mdp_drn.proofs.TextWritten.Appending.{appending-more, appending-done}
+use Rattle.mdp_drn.proofs.TextWritten.Appending.{appending-more, appending-done, front-more}
 use Rattle.mdp_drn.proofs.TextWritten.TextsLeft.{choices-more, choices-end}
 use Rattle.mdp_drn.proofs.choice_text.push_choices.Goals as goal
 
@@ -10,3 +10,6 @@ loop-c-preserved c =
 
 pub returns-clause-text : goal.returns-clause-text
 returns-clause-text c = appending-done _ _ _ _ c.loop-c.invariant (choices-end (choices_at c.args.model.now c.args.s) c.loop-c.c (omega arith))
+
+pub returns-in_err-push_choice-clause-front : goal.returns-in_err-push_choice-clause-front
+returns-in_err-push_choice-clause-front c = front-more _ _ _ c.loop-c.invariant.front c.push_choice.ensures.front

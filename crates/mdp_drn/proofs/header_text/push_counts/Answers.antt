@@ -2,7 +2,7 @@ use Rattle.std.proofs.Common.{◌≡◌, ℕ, List, ◌++◌, decimal, codes, ap
 use Rattle.mdp_drn.specs.Writing.{line}
 use Rattle.mdp_drn.specs.Pieces.{count_text}
 use Rattle.mdp_drn.proofs.TextWritten.TextsLeft.{counts_are}
-use Rattle.mdp_drn.proofs.TextWritten.Appending.{piece-last}
+use Rattle.mdp_drn.proofs.TextWritten.Appending.{piece-last, front-more}
 use Rattle.mdp_drn.proofs.header_text.push_counts.Goals as goal
 
 lines-are : (n k states choices : ℕ) → n ≡ states → k ≡ choices
@@ -18,3 +18,6 @@ returns-clause-text c =
     piece-last c.push_between-2.result old c.push_between.new.out.items c.push_between-2.new.out.items text0 (codes "@nr_choices\n" ++ decimal c.all_choices.result ++ codes "\n@model\n") _
     c.in_ok-push_between.ensures.text c.push_between-2.ensures.text
     (lines-are _ _ _ _ c.states.ensures c.all_choices.ensures)
+
+pub returns-clause-front : goal.returns-clause-front
+returns-clause-front c = front-more _ _ _ c.push_between.ensures.front c.push_between-2.ensures.front

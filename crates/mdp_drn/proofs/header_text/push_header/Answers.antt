@@ -3,6 +3,7 @@ use Rattle.std.proofs.lemmas.Result.{on_ok_weaker}
 use Rattle.mdp_spec.specs.Mdp.{Mdp, states_of}
 use Rattle.mdp_drn.specs.Writing.{line, header_text}
 use Rattle.mdp_drn.specs.Pieces.{first_lines, count_lines}
+use Rattle.mdp_drn.proofs.TextWritten.Appending.{front-more}
 use Rattle.mdp_drn.proofs.header_text.push_header.Goals as goal
 
 grouped : (a b c d e f : List ℕ) → a ++ (b ++ c ++ (d ++ e) ++ f) ≡ a ++ b ++ c ++ d ++ e ++ f
@@ -20,3 +21,6 @@ returns-clause-text c =
     e ∙ ap (λ (xs : List ℕ). xs ++ count_lines m) c.in_ok-push_first_lines.ensures.text
     ∙ append_assoc c.args.out.now.items (first_lines m) (count_lines m) ∙ ap (λ (xs : List ℕ). c.args.out.now.items ++ xs) (header-parts m))
     c.push_counts.ensures.text
+
+pub returns-clause-front : goal.returns-clause-front
+returns-clause-front c = front-more _ _ _ c.push_first_lines.ensures.front c.push_counts.ensures.front

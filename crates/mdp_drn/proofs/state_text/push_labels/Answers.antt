@@ -1,5 +1,5 @@
 use Rattle.mdp_spec.specs.Mdp.{state_at}
-use Rattle.mdp_drn.proofs.TextWritten.Appending.{appending-done, appending-more}
+use Rattle.mdp_drn.proofs.TextWritten.Appending.{appending-done, appending-more, front-more}
 use Rattle.mdp_drn.proofs.TextWritten.TextsLeft.{label-known, labels-end, labels-more}
 use Rattle.mdp_drn.proofs.state_text.push_labels.Goals as goal
 
@@ -14,3 +14,6 @@ loop-i-preserved c =
 pub returns-clause-text : goal.returns-clause-text
 returns-clause-text c =
     appending-done _ _ _ _ c.loop-i.invariant (labels-end c.args.model.now.labels (state_at c.args.model.now c.args.s).labels _ c.loop-i.i c.labels_of-places.ensures c.loop-i-test.false)
+
+pub returns-in_err-push_quoted-clause-front : goal.returns-in_err-push_quoted-clause-front
+returns-in_err-push_quoted-clause-front c = front-more _ _ _ c.loop-i.invariant.front c.push_quoted.ensures.front

@@ -2,7 +2,7 @@ use Rattle.std.proofs.Common.{◌≡◌, ℕ, List, [], ◌∷◌, ◌++◌, dec
 use Rattle.mdp_spec.specs.Mdp.{state_at}
 use Rattle.mdp_drn.specs.Writing.{line, joined, labels_text}
 use Rattle.mdp_drn.specs.Pieces.{zeros_of}
-use Rattle.mdp_drn.proofs.TextWritten.Appending.{piece-then, piece-last}
+use Rattle.mdp_drn.proofs.TextWritten.Appending.{piece-then, piece-last, front-more}
 use Rattle.mdp_drn.proofs.state_text.push_state_line.Goals as goal
 
 one-line : (front inside labels : List ℕ)
@@ -28,3 +28,19 @@ returns-clause-text c =
     piece-last c.push_bytes-2.result old c.push_labels.new.out.items c.push_bytes-2.new.out.items text3 (10 ∷ []) _
     fact3 c.push_bytes-2.ensures.text
     (one-line (codes "state " ++ decimal c.args.s) (joined (codes ", ") (zeros_of c.args.model.now)) (labels_text c.args.model.now.labels (state_at c.args.model.now c.args.s).labels))
+
+pub returns-in_err-push_zeros-clause-front : goal.returns-in_err-push_zeros-clause-front
+returns-in_err-push_zeros-clause-front c = front-more _ _ _ c.push_between.ensures.front c.push_zeros.ensures.front
+
+pub returns-in_err-push_bytes-clause-front : goal.returns-in_err-push_bytes-clause-front
+returns-in_err-push_bytes-clause-front c = front-more _ _ _ (front-more _ _ _ c.push_between.ensures.front c.push_zeros.ensures.front) c.push_bytes.ensures.front
+
+pub returns-in_err-push_labels-clause-front : goal.returns-in_err-push_labels-clause-front
+returns-in_err-push_labels-clause-front c =
+    let inside = front-more _ _ _ c.push_between.ensures.front c.push_zeros.ensures.front in
+    front-more _ _ _ (front-more _ _ _ inside c.push_bytes.ensures.front) c.push_labels.ensures.front
+
+pub returns-clause-front : goal.returns-clause-front
+returns-clause-front c =
+    let inside = front-more _ _ _ c.push_between.ensures.front c.push_zeros.ensures.front in
+    front-more _ _ _ (front-more _ _ _ (front-more _ _ _ inside c.push_bytes.ensures.front) c.push_labels.ensures.front) c.push_bytes-2.ensures.front

@@ -1,6 +1,6 @@
 use Rattle.std.proofs.Common.{arith, codes}
 use Rattle.mdp_drn.specs.Pieces.{zeros_of}
-use Rattle.mdp_drn.proofs.TextWritten.Appending.{appending-done, appending-more, appending-start}
+use Rattle.mdp_drn.proofs.TextWritten.Appending.{appending-done, appending-more, appending-start, front-more}
 use Rattle.mdp_drn.proofs.TextWritten.TextsLeft.{separated-all, zeros-end, zeros-more}
 use Rattle.mdp_drn.proofs.state_text.push_zeros.Goals as goal
 
@@ -14,3 +14,6 @@ loop-m-preserved c =
 pub returns-clause-text : goal.returns-clause-text
 returns-clause-text c =
     appending-done _ _ _ _ c.loop-m.invariant (zeros-end c.args.model.now c.loop-m.m (omega arith))
+
+pub returns-in_err-push_zero-clause-front : goal.returns-in_err-push_zero-clause-front
+returns-in_err-push_zero-clause-front c = front-more _ _ _ c.loop-m.invariant.front c.push_zero.ensures.front

@@ -1,7 +1,8 @@
-use Rattle.std.proofs.Common.{◌≡◌, Option, Ok, sym, ap, subst, ◌∙◌}
+use Rattle.std.proofs.Common.{◌≡◌, Option, Ok, sym, ap, subst, ◌∙◌, arith}
 use Rattle.mdp_drn.specs.declared.document.Part.{Part}
 use Rattle.mdp_drn.specs.DocumentView.{IsPart, IsBehind, part_in, part_behind}
 use Rattle.mdp_drn.specs.Reading.{kept_line}
+use Rattle.std.proofs.lemmas.Grind.{common_steps}
 use Rattle.mdp_drn.proofs.document.Part.take_line.Goals as goal
 
 pub take_header_line-requires-clause-header : goal.take_header_line-requires-clause-header
@@ -26,3 +27,6 @@ returns-in-Ok-None-clause-part c =
 pub returns-in-Ok-Some-clause-part : goal.returns-in-Ok-Some-clause-part
 returns-in-Ok-Some-clause-part c =
     subst (λ (o : Option Part). IsBehind c.take_header_line.new.header c.take_header_line.new.next o) c.in-Ok-Some.field-0-is c.in-Ok-Some.ensures.part
+
+pub returns-in-Model-clause-taken : goal.returns-in-Model-clause-taken
+returns-in-Model-clause-taken c = grind (arith, common_steps)

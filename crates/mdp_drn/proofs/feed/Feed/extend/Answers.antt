@@ -3,6 +3,7 @@ use Rattle.std.specs.Result.{is_ok, is_err}
 use Rattle.mdp_drn.specs.Feeding.{Held, HasRead}
 use Rattle.mdp_drn.specs.DocumentView.{document_in}
 use Rattle.mdp_drn.proofs.PiecesFed.FeedSteps.{refused-stays, long-tail, more-tail}
+use Rattle.std.proofs.lemmas.Grind.{common_steps}
 use Rattle.mdp_drn.proofs.feed.Feed.extend.Goals as goal
 
 pub returns-then-is_some-clause-fed : goal.returns-then-is_some-clause-fed
@@ -27,3 +28,9 @@ returns-else-is_err-clause-fed c =
     λ before at. more-tail f.document.rule (document_in f.document) f.tail.items f.refused before c.args.bytes.now c.extend_from_slice.new.self.items (sym c.is_some.ensures ∙ c.if-is_some.false)
     (subst (λ (held : Held). HasRead held before) (sym c.self.view_is) at) c.requires c.self.invariant.short (omega (arith, c.len.ensures))
     (c.extend_from_slice.ensures.items ∙ if-ok {A = List ℕ} c.extend_from_slice.result _ _ (sym c.is_err.ensures.value ∙ c.if-is_err.false))
+
+pub invariant_of-self-then-is_err : goal.invariant_of-self-then-is_err
+invariant_of-self-then-is_err c = grind (arith, common_steps)
+
+pub invariant_of-self-else-is_err : goal.invariant_of-self-else-is_err
+invariant_of-self-else-is_err c = grind (arith, common_steps)

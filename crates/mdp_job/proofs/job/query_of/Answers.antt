@@ -1,0 +1,9 @@
+use Rattle.std.proofs.Common.{arith}
+use Rattle.std.proofs.lemmas.Grind.{common_steps}
+use Rattle.mdp_job.proofs.job.query_of.Goals as goal
+
+pub returns-then-eq-3 : goal.returns-then-eq-3
+returns-then-eq-3 c = grind (arith, common_steps)
+
+pub returns : goal.returns
+returns c = grind (arith, common_steps)

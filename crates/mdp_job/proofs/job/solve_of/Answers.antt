@@ -1,0 +1,15 @@
+use Rattle.std.proofs.Common.{arith}
+use Rattle.std.proofs.lemmas.Grind.{common_steps}
+use Rattle.mdp_job.proofs.job.solve_of.Goals as goal
+
+pub returns-in_err-rule : goal.returns-in_err-rule
+returns-in_err-rule c = grind (arith, common_steps)
+
+pub returns-in_err-dir : goal.returns-in_err-dir
+returns-in_err-dir c = grind (arith, common_steps)
+
+pub returns-in-Ok : goal.returns-in-Ok
+returns-in-Ok c = grind (arith, common_steps)
+
+pub returns-in-Err : goal.returns-in-Err
+returns-in-Err c = grind (arith, common_steps)
