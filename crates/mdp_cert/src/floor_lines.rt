@@ -8,12 +8,11 @@ use crate::floor_line::FloorLine;
 use crate::flow_lines::is_in_order;
 use crate::listed::{Line, Lines};
 use crate::mark::{mark_at, mark_word};
+use crate::words::four_words;
 use mdp_claims::FloorCert;
 use mdp_num::{Frac, Memory};
 use mdp_text::Part::{Bytes, Fraction, Whole};
-use mdp_text::{
-    CertKind, Refusal, cut_word, frac_at, only_word, push_parts, refuse_if, whole_at, words_behind,
-};
+use mdp_text::{CertKind, Refusal, frac_at, push_parts, refuse_if, whole_at, words_behind};
 use std::alloc::{AllocError, Global};
 
 /// The state of the line before.
@@ -38,10 +37,8 @@ impl Line for FloorLine {
         text: &[u8],
     ) -> Result<FloorLine, Refusal> {
         let behind = words_behind(line, text, b"keep", 4)?;
-        let (number, behind) = cut_word(behind);
-        let (value, behind) = cut_word(behind);
-        let (rank, mark) = cut_word(behind);
-        let wide = mark_at(line, only_word(mark))?;
+        let (number, value, rank, mark) = four_words(behind);
+        let wide = mark_at(line, mark)?;
         let state = whole_at(line, number)?;
         let value = frac_at(line, value)?;
         let rank = whole_at(line, rank)?;
