@@ -10,9 +10,9 @@ use crate::listed::{Line, Lines};
 use crate::mark::{mark_at, mark_word};
 use crate::words::four_words;
 use mdp_claims::FloorCert;
-use mdp_num::{Frac, Memory};
+use mdp_num::{Frac, Memory, read_canonical};
 use mdp_text::Part::{Bytes, Fraction, Whole};
-use mdp_text::{CertKind, Refusal, frac_at, push_parts, refuse_if, whole_at, words_behind};
+use mdp_text::{CertKind, Refusal, push_parts, refuse_if, whole_of, words_behind};
 use std::alloc::{AllocError, Global};
 
 /// The state of the line before.
@@ -29,7 +29,7 @@ fn state_before(before: &Option<FloorLine>) -> Option<u32>
 impl Line for FloorLine {
     ghost listed = { floor_listed };
 
-    #[tactic(auto, unfolding(crate::specs::Witness::floor_line_at))]
+    #[tactic(auto, unfolding(crate::specs::Witness::floor_line_at, mdp_text::specs::Words::whole_at, mdp_text::specs::Words::frac_at))]
     fn read(
         states: u32,
         before: &Option<FloorLine>,
@@ -37,11 +37,18 @@ impl Line for FloorLine {
         text: &[u8],
     ) -> Result<FloorLine, Refusal> {
         let behind = words_behind(line, text, b"keep", 4)?;
-        let (number, value, rank, mark) = four_words(behind);
+        let (state, value, rank, mark) = four_words(behind);
         let wide = mark_at(line, mark)?;
-        let state = whole_at(line, number)?;
-        let value = frac_at(line, value)?;
-        let rank = whole_at(line, rank)?;
+        let (Some(state), Some(value), Some(rank)) = (
+            whole_of(state),
+            read_canonical(value),
+            whole_of(rank),
+        ) else {
+            return Err(Refusal {
+                kind: CertKind::Number,
+                line,
+            });
+        };
         refuse_if(
             CertKind::Count,
             line,

@@ -11,10 +11,10 @@ use crate::listed::{Line, Lines};
 use crate::mark::{mark_at, mark_word};
 use crate::words::three_words;
 use mdp_claims::{Flow, FlowCert};
-use mdp_num::Memory;
+use mdp_num::{Memory, read_canonical};
 use mdp_text::Part::{Bytes, Fraction, Whole};
 use mdp_text::{
-    CertKind, Refusal, begins_with, cut_word, frac_at, only_word, push_parts, refuse_if, whole_at,
+    CertKind, Refusal, begins_with, cut_word, only_word, push_parts, refuse_if, whole_at, whole_of,
     words_behind,
 };
 use std::alloc::{AllocError, Global};
@@ -89,15 +89,22 @@ fn keep_at(states: u32, before: Option<u32>, line: u64, text: &[u8]) -> Result<F
 }
 
 /// The flow of the line `flow N CHOICE AMOUNT` behind this flow.
-#[tactic(auto, unfolding(crate::specs::Witness::flow_at))]
+#[tactic(auto, unfolding(crate::specs::Witness::flow_at, mdp_text::specs::Words::whole_at, mdp_text::specs::Words::frac_at))]
 fn flow_at(states: u32, before: &Option<Flow>, line: u64, text: &[u8]) -> Result<FlowLine, Refusal>
     ensures { result ≡ flow_at states before.now line text.now }
 {
     let behind = words_behind(line, text, b"flow", 3)?;
     let (state, choice, amount) = three_words(behind);
-    let state = whole_at(line, state)?;
-    let choice = whole_at(line, choice)?;
-    let amount = frac_at(line, amount)?;
+    let (Some(state), Some(choice), Some(amount)) = (
+        whole_of(state),
+        whole_of(choice),
+        read_canonical(amount),
+    ) else {
+        return Err(Refusal {
+            kind: CertKind::Number,
+            line,
+        });
+    };
     let flow = Flow {
         state,
         choice,
