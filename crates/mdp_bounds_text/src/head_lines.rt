@@ -10,8 +10,8 @@ use crate::head::Head;
 use crate::init::BoundsInit;
 use mdp_cert::{Claim, claim_at, may_be_infinite, three_words};
 use mdp_text::{
-    CertError, CertKind, Refusal, init_parse, next_line, refuse_if, states_from, whole_of,
-    words_behind,
+    CertError, CertKind, Refusal, init_parse, next_line, or_refused, refuse_if, states_from,
+    whole_at, words_behind,
 };
 use std::alloc::Global;
 
@@ -36,22 +36,15 @@ fn bounds_claim_at(alloc: Global, line: u64, text: &[u8]) -> Result<Claim, CertE
 }
 
 /// The initial state, its lower and its upper value, of the line `init S LOWER UPPER`.
-#[tactic(auto, unfolding(crate::specs::Reading::between_at, mdp_text::specs::Words::whole_at))]
+#[tactic(auto, unfolding(crate::specs::Reading::between_at))]
 fn between_at(infinite: bool, states: u32, line: u64, text: &[u8]) -> Result<BoundsInit, Refusal>
     ensures { result ≡ between_at infinite states line text.now }
 {
     let behind = words_behind(line, text, b"init", 3)?;
     let (state, lower, upper) = three_words(behind);
-    let (Some(state), Some(lower), Some(upper)) = (
-        whole_of(state),
-        init_parse(infinite, lower),
-        init_parse(infinite, upper),
-    ) else {
-        return Err(Refusal {
-            kind: CertKind::Number,
-            line,
-        });
-    };
+    let state = whole_at(line, state)?;
+    let lower = or_refused(CertKind::Number, line, init_parse(infinite, lower))?;
+    let upper = or_refused(CertKind::Number, line, init_parse(infinite, upper))?;
     refuse_if(CertKind::Count, line, state >= states)?;
     Ok(BoundsInit::Between(state, lower, upper))
 }
