@@ -11,7 +11,7 @@ use Rattle.mdp_text.specs.Words.{whole_of}
 use Rattle.mdp_text.proofs.Pieces.{free-spelling}
 use Rattle.mdp_text.proofs.Joined.{AllFree, free-whole}
 use Rattle.mdp_cert.specs.Claims.{Value}
-use Rattle.mdp_cert.proofs.Columns.{IsColumns, IsValue, and_then-some, whole-of-found, whole-of-again, same-ℚ, itself-ℚ, number-same, number-itself}
+use Rattle.mdp_cert.proofs.Columns.{IsColumns, is-columns, IsValue, and_then-some, whole-of-found, whole-of-again, same-ℚ, itself-ℚ, number-same, number-itself}
 use Rattle.mdp_bounds_text.specs.declared.ranked_entry.RankedEntry.{RankedEntry}
 use Rattle.mdp_bounds_text.specs.declared.gains_entry.GainsEntry.{GainsEntry}
 use Rattle.mdp_bounds_text.specs.Entries.{ranked_parse, ranked_columns, IsRankedInWidth, gains_parse, gains_columns, IsGainsInWidth}
@@ -77,16 +77,7 @@ module _ {V : Type 0} (k : Value V) (IsInWidth : V → Type 0) (is : IsValue k I
       (is.free c x.lower lt h.lower, (is.free c x.upper lt h.upper, (free-whole c x.choice (omega arith) h.choice, (free-whole c x.rank (omega arith) h.rank, tt))))
 
   pub ranked-is_columns : IsColumns (ranked_columns k) (IsRankedInWidth IsInWidth)
-  ranked-is_columns = record {
-    some = omega arith;
-    count = λ x. refl;
-    found = ranked-found;
-    again = ranked-again;
-    blanks = λ x h. ranked-free 32 x (omega arith) h;
-    feeds = λ x h. ranked-free 10 x (omega arith) h;
-    same = ranked-same;
-    itself = ranked-itself;
-  }
+  ranked-is_columns = is-columns (ranked_columns k) (IsRankedInWidth IsInWidth) (omega arith) (λ x. refl) ranked-found ranked-again ranked-free ranked-same ranked-itself
 
 -- ---- a lower gain, an upper gain, a bound, a bias and a choice
 
@@ -167,13 +158,4 @@ gains-free c x lt h = (
 )
 
 pub gains-is_columns : IsColumns gains_columns IsGainsInWidth
-gains-is_columns = record {
-  some = omega arith;
-  count = λ x. refl;
-  found = gains-found;
-  again = gains-again;
-  blanks = λ x h. gains-free 32 x (omega arith) h;
-  feeds = λ x h. gains-free 10 x (omega arith) h;
-  same = gains-same;
-  itself = gains-itself;
-}
+gains-is_columns = is-columns gains_columns IsGainsInWidth (omega arith) (λ x. refl) gains-found gains-again gains-free gains-same gains-itself

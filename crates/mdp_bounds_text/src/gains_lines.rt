@@ -4,11 +4,11 @@ ghost use Rattle.mdp_bounds_text.specs.Entries.{gains_columns, gains_of};
 ghost use Rattle.mdp_bounds_text.specs.Reading.{mean_body};
 
 use crate::gains_entry::GainsEntry;
-use mdp_cert::{Column, Entry, Lists, column_of};
+use mdp_cert::{Column, Entry, Lists, column_of, four_words};
 use mdp_claims::MeanBoundsCert;
 use mdp_num::{Frac, Memory, read_canonical};
 use mdp_text::Part::{Bytes, Fraction, Whole};
-use mdp_text::{cut_word, only_word, push_parts, whole_of};
+use mdp_text::{cut_word, push_parts, whole_of};
 use std::alloc::{AllocError, Global};
 
 /// The line of a state for the claim `DIR mean`: two gains, a bound, a bias and a choice.
@@ -21,16 +21,23 @@ impl Entry for GainsEntry {
 
     fn read(text: &[u8]) -> Option<GainsEntry> {
         let (lower, others) = cut_word(text);
-        let (upper, others) = cut_word(others);
-        let (bound, others) = cut_word(others);
-        let (bias, choice) = cut_word(others);
-        Some(GainsEntry {
-            lower: read_canonical(lower)?,
-            upper: read_canonical(upper)?,
-            bound: read_canonical(bound)?,
-            bias: read_canonical(bias)?,
-            choice: whole_of(only_word(choice))?,
-        })
+        let (upper, bound, bias, choice) = four_words(others);
+        match (
+            read_canonical(lower),
+            read_canonical(upper),
+            read_canonical(bound),
+            read_canonical(bias),
+            whole_of(choice),
+        ) {
+            (Some(lower), Some(upper), Some(bound), Some(bias), Some(choice)) => Some(GainsEntry {
+                lower,
+                upper,
+                bound,
+                bias,
+                choice,
+            }),
+            _ => None,
+        }
     }
 
     fn push_words(&self, out: &mut Vec<u8>) -> Result<(), Memory> {

@@ -4,15 +4,14 @@ ghost use Rattle.mdp_text.specs.Lines.{place};
 ghost use Rattle.mdp_cert.specs.Cert.{plain_claim};
 ghost use Rattle.mdp_bounds_text.specs.Cert.{is_of_bounds};
 ghost use Rattle.mdp_bounds_text.specs.Code.{plain_head};
-ghost use Rattle.mdp_bounds_text.specs.Reading.{bounds_claim_at, init_value_at, between_at, init_at, head_from};
+ghost use Rattle.mdp_bounds_text.specs.Reading.{bounds_claim_at, between_at, init_at, head_from};
 
 use crate::head::Head;
 use crate::init::BoundsInit;
-use mdp_cert::{Claim, claim_at, may_be_infinite};
-use mdp_num::Frac;
+use mdp_cert::{Claim, claim_at, may_be_infinite, three_words};
 use mdp_text::{
-    CertError, CertKind, Refusal, cut_word, init_parse, next_line, only_word, or_refused,
-    refuse_if, states_from, whole_at, words_behind,
+    CertError, CertKind, Refusal, init_parse, next_line, or_refused, refuse_if, states_from,
+    whole_at, words_behind,
 };
 use std::alloc::Global;
 
@@ -36,24 +35,16 @@ fn bounds_claim_at(alloc: Global, line: u64, text: &[u8]) -> Result<Claim, CertE
     Ok(claim)
 }
 
-/// The value that a word in this line spells, or `Number`.
-fn init_value_at(infinite: bool, line: u64, word: &[u8]) -> Result<Option<Frac>, Refusal>
-    ensures { result ≡ init_value_at infinite line word.now }
-{
-    or_refused(CertKind::Number, line, init_parse(infinite, word))
-}
-
 /// The initial state, its lower and its upper value, of the line `init S LOWER UPPER`.
 #[tactic(auto, unfolding(crate::specs::Reading::between_at))]
 fn between_at(infinite: bool, states: u32, line: u64, text: &[u8]) -> Result<BoundsInit, Refusal>
     ensures { result ≡ between_at infinite states line text.now }
 {
     let behind = words_behind(line, text, b"init", 3)?;
-    let (word, behind) = cut_word(behind);
-    let state = whole_at(line, word)?;
-    let (word, behind) = cut_word(behind);
-    let lower = init_value_at(infinite, line, word)?;
-    let upper = init_value_at(infinite, line, only_word(behind))?;
+    let (state, lower, upper) = three_words(behind);
+    let state = whole_at(line, state)?;
+    let lower = or_refused(CertKind::Number, line, init_parse(infinite, lower))?;
+    let upper = or_refused(CertKind::Number, line, init_parse(infinite, upper))?;
     refuse_if(CertKind::Count, line, state >= states)?;
     Ok(BoundsInit::Between(state, lower, upper))
 }

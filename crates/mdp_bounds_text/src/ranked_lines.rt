@@ -4,10 +4,10 @@ ghost use Rattle.mdp_bounds_text.specs.Entries.{ranked_columns, ranked_of};
 ghost use Rattle.mdp_bounds_text.specs.Reading.{reach_body, reward_body};
 
 use crate::ranked_entry::RankedEntry;
-use mdp_cert::{Column, Entry, Lists, Value, column_of, push_value};
+use mdp_cert::{Column, Entry, Lists, Value, column_of, four_words, push_value};
 use mdp_claims::{ReachBoundsCert, RewardBoundsCert};
 use mdp_num::{Frac, Memory};
-use mdp_text::{cut_word, only_word, push_word, whole_of};
+use mdp_text::{push_word, whole_of};
 use std::alloc::{AllocError, Global};
 
 /// The line of a state for the claims `DIR reach` and `DIR reward`: two values, a choice and a rank.
@@ -19,15 +19,21 @@ impl<V: Value> Entry for RankedEntry<V> {
     }
 
     fn read(text: &[u8]) -> Option<RankedEntry<V>> {
-        let (lower, others) = cut_word(text);
-        let (upper, others) = cut_word(others);
-        let (choice, rank) = cut_word(others);
-        Some(RankedEntry {
-            lower: V::read_word(lower)?,
-            upper: V::read_word(upper)?,
-            choice: whole_of(choice)?,
-            rank: whole_of(only_word(rank))?,
-        })
+        let (lower, upper, choice, rank) = four_words(text);
+        match (
+            V::read_word(lower),
+            V::read_word(upper),
+            whole_of(choice),
+            whole_of(rank),
+        ) {
+            (Some(lower), Some(upper), Some(choice), Some(rank)) => Some(RankedEntry {
+                lower,
+                upper,
+                choice,
+                rank,
+            }),
+            _ => None,
+        }
     }
 
     fn push_words(&self, out: &mut Vec<u8>) -> Result<(), Memory> {

@@ -4,7 +4,7 @@ ghost use Rattle.mdp_text.specs.Spelling.{line};
 ghost use Rattle.mdp_bounds_text.specs.declared.init.BoundsInit.TheVariants.{Between};
 ghost use Rattle.mdp_bounds_text.specs.Cert.{plain_body};
 ghost use Rattle.mdp_bounds_text.specs.Plain.{plain};
-ghost use Rattle.mdp_bounds_text.specs.Spelling.{version_text, init_text, head_text, body_text, text_of};
+ghost use Rattle.mdp_bounds_text.specs.Spelling.{init_text, head_text, body_text, text_of};
 
 use crate::body::BoundsBody;
 use crate::cert::BoundsCert;
@@ -15,14 +15,6 @@ use mdp_cert::{Version, push_claim, push_spread, push_to_end, push_value};
 use mdp_num::{Frac, Memory};
 use mdp_text::Part::Bytes;
 use mdp_text::{or_cut_back, push_number, push_parts, push_start};
-
-/// Appends the line of the version.
-fn push_version(out: &mut Vec<u8>) -> Result<(), Memory>
-    ensures text { OnOk result (out.new.items ≡ out.old.items ++ line version_text) }
-    ensures front { Keeps out.old.items out.new.items }
-{
-    push_parts(out, &[Bytes(b"mdp-bounds 1\n")])
-}
 
 /// Appends the line of a given initial state with its lower and its upper value.
 fn push_between(
@@ -56,7 +48,7 @@ fn push_head(out: &mut Vec<u8>, cert: &BoundsCert) -> Result<(), Memory>
     ensures text { OnOk result (out.new.items ≡ out.old.items ++ head_text (plain cert.now)) }
     ensures front { Keeps out.old.items out.new.items }
 {
-    push_version(out)?;
+    push_parts(out, &[Bytes(b"mdp-bounds 1\n")])?;
     push_claim(out, &cert.claim)?;
     push_number(out, u64::from(cert.states))?;
     push_init(out, &cert.init)

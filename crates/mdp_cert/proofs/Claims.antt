@@ -55,19 +55,23 @@ name-again front name h = ap (option_and_then closed_name) (behind-again front (
 
 -- ---- two names
 
+map-some : {A B : Type 0} (f : A → B) (o : Option A) (y : B) → option_map f o ≡ Some y → (x : A) × (o ≡ Some x) × (f x ≡ y)
+map-some f None y e = absurd cc
+map-some f (Some x) y e = (x, refl, cc)
+
 two-found : (text : List ℕ) (names : List ℕ × List ℕ) → two_names text ≡ Some names
     → (text ≡ names.0 ++ (34 ∷ 32 ∷ 34 ∷ (names.1 ++ 34 ∷ []))) × (is_name names.0 ≡ true) × (is_name names.1 ≡ true)
-two-found text names e = by (is_name (before_first is_quote text)) refl (name_behind (codes "\" \"") (drop (position_or_len is_quote text) text)) refl e
+two-found text names e = by (is_name (before_first is_quote text)) refl e
   where
-    by : (b : Bool) → is_name (before_first is_quote text) ≡ b → (o : Option (List ℕ)) → name_behind (codes "\" \"") (drop (position_or_len is_quote text) text) ≡ o
-        → cond b (option_map (λ label. (before_first is_quote text, label)) o) None ≡ Some names
+    by : (b : Bool) → is_name (before_first is_quote text) ≡ b
+        → cond b (option_map (λ label. (before_first is_quote text, label)) (name_behind (codes "\" \"") (drop (position_or_len is_quote text) text))) None ≡ Some names
         → (text ≡ names.0 ++ (34 ∷ 32 ∷ 34 ∷ (names.1 ++ 34 ∷ []))) × (is_name names.0 ≡ true) × (is_name names.1 ≡ true)
-    by false t o f e = absurd cc
-    by true t None f e = absurd cc
-    by true t (Some label) f e =
-        let is : (let p : List ℕ × List ℕ = (before_first is_quote text, label) in p) ≡ names = cc in
-        let g = name-found (codes "\" \"") (drop (position_or_len is_quote text) text) label f in
-        subst (λ (p : List ℕ × List ℕ). (text ≡ p.0 ++ (34 ∷ 32 ∷ 34 ∷ (p.1 ++ 34 ∷ []))) × (is_name p.0 ≡ true) × (is_name p.1 ≡ true)) is (
+    by false t e = absurd cc
+    by true t e =
+        let rest = drop (position_or_len is_quote text) text in
+        let m = map-some (λ (label : List ℕ). let p : List ℕ × List ℕ = (before_first is_quote text, label) in p) (name_behind (codes "\" \"") rest) names e in
+        let g = name-found (codes "\" \"") rest m.0 m.1 in
+        subst (λ (p : List ℕ × List ℕ). (text ≡ p.0 ++ (34 ∷ 32 ∷ 34 ∷ (p.1 ++ 34 ∷ []))) × (is_name p.0 ≡ true) × (is_name p.1 ≡ true)) m.2 (
           sym (take-append-drop (position_or_len is_quote text) text) ∙ ap (λ (ys : List ℕ). before_first is_quote text ++ ys) g.0,
           t,
           g.1,
@@ -79,10 +83,6 @@ two-again name label h g =
     rw (at, take-append_seam name (34 ∷ 32 ∷ 34 ∷ (label ++ 34 ∷ [])), drop-append_seam name (34 ∷ 32 ∷ 34 ∷ (label ++ 34 ∷ [])), h, name-again (codes "\" \"") label g) refl
 
 -- ---- a name and a threshold
-
-map-some : {A B : Type 0} (f : A → B) (o : Option A) (y : B) → option_map f o ≡ Some y → (x : A) × (o ≡ Some x) × (f x ≡ y)
-map-some f None y e = absurd cc
-map-some f (Some x) y e = (x, refl, cc)
 
 threshold-found : (word : List ℕ) (t : ℚ) → threshold_of word ≡ Some t → (word ≡ spelling t) × (is_at_least_zero t ≡ true) × IsNarrow t
 threshold-found word t e = by (canonical_of word) refl e

@@ -37,6 +37,22 @@ pub record IsColumns {A : Type 0} (k : Columns A) (IsInWidth : A → Type 0) : T
   pub same : (x y : A) → k.same x y ≡ true → x ≡ y
   pub itself : (x : A) → k.same x x ≡ true
 
+-- it follows where the words have no byte below 45
+pub is-columns : {A : Type 0} (k : Columns A) (IsInWidth : A → Type 0) → 0 < k.width → ((x : A) → length (k.words x) ≡ k.width)
+    → ((ws : List (List ℕ)) (x : A) → k.parse ws ≡ Some x → (ws ≡ k.words x) × IsInWidth x) → ((x : A) → IsInWidth x → k.parse (k.words x) ≡ Some x)
+    → ((c : ℕ) (x : A) → c < 45 → IsInWidth x → AllFree c (k.words x)) → ((x y : A) → k.same x y ≡ true → x ≡ y) → ((x : A) → k.same x x ≡ true)
+    → IsColumns k IsInWidth
+is-columns k IsInWidth some count found again free same itself = record {
+  some = some;
+  count = count;
+  found = found;
+  again = again;
+  blanks = λ x h. free 32 x (omega arith) h;
+  feeds = λ x h. free 10 x (omega arith) h;
+  same = same;
+  itself = itself;
+}
+
 -- so they say the same exactly where their words are the same
 pub same-words : {A : Type 0} (k : Columns A) (IsInWidth : A → Type 0) → IsColumns k IsInWidth → IsSameWords k IsInWidth
 same-words k IsInWidth is x y p q =
@@ -152,16 +168,7 @@ bound-found (v ∷ []) x e = let s = sound v x e in (ap (λ (w : List ℕ). w �
 bound-found (v ∷ w ∷ ws) x e = absurd cc
 
 pub bound-is_columns : IsColumns bound_columns IsNarrow
-bound-is_columns = record {
-  some = omega arith;
-  count = λ x. refl;
-  found = bound-found;
-  again = λ x h. complete x h;
-  blanks = λ x h. (free-spelling 32 x (omega arith) h, tt);
-  feeds = λ x h. (free-spelling 10 x (omega arith) h, tt);
-  same = same-ℚ;
-  itself = itself-ℚ;
-}
+bound-is_columns = is-columns bound_columns IsNarrow (omega arith) (λ x. refl) bound-found complete (λ c x lt h. (free-spelling c x lt h, tt)) same-ℚ itself-ℚ
 
 -- ---- a value, a choice and a rank
 
@@ -218,16 +225,7 @@ module _ {V : Type 0} (k : Value V) (IsInWidth : V → Type 0) (is : IsValue k I
   policy-free c p lt h = (is.free c p.value lt h.value, (free-whole c p.choice (omega arith) h.choice, (free-whole c p.rank (omega arith) h.rank, tt)))
 
   pub policy-is_columns : IsColumns (policy_columns k) (IsPolicyInWidth IsInWidth)
-  policy-is_columns = record {
-    some = omega arith;
-    count = λ x. refl;
-    found = policy-found;
-    again = policy-again;
-    blanks = λ p h. policy-free 32 p (omega arith) h;
-    feeds = λ p h. policy-free 10 p (omega arith) h;
-    same = policy-same;
-    itself = policy-itself;
-  }
+  policy-is_columns = is-columns (policy_columns k) (IsPolicyInWidth IsInWidth) (omega arith) (λ x. refl) policy-found policy-again policy-free policy-same policy-itself
 
 -- ---- a gain, a bound, a bias and a choice
 
@@ -289,13 +287,4 @@ mean-free c x lt h =
     (free-spelling c x.gain lt h.gain, (free-spelling c x.bound lt h.bound, (free-spelling c x.bias lt h.bias, (free-whole c x.choice (omega arith) h.choice, tt))))
 
 pub mean-is_columns : IsColumns mean_columns IsMeanInWidth
-mean-is_columns = record {
-  some = omega arith;
-  count = λ x. refl;
-  found = mean-found;
-  again = mean-again;
-  blanks = λ x h. mean-free 32 x (omega arith) h;
-  feeds = λ x h. mean-free 10 x (omega arith) h;
-  same = mean-same;
-  itself = mean-itself;
-}
+mean-is_columns = is-columns mean_columns IsMeanInWidth (omega arith) (λ x. refl) mean-found mean-again mean-free mean-same mean-itself

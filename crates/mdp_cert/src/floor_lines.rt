@@ -8,12 +8,11 @@ use crate::floor_line::FloorLine;
 use crate::flow_lines::is_in_order;
 use crate::listed::{Line, Lines};
 use crate::mark::{mark_at, mark_word};
+use crate::words::four_words;
 use mdp_claims::FloorCert;
-use mdp_num::{Frac, Memory};
+use mdp_num::{Frac, Memory, read_canonical};
 use mdp_text::Part::{Bytes, Fraction, Whole};
-use mdp_text::{
-    CertKind, Refusal, cut_word, frac_at, only_word, push_parts, refuse_if, whole_at, words_behind,
-};
+use mdp_text::{CertKind, Refusal, push_parts, refuse_if, whole_of, words_behind};
 use std::alloc::{AllocError, Global};
 
 /// The state of the line before.
@@ -30,7 +29,7 @@ fn state_before(before: &Option<FloorLine>) -> Option<u32>
 impl Line for FloorLine {
     ghost listed = { floor_listed };
 
-    #[tactic(auto, unfolding(crate::specs::Witness::floor_line_at))]
+    #[tactic(auto, unfolding(crate::specs::Witness::floor_line_at, mdp_text::specs::Words::whole_at, mdp_text::specs::Words::frac_at))]
     fn read(
         states: u32,
         before: &Option<FloorLine>,
@@ -38,13 +37,18 @@ impl Line for FloorLine {
         text: &[u8],
     ) -> Result<FloorLine, Refusal> {
         let behind = words_behind(line, text, b"keep", 4)?;
-        let (number, behind) = cut_word(behind);
-        let (value, behind) = cut_word(behind);
-        let (rank, mark) = cut_word(behind);
-        let wide = mark_at(line, only_word(mark))?;
-        let state = whole_at(line, number)?;
-        let value = frac_at(line, value)?;
-        let rank = whole_at(line, rank)?;
+        let (state, value, rank, mark) = four_words(behind);
+        let wide = mark_at(line, mark)?;
+        let (Some(state), Some(value), Some(rank)) = (
+            whole_of(state),
+            read_canonical(value),
+            whole_of(rank),
+        ) else {
+            return Err(Refusal {
+                kind: CertKind::Number,
+                line,
+            });
+        };
         refuse_if(
             CertKind::Count,
             line,

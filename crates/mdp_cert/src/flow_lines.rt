@@ -1,4 +1,4 @@
-ghost use Rattle.std.specs.Prelude.{◌≡◌, ◌&&◌, ◌++◌, nat_lt, IfOk, OnOk, length, filter_map, option_and_then};
+ghost use Rattle.std.specs.Prelude.{◌≡◌, ◌&&◌, ◌++◌, ◌∷◌, [], nat_lt, IfOk, OnOk, length, filter_map, option_and_then};
 ghost use Rattle.std.specs.List.{join_with_byte};
 ghost use Rattle.mdp_text.specs.Answer.{Keeps};
 ghost use Rattle.mdp_cert.specs.declared.flow_line.FlowLine.TheVariants.{Keep, Send};
@@ -9,11 +9,12 @@ use crate::body::Body;
 use crate::flow_line::FlowLine;
 use crate::listed::{Line, Lines};
 use crate::mark::{mark_at, mark_word};
+use crate::words::three_words;
 use mdp_claims::{Flow, FlowCert};
-use mdp_num::Memory;
+use mdp_num::{Memory, read_canonical};
 use mdp_text::Part::{Bytes, Fraction, Whole};
 use mdp_text::{
-    CertKind, Refusal, begins_with, cut_word, frac_at, only_word, push_parts, refuse_if, whole_at,
+    CertKind, Refusal, begins_with, cut_word, only_word, push_parts, refuse_if, whole_at, whole_of,
     words_behind,
 };
 use std::alloc::{AllocError, Global};
@@ -54,43 +55,13 @@ fn is_next_flow(before: &Option<Flow>, flow: &Flow) -> bool
     }
 }
 
-/// The state that a line keeps.
-fn kept_in(line: &FlowLine) -> Option<u32>
-    ensures { result ≡ kept_in line.now }
-{
-    match line {
-        FlowLine::Keep { state, .. } => Some(*state),
-        FlowLine::Send(_) => None,
-    }
-}
-
-/// The mark of the state that a line keeps.
-fn mark_in(line: &FlowLine) -> Option<bool>
-    ensures { result ≡ mark_in line.now }
-{
-    match line {
-        FlowLine::Keep { wide, .. } => Some(*wide),
-        FlowLine::Send(_) => None,
-    }
-}
-
-/// The flow that a line says.
-fn flow_in(line: &FlowLine) -> Option<Flow>
-    ensures { result ≡ flow_in line.now }
-{
-    match line {
-        FlowLine::Keep { .. } => None,
-        FlowLine::Send(flow) => Some(*flow),
-    }
-}
-
 /// The state that the line before keeps.
 fn kept_before(before: &Option<FlowLine>) -> Option<u32>
     ensures { result ≡ option_and_then kept_in before.now }
 {
     match before {
-        Some(line) => kept_in(line),
-        None => None,
+        Some(FlowLine::Keep { state, .. }) => Some(*state),
+        Some(FlowLine::Send(_)) | None => None,
     }
 }
 
@@ -99,8 +70,8 @@ fn flow_before(before: &Option<FlowLine>) -> Option<Flow>
     ensures { result ≡ option_and_then flow_in before.now }
 {
     match before {
-        Some(line) => flow_in(line),
-        None => None,
+        Some(FlowLine::Send(flow)) => Some(*flow),
+        Some(FlowLine::Keep { .. }) | None => None,
     }
 }
 
@@ -118,16 +89,22 @@ fn keep_at(states: u32, before: Option<u32>, line: u64, text: &[u8]) -> Result<F
 }
 
 /// The flow of the line `flow N CHOICE AMOUNT` behind this flow.
-#[tactic(auto, unfolding(crate::specs::Witness::flow_at))]
+#[tactic(auto, unfolding(crate::specs::Witness::flow_at, mdp_text::specs::Words::whole_at, mdp_text::specs::Words::frac_at))]
 fn flow_at(states: u32, before: &Option<Flow>, line: u64, text: &[u8]) -> Result<FlowLine, Refusal>
     ensures { result ≡ flow_at states before.now line text.now }
 {
     let behind = words_behind(line, text, b"flow", 3)?;
-    let (word, behind) = cut_word(behind);
-    let state = whole_at(line, word)?;
-    let (word, behind) = cut_word(behind);
-    let choice = whole_at(line, word)?;
-    let amount = frac_at(line, only_word(behind))?;
+    let (state, choice, amount) = three_words(behind);
+    let (Some(state), Some(choice), Some(amount)) = (
+        whole_of(state),
+        whole_of(choice),
+        read_canonical(amount),
+    ) else {
+        return Err(Refusal {
+            kind: CertKind::Number,
+            line,
+        });
+    };
     let flow = Flow {
         state,
         choice,
@@ -227,34 +204,33 @@ impl Lines for FlowCert {
     }
 }
 
-/// The states that these lines keep.
-fn kept_of(alloc: Global, lines: &[FlowLine]) -> Result<Vec<u32>, AllocError>
-    ensures { IfOk result (λ v. v.items ≡ filter_map kept_in lines.now) }
+/// Appends what a line says to the lists of a body.
+fn push_said(cert: &mut FlowCert, line: &FlowLine) -> Result<(), AllocError>
+    ensures kept { OnOk result (cert.new.kept.items ≡ cert.old.kept.items ++ filter_map kept_in (line.now ∷ [])) }
+    ensures wide { OnOk result (cert.new.wide.items ≡ cert.old.wide.items ++ filter_map mark_in (line.now ∷ [])) }
+    ensures flows { OnOk result (cert.new.flows.items ≡ cert.old.flows.items ++ filter_map flow_in (line.now ∷ [])) }
 {
-    lines.iter().filter_map(kept_in).collect(alloc)
-}
-
-/// The marks of the states that these lines keep.
-fn marks_of(alloc: Global, lines: &[FlowLine]) -> Result<Vec<bool>, AllocError>
-    ensures { IfOk result (λ v. v.items ≡ filter_map mark_in lines.now) }
-{
-    lines.iter().filter_map(mark_in).collect(alloc)
-}
-
-/// The flows that these lines say.
-fn flows_of(alloc: Global, lines: &[FlowLine]) -> Result<Vec<Flow>, AllocError>
-    ensures { IfOk result (λ v. v.items ≡ filter_map flow_in lines.now) }
-{
-    lines.iter().filter_map(flow_in).collect(alloc)
+    match line {
+        FlowLine::Keep { state, wide } => {
+            cert.kept.push(*state)?;
+            cert.wide.push(*wide)?;
+        }
+        FlowLine::Send(flow) => cert.flows.push(*flow)?,
+    }
+    Ok(())
 }
 
 /// The kept states with their marks, and the flows, of these lines.
 pub(crate) fn flow_body(alloc: Global, lines: &[FlowLine]) -> Result<Body, AllocError>
     ensures { IfOk result (λ b. plain_body b ≡ flow_body lines.now) }
 {
-    Ok(Body::Flow(FlowCert {
-        kept: kept_of(alloc, lines)?,
-        wide: marks_of(alloc, lines)?,
-        flows: flows_of(alloc, lines)?,
-    }))
+    let mut cert = FlowCert {
+        kept: Vec::new(alloc),
+        wide: Vec::new(alloc),
+        flows: Vec::new(alloc),
+    };
+    for line in lines {
+        push_said(&mut cert, line)?;
+    }
+    Ok(Body::Flow(cert))
 }

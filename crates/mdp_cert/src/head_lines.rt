@@ -1,7 +1,7 @@
 ghost use Rattle.std.specs.Prelude.{◌≡◌, Ok, MatchResult};
 ghost use Rattle.mdp_text.specs.Answer.{Refuses};
 ghost use Rattle.mdp_cert.specs.Answer.{plain_head};
-ghost use Rattle.mdp_cert.specs.Cert.{plain_claim, may_be_infinite, is_witness};
+ghost use Rattle.mdp_cert.specs.Cert.{plain_claim, may_be_infinite};
 ghost use Rattle.mdp_text.specs.Lines.{place};
 ghost use Rattle.mdp_text.specs.Heads.{start_at, valued_at};
 ghost use Rattle.mdp_cert.specs.Reading.{version_at, init_at, head_from};
@@ -37,21 +37,14 @@ pub fn may_be_infinite(claim: &Claim) -> bool
     matches!(claim, Claim::Reward { .. })
 }
 
-/// Whether the claim is one of a subsystem.
-fn is_witness(claim: &Claim) -> bool
-    ensures { result ≡ is_witness (plain_claim claim.now) }
-{
-    matches!(claim, Claim::Witness { .. })
-}
-
 /// What the line `init` says, in the form of the claim.
 fn init_at(claim: &Claim, states: u32, line: u64, text: &[u8]) -> Result<Init, Refusal>
     ensures { result ≡ init_at (plain_claim claim.now) states line text.now }
 {
-    if is_witness(claim) {
-        return start_at(states, line, text);
+    match claim {
+        Claim::Witness { .. } => start_at(states, line, text),
+        _ => valued_at(may_be_infinite(claim), states, line, text),
     }
-    valued_at(may_be_infinite(claim), states, line, text)
 }
 
 /// Reads the lines 2 to 4, of claim, states and init, and gives the bytes behind them.

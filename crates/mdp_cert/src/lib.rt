@@ -38,6 +38,7 @@ mod upper_lines;
 mod values;
 mod version;
 mod widths;
+mod words;
 mod write;
 
 pub use body::Body;
@@ -55,4 +56,5 @@ pub use read::read_cert;
 pub use state_lines::entries_to_end;
 pub use values::{Value, push_value};
 pub use version::Version;
+pub use words::{four_words, three_words};
 pub use write::{push_to_end, write_cert, write_old};

@@ -8,7 +8,8 @@ ghost use Rattle.mdp_cert.specs.Spelling.{listed_lines};
 ghost use Rattle.mdp_cert.specs.Reading.{listed_at, listed_to_end};
 
 use mdp_num::Memory;
-use mdp_text::{CertError, Refusal, next_line, push_end};
+use mdp_text::Part::Bytes;
+use mdp_text::{CertError, Refusal, next_line, push_end, push_parts};
 use std::alloc::Global;
 
 /// A line of a body that lists lines of its own up to the line `end`. A claim with such a body gives one: how a line is read behind the one before
@@ -88,8 +89,7 @@ fn push_line<L: Line>(out: &mut Vec<u8>, said: &L) -> Result<(), Memory>
     ensures front { Keeps out.old.items out.new.items }
 {
     said.push_words(out)?;
-    out.extend_from_slice(b"\n")?;
-    Ok(())
+    push_parts(out, &[Bytes(b"\n")])
 }
 
 /// Appends the lines, of which there are so many, and the line `end`.

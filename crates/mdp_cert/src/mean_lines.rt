@@ -7,10 +7,11 @@ use crate::body::Body;
 use crate::column::{Column, column_of};
 use crate::entries::{Entry, Lists};
 use crate::mean_entry::MeanEntry;
+use crate::words::four_words;
 use mdp_claims::MeanCert;
 use mdp_num::{Frac, Memory, read_canonical};
 use mdp_text::Part::{Bytes, Fraction, Whole};
-use mdp_text::{Refusal, cut_word, frac_at, only_word, push_parts, whole_of, words_behind};
+use mdp_text::{Refusal, frac_at, only_word, push_parts, whole_of, words_behind};
 use std::alloc::{AllocError, Global};
 
 /// The line of a state for the claim `DIR mean`: a gain, a bound, a bias and a choice.
@@ -22,15 +23,21 @@ impl Entry for MeanEntry {
     }
 
     fn read(text: &[u8]) -> Option<MeanEntry> {
-        let (gain, others) = cut_word(text);
-        let (bound, others) = cut_word(others);
-        let (bias, choice) = cut_word(others);
-        Some(MeanEntry {
-            gain: read_canonical(gain)?,
-            bound: read_canonical(bound)?,
-            bias: read_canonical(bias)?,
-            choice: whole_of(only_word(choice))?,
-        })
+        let (gain, bound, bias, choice) = four_words(text);
+        match (
+            read_canonical(gain),
+            read_canonical(bound),
+            read_canonical(bias),
+            whole_of(choice),
+        ) {
+            (Some(gain), Some(bound), Some(bias), Some(choice)) => Some(MeanEntry {
+                gain,
+                bound,
+                bias,
+                choice,
+            }),
+            _ => None,
+        }
     }
 
     fn push_words(&self, out: &mut Vec<u8>) -> Result<(), Memory> {

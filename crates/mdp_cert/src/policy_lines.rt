@@ -8,9 +8,10 @@ use crate::column::{Column, column_of};
 use crate::entries::{Entry, Lists};
 use crate::policy_entry::PolicyEntry;
 use crate::values::Value;
+use crate::words::three_words;
 use mdp_claims::{ReachCert, RewardCert};
 use mdp_num::{Frac, Memory};
-use mdp_text::{cut_word, only_word, push_word, whole_of};
+use mdp_text::{push_word, whole_of};
 use std::alloc::{AllocError, Global};
 
 /// The line of a state for the claims `DIR reach` and `DIR reward`: a value, a choice and a rank.
@@ -22,13 +23,15 @@ impl<V: Value> Entry for PolicyEntry<V> {
     }
 
     fn read(text: &[u8]) -> Option<PolicyEntry<V>> {
-        let (value, others) = cut_word(text);
-        let (choice, rank) = cut_word(others);
-        Some(PolicyEntry {
-            value: V::read_word(value)?,
-            choice: whole_of(choice)?,
-            rank: whole_of(only_word(rank))?,
-        })
+        let (value, choice, rank) = three_words(text);
+        match (V::read_word(value), whole_of(choice), whole_of(rank)) {
+            (Some(value), Some(choice), Some(rank)) => Some(PolicyEntry {
+                value,
+                choice,
+                rank,
+            }),
+            _ => None,
+        }
     }
 
     fn push_words(&self, out: &mut Vec<u8>) -> Result<(), Memory> {

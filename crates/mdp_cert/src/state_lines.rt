@@ -2,37 +2,31 @@ ghost use Rattle.std.specs.Prelude.{◌≡◌, [], ◌+◌, ◌<◌, ◌≤◌, 
 ghost use Rattle.std.proofs.Math.ListN.{replicate};
 ghost use Rattle.mdp_text.specs.Answer.{Refuses};
 ghost use Rattle.mdp_text.specs.Lines.{place};
-ghost use Rattle.mdp_text.specs.Words.{words};
 ghost use Rattle.mdp_cert.specs.Runs.{run};
-ghost use Rattle.mdp_cert.specs.Reading.{entry_at, state_at, run_at, is_same, line_of_states, longest_at, run_in, entries_from, entries_to_end};
+ghost use Rattle.mdp_cert.specs.Reading.{state_at, run_at, is_same, line_of_states, longest_at, run_in, entries_from, entries_to_end};
 
 use crate::entries::Entry;
 use crate::version::Version;
 use mdp_text::{
-    CertError, CertKind, Refusal, begins_with, cut_word, is_line, next_line, or_refused, refuse_if,
-    whole_at, words_behind,
+    CertError, CertKind, Refusal, begins_with, cut_word, is_line, next_line, refuse_if, whole_of,
+    words_behind,
 };
 use std::alloc::{AllocError, Global};
 
-/// What the words behind the numbers say.
-#[tactic(auto, unfolding(crate::specs::Reading::entry_at))]
-fn entry_at<E: Entry>(line: u64, text: &[u8]) -> Result<E, Refusal>
-    requires { length (words text.now) ≡ E.columns.width }
-    ensures { result ≡ entry_at E.columns line (words text.now) }
-{
-    or_refused(CertKind::Number, line, E::read(text))
-}
-
 /// The entry of the line `state S WORDS`, where S is the state that is due, and that no more states follow in it.
-#[tactic(auto, unfolding(crate::specs::Reading::state_at))]
+#[tactic(auto, unfolding(crate::specs::Reading::state_at, crate::specs::Reading::entry_at, mdp_text::specs::Words::whole_at))]
 fn state_at<E: Entry>(due: u32, line: u64, text: &[u8]) -> Result<(E, u32), Refusal>
     ensures said { let due_run = state_at E.columns due line text.now in MatchResult result (λ r. due_run ≡ Ok (run r.0 r.1)) (λ e. due_run ≡ Err e) }
     ensures alone { IfOk result (λ r. r.1 ≡ 0) }
 {
     let behind = words_behind(line, text, b"state", 1 + usize::from(E::width()))?;
-    let (word, behind) = cut_word(behind);
-    let state = whole_at(line, word)?;
-    let entry = entry_at(line, behind)?;
+    let (state, behind) = cut_word(behind);
+    let (Some(state), Some(entry)) = (whole_of(state), E::read(behind)) else {
+        return Err(Refusal {
+            kind: CertKind::Number,
+            line,
+        });
+    };
     refuse_if(CertKind::Count, line, state != due)?;
     Ok((entry, 0))
 }
@@ -45,17 +39,21 @@ fn is_no_run(states: u32, due: u32, first: u32, last: u32) -> bool
 }
 
 /// The entry of the line `run A B WORDS`, where A is the state that is due, and how many states follow A.
-#[tactic(auto, unfolding(crate::specs::Reading::run_at))]
+#[tactic(auto, unfolding(crate::specs::Reading::run_at, crate::specs::Reading::entry_at, mdp_text::specs::Words::whole_at))]
 fn run_at<E: Entry>(states: u32, due: u32, line: u64, text: &[u8]) -> Result<(E, u32), Refusal>
     ensures said { let due_run = run_at E.columns states due line text.now in MatchResult result (λ r. due_run ≡ Ok (run r.0 r.1)) (λ e. due_run ≡ Err e) }
     ensures inside { IfOk result (λ r. due + r.1 < states) }
 {
     let behind = words_behind(line, text, b"run", 2 + usize::from(E::width()))?;
-    let (word, behind) = cut_word(behind);
-    let first = whole_at(line, word)?;
-    let (word, behind) = cut_word(behind);
-    let last = whole_at(line, word)?;
-    let entry = entry_at(line, behind)?;
+    let (first, behind) = cut_word(behind);
+    let (last, behind) = cut_word(behind);
+    let (Some(first), Some(last), Some(entry)) = (whole_of(first), whole_of(last), E::read(behind))
+    else {
+        return Err(Refusal {
+            kind: CertKind::Number,
+            line,
+        });
+    };
     refuse_if(CertKind::Count, line, is_no_run(states, due, first, last))?;
     Ok((entry, last - first))
 }

@@ -3,7 +3,8 @@ ghost use Rattle.mdp_text.specs.Answer.{Keeps};
 ghost use Rattle.mdp_cert.specs.Claims.{Value, fraction_value, reward_value};
 
 use mdp_num::{Frac, Memory, read_canonical};
-use mdp_text::reward_of;
+use mdp_text::Part::Bytes;
+use mdp_text::{push_parts, reward_of};
 
 /// A value that is one word of a line.
 pub trait Value: Copy + Drop {
@@ -28,7 +29,7 @@ pub fn push_value<V: Value>(out: &mut Vec<u8>, value: &V) -> Result<(), Memory>
     ensures text { OnOk result (out.new.items ≡ out.old.items ++ (32 ∷ V.value.spell value.now)) }
     ensures front { Keeps out.old.items out.new.items }
 {
-    out.extend_from_slice(b" ")?;
+    push_parts(out, &[Bytes(b" ")])?;
     value.push_word(out)
 }
 
@@ -60,10 +61,7 @@ impl Value for Option<Frac> {
     fn push_word(&self, out: &mut Vec<u8>) -> Result<(), Memory> {
         match self {
             Some(value) => value.push_text(out),
-            None => {
-                out.extend_from_slice(b"inf")?;
-                Ok(())
-            }
+            None => push_parts(out, &[Bytes(b"inf")]),
         }
     }
 

@@ -1,5 +1,5 @@
 -- The text of a certificate of the discounted reward is read exactly where it is the text of what is read.
-use Rattle.std.proofs.Common.{◌≡◌, ℕ, ◌+◌, ◌<◌, ◌≤◌, ◌^◌, true, true≢false, List, [], ◌++◌, length, Result, Ok, refl, sym, ap, ap₂, subst, ◌∙◌, append_assoc, arith}
+use Rattle.std.proofs.Common.{◌≡◌, ℕ, ◌+◌, ◌≤◌, ◌^◌, true, true≢false, List, [], ◌++◌, length, Result, Ok, refl, sym, ap, ap₂, subst, ◌∙◌, append_assoc, arith}
 use Rattle.std.proofs.lemmas.List.{append-nil}
 use Rattle.mdp_text.specs.declared.error.CertKind.TheVariants.{Version, Shape}
 use Rattle.mdp_text.specs.declared.error.Refusal.{Refusal}

@@ -1,7 +1,7 @@
 ghost use Rattle.std.specs.Prelude.{◌≡◌, ◌++◌, length, OnOk};
 ghost use Rattle.mdp_text.specs.Answer.{Keeps};
 ghost use Rattle.mdp_text.specs.Spelling.{line};
-ghost use Rattle.mdp_discount_text.specs.Spelling.{version_text, claim_text, remainder_text, state_text, state_lines};
+ghost use Rattle.mdp_discount_text.specs.Spelling.{claim_text, remainder_text, state_text, state_lines};
 ghost use Rattle.mdp_discount_text.specs.Text.{claim_front};
 
 use crate::claim_line::claim_front;
@@ -9,14 +9,6 @@ use mdp_num::{Frac, Memory};
 use mdp_rows::Dir;
 use mdp_text::Part::{Bytes, Fraction, Whole};
 use mdp_text::push_parts;
-
-/// Appends the line of the version.
-pub(crate) fn push_version(out: &mut Vec<u8>) -> Result<(), Memory>
-    ensures text { OnOk result (out.new.items ≡ out.old.items ++ line version_text) }
-    ensures front { Keeps out.old.items out.new.items }
-{
-    push_parts(out, &[Bytes(b"mdp-discount 1\n")])
-}
 
 /// Appends the line of the claim.
 pub fn push_claim(out: &mut Vec<u8>, dir: Dir, name: &[u8], factor: &Frac) -> Result<(), Memory>

@@ -4,11 +4,9 @@ ghost use Rattle.mdp_text.specs.Lines.{place};
 ghost use Rattle.mdp_discount_text.specs.Text.{state_at, states_from};
 ghost use Rattle.mdp_discount_text.specs.Code.{plain_columns};
 
-use mdp_num::Frac;
-use mdp_text::{
-    CertError, CertKind, Refusal, cut_word, frac_at, next_line, only_word, refuse_if, whole_at,
-    words_behind,
-};
+use mdp_cert::three_words;
+use mdp_num::{Frac, read_canonical};
+use mdp_text::{CertError, CertKind, Refusal, next_line, refuse_if, whole_of, words_behind};
 use std::alloc::Global;
 
 /// What the line of a state says.
@@ -26,16 +24,22 @@ pub(crate) struct Columns {
 }
 
 /// The value and the choice in the line `state S V C`, where S is the state that is due.
-#[tactic(auto, unfolding(crate::specs::Text::state_at))]
+#[tactic(auto, unfolding(crate::specs::Text::state_at, mdp_text::specs::Words::whole_at, mdp_text::specs::Words::frac_at))]
 fn state_at(due: u32, line: u64, text: &[u8]) -> Result<StateLine, Refusal>
     ensures { result ≡ state_at due line text.now }
 {
     let behind = words_behind(line, text, b"state", 3)?;
-    let (word, behind) = cut_word(behind);
-    let state = whole_at(line, word)?;
-    let (word, behind) = cut_word(behind);
-    let value = frac_at(line, word)?;
-    let choice = whole_at(line, only_word(behind))?;
+    let (state, value, choice) = three_words(behind);
+    let (Some(state), Some(value), Some(choice)) = (
+        whole_of(state),
+        read_canonical(value),
+        whole_of(choice),
+    ) else {
+        return Err(Refusal {
+            kind: CertKind::Number,
+            line,
+        });
+    };
     refuse_if(CertKind::Count, line, state != due)?;
     Ok(StateLine { value, choice })
 }

@@ -3,17 +3,18 @@ ghost use Rattle.mdp_text.specs.Answer.{Keeps};
 ghost use Rattle.mdp_discount_rules.specs.Plain.{plain};
 ghost use Rattle.mdp_discount_text.specs.Spelling.{head_text, text_of};
 
-use crate::push::{push_claim, push_remainder, push_states, push_version};
+use crate::push::{push_claim, push_remainder, push_states};
 use mdp_discount_rules::DiscountCert;
 use mdp_num::Memory;
-use mdp_text::{or_cut_back, push_end, push_init, push_number};
+use mdp_text::Part::Bytes;
+use mdp_text::{or_cut_back, push_end, push_init, push_number, push_parts};
 
 /// Appends the lines before those of the states.
 fn push_head(out: &mut Vec<u8>, cert: &DiscountCert) -> Result<(), Memory>
     ensures text { OnOk result (out.new.items ≡ out.old.items ++ head_text (plain cert.now)) }
     ensures front { Keeps out.old.items out.new.items }
 {
-    push_version(out)?;
+    push_parts(out, &[Bytes(b"mdp-discount 1\n")])?;
     push_claim(out, cert.dir, &cert.name, &cert.factor)?;
     push_number(out, cert.values.len() as u64)?;
     push_init(out, &cert.init)?;

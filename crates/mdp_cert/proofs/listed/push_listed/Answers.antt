@@ -17,3 +17,9 @@ returns-clause-text g c =
     let all = all-written g.L.Item.Line.listed (g.L.Lines.lines c.args.lines.now) c.loop-place.place (omega (arith, c.requires)) in
     subst (λ (t : List ℕ). OnOk c.push_end.result (c.push_end.new.out.items ≡ t)) (ap (λ (t : List ℕ). c.loop-place.out.items ++ t) (sym all) ∙ c.loop-place.invariant.0)
     c.push_end.ensures.text
+
+pub returns-clause-front : goal.returns-clause-front
+returns-clause-front g c = keeps_more _ _ _ c.loop-place.invariant.1 c.push_end.ensures.front
+
+pub returns-in_err-push_line-clause-front : goal.returns-in_err-push_line-clause-front
+returns-in_err-push_line-clause-front g c = keeps_more _ _ _ c.loop-place.invariant.1 c.push_line.ensures.front

@@ -1,6 +1,7 @@
 use Rattle.std.proofs.Common.{◌≡◌, ℕ, ◌-◌, ◌++◌, Bool, true, false, cond, eqb, List, [], ◌∷◌, ◌+◌, decimal, OnOk, ap, subst, append_assoc}
 use Rattle.std.specs.Prelude.{codes}
 use Rattle.mdp_text.specs.Spelling.{line, ◌␣◌}
+use Rattle.mdp_text.proofs.Fronts.{keeps_more}
 use Rattle.mdp_cert.specs.Runs.{Columns, run}
 use Rattle.mdp_cert.specs.Spelling.{entry_text, run_text, states_front}
 use Rattle.mdp_cert.proofs.Written.{three-parts}
@@ -21,3 +22,9 @@ returns-clause-text g c =
     subst (λ (t : List ℕ). OnOk c.push_parts.result (c.push_parts.new.out.items ≡ t))
     (ap (λ (t : List ℕ). c.args.out.now.items ++ t) (spelled g.E.Entry.columns c.args.first (c.args.last - c.args.first) c.args.entry.now))
     (three-parts _ _ _ _ _ _ _ _ c.in_ok-push_states.ensures.text c.in_ok-push_words.ensures.text c.push_parts.ensures.text)
+
+pub returns-in_err-push_words-clause-front : goal.returns-in_err-push_words-clause-front
+returns-in_err-push_words-clause-front g c = keeps_more _ _ _ c.in_ok-push_states.ensures.front c.push_words.ensures.front
+
+pub returns-clause-front : goal.returns-clause-front
+returns-clause-front g c = keeps_more _ _ _ (keeps_more _ _ _ c.in_ok-push_states.ensures.front c.in_ok-push_words.ensures.front) c.push_parts.ensures.front

@@ -25,3 +25,6 @@ pub returns : goal.returns
 returns g c =
     let none = written-all g.L.Item.Entry.columns c.args.version (g.L.Lists.entries c.args.entries.now) c.loop-first.first (omega (arith, c.requires)) in
     record { text = sym (ap (λ (t : List ℕ). c.loop-first.out.items ++ t) none ∙ append-nil c.loop-first.out.items) ∙ c.loop-first.invariant.1; front = c.loop-first.invariant.2 }
+
+pub returns-in_err-push_run-clause-front : goal.returns-in_err-push_run-clause-front
+returns-in_err-push_run-clause-front g c = keeps_more _ _ _ c.loop-first.invariant.2 c.push_run.ensures.front

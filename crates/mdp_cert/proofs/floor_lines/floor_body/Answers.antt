@@ -1,0 +1,5 @@
+use Rattle.std.proofs.Common.{refl}
+use Rattle.mdp_cert.proofs.floor_lines.floor_body.Goals as goal
+
+pub returns : goal.returns
+returns c = rw (c.in_ok-column_of.ensures, c.in_ok-column_of-2.ensures, c.in_ok-column_of-3.ensures, c.in_ok-column_of-4.ensures) refl
