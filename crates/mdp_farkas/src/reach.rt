@@ -10,7 +10,7 @@ use crate::bellman::Held;
 use crate::ranks::rank_at_state;
 use crate::upper::{goal_at, probability_at};
 use crate::verdict::{judged, verdict_after};
-use crate::walk::{Checks, each_below};
+use crate::walk::{Checks, each_below, each_choice};
 use mdp_claims::{Objection, ReachCert, Rule, Verdict};
 use mdp_num::Frac;
 use mdp_rows::{Dir, Marks, Model};
@@ -79,7 +79,7 @@ impl Claimed<'_> {
             rule: Rule::ValueOnEachChoice,
             state: s,
         };
-        held.meets_on_each()?;
+        each_choice(self.model, s, held)?;
         held.meets_on_policy(choice)
     }
 
@@ -125,13 +125,6 @@ impl Claimed<'_> {
         probability_at(self.values, s)?;
         self.place_at(s, choice)
     }
-
-    /// The rules at each state, from 0 on.
-    fn states(self) -> Result<(), Objection>
-        ensures { result ≡ objection_to (reach_checks self.entry.dir self.entry.model.now self.entry.goals.now self.entry.values.now self.entry.choices.now self.entry.ranks.now) }
-    {
-        each_below(self.model.states(), self)
-    }
 }
 
 /// Whether the values are a Farkas certificate of the greatest, or the least, probabilities, and the policy one that comes close to them:
@@ -156,5 +149,5 @@ pub fn holds_reach(model: &Model, goals: &Marks, dir: Dir, cert: &ReachCert) -> 
         choices: cert.choices.as_slice(),
         ranks: cert.ranks.as_slice(),
     };
-    verdict_after(claimed.states())
+    verdict_after(each_below(model.states(), claimed))
 }

@@ -7,7 +7,7 @@ ghost use Rattle.mdp_spec.specs.Bounds.{Above};
 use crate::bellman::Held;
 use crate::compare::{at_least, at_most, equal};
 use crate::verdict::{judged, verdict_after};
-use crate::walk::{Checks, each_below};
+use crate::walk::{Checks, each_below, each_choice};
 use mdp_claims::{Objection, Rule, UpperCert, Verdict};
 use mdp_num::Frac;
 use mdp_rows::{Dir, Marks, Model};
@@ -58,7 +58,7 @@ fn upper_at_state(model: &Model, goals: &Marks, values: &[Frac], s: u32) -> Resu
             rule: Rule::ValueOnEachChoice,
             state: s,
         };
-        held.meets_on_each()
+        each_choice(model, s, held)
     }
 }
 
