@@ -126,16 +126,7 @@ impl Half<'_> {
         self.place_on_each()
     }
 
-    /// The value stands to the row of the policy's choice `c`.
-    fn policy_at(self, c: u32) -> Result<(), Objection>
-        requires { c < length (choices_at self.model.now self.state) }
-        ensures { result ≡ objection_to (policy_check self.entry.dir self.entry.model.now self.entry.values.now self.entry.state c ∷ []) }
-    {
-        let stands = self.stands(reversed(self.dir), c);
-        judged(stands, Rule::ValueOnPolicy, self.state, Some(c))
-    }
-
-    /// The value is 1 at a goal; else it stands so.
+    /// The value is 1 at a goal; else it stands to the row of the policy's choice `c`.
     fn place_on_policy(self, c: u32) -> Result<(), Objection>
         requires { c < length (choices_at self.model.now self.state) }
         ensures { result ≡ objection_to (if is_marked self.entry.goals.now self.entry.state then goal_check self.entry.values.now self.entry.state ∷ []
@@ -144,7 +135,8 @@ impl Half<'_> {
         if self.goals.at(self.state) {
             goal_at(self.values, self.state)
         } else {
-            self.policy_at(c)
+            let stands = self.stands(reversed(self.dir), c);
+            judged(stands, Rule::ValueOnPolicy, self.state, Some(c))
         }
     }
 
@@ -247,18 +239,6 @@ impl<'a> Claimed<'a> {
             self.model, self.goals, self.dir, self.lower, self.ranks, s, choice,
         )
     }
-
-    /// The rules at each state, from 0 on.
-    fn states(self, choices: &[u32]) -> Result<(), Objection>
-        requires { length choices.now ≡ states_of self.model.now }
-        ensures { result ≡ objection_to (bounds_checks self.entry.dir self.entry.model.now self.entry.goals.now self.entry.lower.now self.entry.upper.now choices.now self.entry.ranks.now) }
-    {
-        let states = States {
-            claimed: self,
-            choices,
-        };
-        each_below(self.model.states(), states)
-    }
 }
 
 /// The rules at state `s`, where the policy takes this choice: the first that fails, or the first sum past width. One value and one rank per state.
@@ -316,5 +296,9 @@ pub fn holds_bounds_reach(model: &Model, goals: &Marks, dir: Dir, cert: &ReachBo
         upper: cert.upper.as_slice(),
         ranks: cert.ranks.as_slice(),
     };
-    verdict_after(claimed.states(cert.choices.as_slice()))
+    let states = States {
+        claimed,
+        choices: cert.choices.as_slice(),
+    };
+    verdict_after(each_below(model.states(), states))
 }
