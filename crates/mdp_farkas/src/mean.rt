@@ -41,7 +41,9 @@ impl Checks for Claimed<'_> {
 
     /// The rules at state `s`.
     fn check(self, s: u32) -> Result<(), Objection> {
-        self.state_at(s, self.choices[s as usize])
+        let choice = self.choices[s as usize];
+        choice_at(self.model, s, choice)?;
+        self.rules_at(s, choice)
     }
 }
 
@@ -167,15 +169,6 @@ impl Claimed<'_> {
         self.gains_at(s)?;
         self.bounds_at(s)?;
         self.policy_at(s, choice)
-    }
-
-    /// The rules at state `s`, where the policy takes this choice.
-    fn state_at(self, s: u32, choice: u32) -> Result<(), Objection>
-        requires { s < states_of self.model.now }
-        ensures { result ≡ objection_to (mean_checks_at self.entry.dir self.entry.model.now self.entry.name self.entry.gains.now self.entry.bound.now self.entry.bias.now s choice) }
-    {
-        choice_at(self.model, s, choice)?;
-        self.rules_at(s, choice)
     }
 
     /// All rules: those at each state, and that of the spread.

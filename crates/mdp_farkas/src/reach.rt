@@ -60,7 +60,10 @@ impl Checks for Claimed<'_> {
 
     /// The rules at state `s`.
     fn check(self, s: u32) -> Result<(), Objection> {
-        self.state_at(s, self.choices[s as usize])
+        let choice = self.choices[s as usize];
+        choice_at(self.model, s, choice)?;
+        probability_at(self.values, s)?;
+        self.place_at(s, choice)
     }
 }
 
@@ -114,16 +117,6 @@ impl Claimed<'_> {
             s,
             choice,
         )
-    }
-
-    /// The rules at state `s`, where the policy takes this choice.
-    fn state_at(self, s: u32, choice: u32) -> Result<(), Objection>
-        requires { s < states_of self.model.now }
-        ensures { result ≡ objection_to (reach_at self.entry.dir self.entry.model.now self.entry.goals.now self.entry.values.now self.entry.ranks.now s choice) }
-    {
-        choice_at(self.model, s, choice)?;
-        probability_at(self.values, s)?;
-        self.place_at(s, choice)
     }
 }
 

@@ -64,7 +64,10 @@ impl Checks for Claimed<'_> {
 
     /// The rules at state `s`.
     fn check(self, s: u32) -> Result<(), Objection> {
-        self.state_at(s, self.choices[s as usize])
+        let choice = self.choices[s as usize];
+        choice_at(self.model, s, choice)?;
+        self.nonneg_at(s)?;
+        self.rules_at(s, choice)
     }
 }
 
@@ -209,16 +212,6 @@ impl Claimed<'_> {
     {
         self.place_at(s, choice)?;
         self.signs_at(s)
-    }
-
-    /// The rules at state `s`, where the policy takes this choice.
-    fn state_at(self, s: u32, choice: u32) -> Result<(), Objection>
-        requires { s < states_of self.model.now }
-        ensures { result ≡ objection_to (reward_checks_at self.entry.dir self.entry.model.now self.entry.name self.entry.goals.now self.entry.values.now self.entry.ranks.now s choice) }
-    {
-        choice_at(self.model, s, choice)?;
-        self.nonneg_at(s)?;
-        self.rules_at(s, choice)
     }
 }
 
