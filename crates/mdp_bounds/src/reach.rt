@@ -1,11 +1,10 @@
-ghost use Rattle.std.specs.Prelude.{◌≡◌, ◌<◌, ◌↔◌, length, slice_index, [], ◌∷◌, if◌then◌else◌};
+ghost use Rattle.std.specs.Prelude.{◌≡◌, ◌<◌, ◌↔◌, length, slice_index, [], ◌∷◌};
 ghost use Rattle.std.specs.Result.{result_ok};
 ghost use Rattle.mdp_spec.specs.Mdp.{states_of, choices_at};
-ghost use Rattle.mdp_spec.specs.Tree.{is_marked};
 ghost use Rattle.mdp_spec.specs.Between.{ReachMaxBetween, ReachMinBetween};
-ghost use Rattle.mdp_bounds.specs.Reach.{covering, followed, probability_checks, goal_check, outermost, stands_at, bound_check, policy_check};
+ghost use Rattle.mdp_bounds.specs.Reach.{covering, followed, probability_checks, goal_check, outermost, stands_at, bound_check};
 ghost use Rattle.mdp_farkas.specs.Reach.{IsReach};
-ghost use Rattle.mdp_farkas.specs.Verdict.{at_choices, objection_to, verdict_of, IsYes, IfYes};
+ghost use Rattle.mdp_farkas.specs.Verdict.{objection_to, verdict_of, IsYes, IfYes};
 ghost use Rattle.mdp_rows.specs.declared.dir.Dir.TheVariants.{Max, Min};
 ghost use Rattle.mdp_bounds.specs.Reach.{cover_at, follow_at, bounds_at, bounds_checks, IsReachBounds, IsTrivialReach};
 
@@ -106,11 +105,11 @@ impl Half<'_> {
         Ok(value_stands(dir, &value, &sum))
     }
 
-    /// The value is 1 at a goal; else it stands to the rows of all choices.
-    fn place_on_each(self) -> Result<(), Objection>
-        ensures { result ≡ objection_to (if is_marked self.entry.goals.now self.entry.state then goal_check self.entry.values.now self.entry.state ∷ []
-            else at_choices self.entry.model.now self.entry.state (bound_check self.entry.dir self.entry.model.now self.entry.values.now self.entry.state)) }
+    /// The value is a probability, and 1 at a goal; elsewhere it stands to the rows of all choices.
+    fn on_each(self) -> Result<(), Objection>
+        ensures { result ≡ objection_to (cover_at self.entry.dir self.entry.model.now self.entry.goals.now self.entry.values.now self.entry.state) }
     {
+        probability_at(self.values, self.state)?;
         if self.goals.at(self.state) {
             goal_at(self.values, self.state)
         } else {
@@ -118,35 +117,18 @@ impl Half<'_> {
         }
     }
 
-    /// The value is a probability too.
-    fn on_each(self) -> Result<(), Objection>
-        ensures { result ≡ objection_to (cover_at self.entry.dir self.entry.model.now self.entry.goals.now self.entry.values.now self.entry.state) }
+    /// The value is a probability, and 1 at a goal; elsewhere it stands to the row of the policy's choice `c`.
+    fn on_policy(self, c: u32) -> Result<(), Objection>
+        requires { c < length (choices_at self.model.now self.state) }
+        ensures { result ≡ objection_to (follow_at self.entry.dir self.entry.model.now self.entry.goals.now self.entry.values.now self.entry.state c) }
     {
         probability_at(self.values, self.state)?;
-        self.place_on_each()
-    }
-
-    /// The value is 1 at a goal; else it stands to the row of the policy's choice `c`.
-    fn place_on_policy(self, c: u32) -> Result<(), Objection>
-        requires { c < length (choices_at self.model.now self.state) }
-        ensures { result ≡ objection_to (if is_marked self.entry.goals.now self.entry.state then goal_check self.entry.values.now self.entry.state ∷ []
-            else policy_check self.entry.dir self.entry.model.now self.entry.values.now self.entry.state c ∷ []) }
-    {
         if self.goals.at(self.state) {
             goal_at(self.values, self.state)
         } else {
             let stands = self.stands(reversed(self.dir), c);
             judged(stands, Rule::ValueOnPolicy, self.state, Some(c))
         }
-    }
-
-    /// The value is a probability too.
-    fn on_policy(self, c: u32) -> Result<(), Objection>
-        requires { c < length (choices_at self.model.now self.state) }
-        ensures { result ≡ objection_to (follow_at self.entry.dir self.entry.model.now self.entry.goals.now self.entry.values.now self.entry.state c) }
-    {
-        probability_at(self.values, self.state)?;
-        self.place_on_policy(c)
     }
 }
 
