@@ -1,7 +1,6 @@
 ghost use Rattle.std.specs.Prelude.{◌≡◌, ◌<◌, ◌↔◌, length, slice_index, [], ◌∷◌, ◌++◌};
 ghost use Rattle.mdp_spec.specs.Mdp.{states_of, choices_at};
-ghost use Rattle.mdp_farkas.specs.Bellman.{bound_checks};
-ghost use Rattle.mdp_farkas.specs.Reach.{choice_exists, other, policy_check, value_checks, rank_checks, reach_at, reach_checks, IsReach};
+ghost use Rattle.mdp_farkas.specs.Reach.{choice_exists, other, value_checks, rank_checks, reach_at, reach_checks, IsReach};
 ghost use Rattle.mdp_farkas.specs.Verdict.{objection_to, verdict_of, IsYes, IfYes};
 ghost use Rattle.mdp_rows.specs.declared.dir.Dir.TheVariants.{Max, Min};
 ghost use Rattle.mdp_spec.specs.Bounds.{ReachMax, ReachMin};
@@ -68,25 +67,8 @@ impl Checks for Claimed<'_> {
 }
 
 impl Claimed<'_> {
-    /// Bellman's inequality at each choice of state `s`, and the other way round for the policy's.
+    /// The value of state `s` is 1 at a goal. Elsewhere Bellman's inequality holds at each choice, and the other way round for the policy's.
     #[tactic(auto, using(crate::proofs::Objections::walked))]
-    fn sums_at(self, s: u32, choice: u32) -> Result<(), Objection>
-        requires state { s < states_of self.model.now }
-        requires choice { choice < length (choices_at self.model.now s) }
-        ensures { result ≡ objection_to (bound_checks self.entry.dir self.entry.model.now self.entry.values.now s ++ policy_check self.entry.dir self.entry.model.now self.entry.values.now s choice ∷ []) }
-    {
-        let held = Held {
-            dir: self.dir,
-            model: self.model,
-            values: self.values,
-            rule: Rule::ValueOnEachChoice,
-            state: s,
-        };
-        each_choice(self.model, s, held)?;
-        held.meets_on_policy(choice)
-    }
-
-    /// The value of state `s` is 1 at a goal; else it stands so to the sums.
     fn value_at(self, s: u32, choice: u32) -> Result<(), Objection>
         requires state { s < states_of self.model.now }
         requires choice { choice < length (choices_at self.model.now s) }
@@ -95,7 +77,15 @@ impl Claimed<'_> {
         if self.goals.at(s) {
             goal_at(self.values, s)
         } else {
-            self.sums_at(s, choice)
+            let held = Held {
+                dir: self.dir,
+                model: self.model,
+                values: self.values,
+                rule: Rule::ValueOnEachChoice,
+                state: s,
+            };
+            each_choice(self.model, s, held)?;
+            held.meets_on_policy(choice)
         }
     }
 
