@@ -5,7 +5,7 @@ use Rattle.mdp_math.specs.Rational.{ℚ, of_int, ratio, le_ℚ, lt_ℚ, neg_ℚ,
 use Rattle.mdp_math.specs.Written.{narrow, narrow_ℚ, written_add, written_mul, written_compare, cmp_ℚ}
 use Rattle.mdp_math.proofs.Extremes.{le_of_test, test_of_le}
 use Rattle.mdp_math.proofs.Tables.{AreEqual}
-use Rattle.mdp_spec.specs.Mdp.{Entry, Choice, Mdp, row_at}
+use Rattle.mdp_spec.specs.Mdp.{Entry, Mdp, row_at}
 use Rattle.mdp_spec.specs.Row.{row_sum}
 use Rattle.mdp_spec.specs.RewardRules.{backup}
 use Rattle.mdp_spec.proofs.Small.{entry, half, number, third, split, split_goals}

@@ -84,9 +84,14 @@ impl Checks for AtState<'_> {
     ghost checks = { λ x c. if is_looked_at x.column.dir x.column.model.now x.column.values.now x.state c
         then earning_check x.column.dir x.column.model.now x.column.name x.column.values.now x.state c ∷ [] else [] };
 
-    /// The inequality at choice `c`, where that counts.
+    /// What choice `c` earns stands to the value, where that counts.
     fn check(self, c: u32) -> Result<(), Objection> {
-        self.column.on_choice(self.state, c)
+        let column = self.column;
+        if !is_held_against(column.model, column.dir, column.values, self.state, c) {
+            return Ok(());
+        }
+        let stands = column.stands(column.dir, self.state, c);
+        judged(stands, Rule::RewardOnEachChoice, self.state, Some(c))
     }
 }
 
@@ -124,20 +129,6 @@ impl Column<'_> {
         let reward = self.model.reward(self.name, s, c);
         let sum = finite_row_sum(self.model.row(s, c), &reward, self.values)?;
         Ok(value_stands(dir, &value, &sum))
-    }
-
-    /// The inequality at state `s` and its choice `c`, where that counts.
-    fn on_choice(self, s: u32, c: u32) -> Result<(), Objection>
-        requires state { s < states_of self.model.now }
-        requires choice { c < length (choices_at self.model.now s) }
-        ensures { result ≡ objection_to (if is_looked_at self.entry.dir self.entry.model.now self.entry.values.now s c
-            then earning_check self.entry.dir self.entry.model.now self.entry.name self.entry.values.now s c ∷ [] else []) }
-    {
-        if !is_held_against(self.model, self.dir, self.values, s, c) {
-            return Ok(());
-        }
-        let stands = self.stands(self.dir, s, c);
-        judged(stands, Rule::RewardOnEachChoice, s, Some(c))
     }
 
     /// The inequality at each choice of state `s` that counts.

@@ -1,4 +1,4 @@
-ghost use Rattle.std.specs.Prelude.{◌≡◌, ◌<◌, ◌↔◌, IsTrue, length, slice_index, [], ◌∷◌};
+ghost use Rattle.std.specs.Prelude.{◌≡◌, ◌<◌, ◌↔◌, IsTrue, length, slice_index};
 ghost use Rattle.std.specs.List.{list_all};
 ghost use Rattle.std.specs.Result.{result_ok};
 ghost use Rattle.mdp_spec.specs.Mdp.{states_of, choices_at};
@@ -9,7 +9,7 @@ ghost use Rattle.mdp_farkas.specs.Mean.{IsMean};
 ghost use Rattle.mdp_farkas.specs.Verdict.{objection_to, verdict_of, IsYes, IfYes};
 ghost use Rattle.mdp_rows.specs.declared.dir.Dir.TheVariants.{Max, Min};
 ghost use Rattle.mdp_bounds.specs.Mean.{AreOne, gain_stands, gain_check, told_step, bound_stands, relative_check, spread_check, gains_cover, gains_follow};
-ghost use Rattle.mdp_bounds.specs.Mean.{mean_bounds_at, state_bounds_checks, mean_bounds_checks, IsMeanBounds, IsTrivialMean};
+ghost use Rattle.mdp_bounds.specs.Mean.{mean_bounds_at, mean_bounds_checks, IsMeanBounds, IsTrivialMean};
 
 use crate::compare::value_stands;
 use crate::spread::spread_of;
@@ -289,35 +289,19 @@ impl<'a> Claimed<'a> {
         self.follows(s, choice)
     }
 
-    /// The rules at each state, from 0 on.
-    fn states(self, choices: &[u32]) -> Result<(), Objection>
-        requires { length choices.now ≡ states_of self.model.now }
-        ensures { result ≡ objection_to (state_bounds_checks self.entry.dir self.entry.model.now self.entry.name
-            self.entry.lower.values.now self.entry.upper.values.now self.entry.bound.now self.entry.bias.now choices.now) }
-    {
-        let states = States {
-            claimed: self,
-            choices,
-        };
-        each_below(self.model.states(), states)
-    }
-
-    /// The spread is that of bounds and biases.
-    fn spread(self, spread: &Frac) -> Result<(), Objection>
-        ensures { result ≡ objection_to (spread_check self.entry.bound.now self.entry.bias.now spread.now ∷ []) }
-    {
-        let holds = spread_holds(self.bound, self.bias, spread);
-        judged_at(holds, Rule::SpreadIsGreatest, None, None)
-    }
-
     /// All rules: those at each state, and that of the spread.
     fn walk(self, choices: &[u32], spread: &Frac) -> Result<(), Objection>
         requires { length choices.now ≡ states_of self.model.now }
         ensures { result ≡ objection_to (mean_bounds_checks self.entry.dir self.entry.model.now self.entry.name
             self.entry.lower.values.now self.entry.upper.values.now self.entry.bound.now self.entry.bias.now spread.now choices.now) }
     {
-        self.states(choices)?;
-        self.spread(spread)
+        let states = States {
+            claimed: self,
+            choices,
+        };
+        each_below(self.model.states(), states)?;
+        let holds = spread_holds(self.bound, self.bias, spread);
+        judged_at(holds, Rule::SpreadIsGreatest, None, None)
     }
 }
 

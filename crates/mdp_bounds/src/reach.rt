@@ -1,11 +1,10 @@
-ghost use Rattle.std.specs.Prelude.{◌≡◌, ◌<◌, ◌↔◌, length, slice_index, [], ◌∷◌, if◌then◌else◌};
+ghost use Rattle.std.specs.Prelude.{◌≡◌, ◌<◌, ◌↔◌, length, slice_index, [], ◌∷◌};
 ghost use Rattle.std.specs.Result.{result_ok};
 ghost use Rattle.mdp_spec.specs.Mdp.{states_of, choices_at};
-ghost use Rattle.mdp_spec.specs.Tree.{is_marked};
 ghost use Rattle.mdp_spec.specs.Between.{ReachMaxBetween, ReachMinBetween};
-ghost use Rattle.mdp_bounds.specs.Reach.{covering, followed, probability_checks, goal_check, outermost, stands_at, bound_check, policy_check};
+ghost use Rattle.mdp_bounds.specs.Reach.{covering, followed, probability_checks, goal_check, outermost, stands_at, bound_check};
 ghost use Rattle.mdp_farkas.specs.Reach.{IsReach};
-ghost use Rattle.mdp_farkas.specs.Verdict.{at_choices, objection_to, verdict_of, IsYes, IfYes};
+ghost use Rattle.mdp_farkas.specs.Verdict.{objection_to, verdict_of, IsYes, IfYes};
 ghost use Rattle.mdp_rows.specs.declared.dir.Dir.TheVariants.{Max, Min};
 ghost use Rattle.mdp_bounds.specs.Reach.{cover_at, follow_at, bounds_at, bounds_checks, IsReachBounds, IsTrivialReach};
 
@@ -106,11 +105,11 @@ impl Half<'_> {
         Ok(value_stands(dir, &value, &sum))
     }
 
-    /// The value is 1 at a goal; else it stands to the rows of all choices.
-    fn place_on_each(self) -> Result<(), Objection>
-        ensures { result ≡ objection_to (if is_marked self.entry.goals.now self.entry.state then goal_check self.entry.values.now self.entry.state ∷ []
-            else at_choices self.entry.model.now self.entry.state (bound_check self.entry.dir self.entry.model.now self.entry.values.now self.entry.state)) }
+    /// The value is a probability, and 1 at a goal; elsewhere it stands to the rows of all choices.
+    fn on_each(self) -> Result<(), Objection>
+        ensures { result ≡ objection_to (cover_at self.entry.dir self.entry.model.now self.entry.goals.now self.entry.values.now self.entry.state) }
     {
+        probability_at(self.values, self.state)?;
         if self.goals.at(self.state) {
             goal_at(self.values, self.state)
         } else {
@@ -118,43 +117,18 @@ impl Half<'_> {
         }
     }
 
-    /// The value is a probability too.
-    fn on_each(self) -> Result<(), Objection>
-        ensures { result ≡ objection_to (cover_at self.entry.dir self.entry.model.now self.entry.goals.now self.entry.values.now self.entry.state) }
-    {
-        probability_at(self.values, self.state)?;
-        self.place_on_each()
-    }
-
-    /// The value stands to the row of the policy's choice `c`.
-    fn policy_at(self, c: u32) -> Result<(), Objection>
-        requires { c < length (choices_at self.model.now self.state) }
-        ensures { result ≡ objection_to (policy_check self.entry.dir self.entry.model.now self.entry.values.now self.entry.state c ∷ []) }
-    {
-        let stands = self.stands(reversed(self.dir), c);
-        judged(stands, Rule::ValueOnPolicy, self.state, Some(c))
-    }
-
-    /// The value is 1 at a goal; else it stands so.
-    fn place_on_policy(self, c: u32) -> Result<(), Objection>
-        requires { c < length (choices_at self.model.now self.state) }
-        ensures { result ≡ objection_to (if is_marked self.entry.goals.now self.entry.state then goal_check self.entry.values.now self.entry.state ∷ []
-            else policy_check self.entry.dir self.entry.model.now self.entry.values.now self.entry.state c ∷ []) }
-    {
-        if self.goals.at(self.state) {
-            goal_at(self.values, self.state)
-        } else {
-            self.policy_at(c)
-        }
-    }
-
-    /// The value is a probability too.
+    /// The value is a probability, and 1 at a goal; elsewhere it stands to the row of the policy's choice `c`.
     fn on_policy(self, c: u32) -> Result<(), Objection>
         requires { c < length (choices_at self.model.now self.state) }
         ensures { result ≡ objection_to (follow_at self.entry.dir self.entry.model.now self.entry.goals.now self.entry.values.now self.entry.state c) }
     {
         probability_at(self.values, self.state)?;
-        self.place_on_policy(c)
+        if self.goals.at(self.state) {
+            goal_at(self.values, self.state)
+        } else {
+            let stands = self.stands(reversed(self.dir), c);
+            judged(stands, Rule::ValueOnPolicy, self.state, Some(c))
+        }
     }
 }
 
@@ -247,18 +221,6 @@ impl<'a> Claimed<'a> {
             self.model, self.goals, self.dir, self.lower, self.ranks, s, choice,
         )
     }
-
-    /// The rules at each state, from 0 on.
-    fn states(self, choices: &[u32]) -> Result<(), Objection>
-        requires { length choices.now ≡ states_of self.model.now }
-        ensures { result ≡ objection_to (bounds_checks self.entry.dir self.entry.model.now self.entry.goals.now self.entry.lower.now self.entry.upper.now choices.now self.entry.ranks.now) }
-    {
-        let states = States {
-            claimed: self,
-            choices,
-        };
-        each_below(self.model.states(), states)
-    }
 }
 
 /// The rules at state `s`, where the policy takes this choice: the first that fails, or the first sum past width. One value and one rank per state.
@@ -316,5 +278,9 @@ pub fn holds_bounds_reach(model: &Model, goals: &Marks, dir: Dir, cert: &ReachBo
         upper: cert.upper.as_slice(),
         ranks: cert.ranks.as_slice(),
     };
-    verdict_after(claimed.states(cert.choices.as_slice()))
+    let states = States {
+        claimed,
+        choices: cert.choices.as_slice(),
+    };
+    verdict_after(each_below(model.states(), states))
 }

@@ -125,18 +125,6 @@ impl Claimed<'_> {
         upper.upper(s, choice)?;
         self.signs_at(s)
     }
-
-    /// The rules at each state, from 0 on.
-    fn states(self, choices: &[u32]) -> Result<(), Objection>
-        requires { length choices.now ≡ states_of self.model.now }
-        ensures { result ≡ objection_to (reward_bounds_checks self.entry.dir self.entry.model.now self.entry.name self.entry.goals.now self.entry.lower.now self.entry.upper.now choices.now self.entry.ranks.now) }
-    {
-        let states = States {
-            claimed: self,
-            choices,
-        };
-        each_below(self.model.states(), states)
-    }
 }
 
 /// The rules at state `s`, where the policy takes this choice: the first that fails, or the first sum past width. One value and one rank per state, none
@@ -206,5 +194,9 @@ pub fn holds_bounds_reward(
         upper: cert.upper.as_slice(),
         ranks: cert.ranks.as_slice(),
     };
-    verdict_after(claimed.states(cert.choices.as_slice()))
+    let states = States {
+        claimed,
+        choices: cert.choices.as_slice(),
+    };
+    verdict_after(each_below(model.states(), states))
 }

@@ -1,13 +1,13 @@
 -- Verdicts, computed, on the model `split`.
-use Rattle.std.proofs.Common.{◌≡◌, ℕ, ◌+◌, ◌^◌, ◌∙◌, Bool, true, false, true≢false, List, [], ◌∷◌, refl, sym, pos, Option, Some, None, arith}
+use Rattle.std.proofs.Common.{◌≡◌, ℕ, ◌+◌, ◌^◌, ◌∙◌, Bool, true, false, true≢false, [], ◌∷◌, refl, sym, pos, Option, Some, None, arith}
 use Rattle.mdp_math.specs.Gcd.{gcd, gcd_with_fuel}
 use Rattle.mdp_math.specs.Rational.{ℚ, of_int, ratio, le_ℚ, lt_ℚ, ◌+ℚ◌, ◌*ℚ◌}
 use Rattle.mdp_math.specs.Written.{narrow, narrow_ℚ, written_add, written_mul, written_compare}
 use Rattle.mdp_math.proofs.Extremes.{le_of_test, test_of_le}
 use Rattle.mdp_math.proofs.Tables.{AreEqual}
-use Rattle.mdp_spec.specs.Mdp.{Entry, Choice, Mdp, row_at}
+use Rattle.mdp_spec.specs.Mdp.{row_at}
 use Rattle.mdp_spec.specs.Row.{row_sum}
-use Rattle.mdp_spec.proofs.Small.{entry, nought, one, third, split, split_goals}
+use Rattle.mdp_spec.proofs.Small.{nought, one, third, split, split_goals}
 use Rattle.mdp_farkas.specs.Verdict.{verdict_of}
 use Rattle.mdp_farkas.specs.Upper.{upper_checks}
 use Rattle.mdp_farkas.specs.Reach.{reach_checks}

@@ -4,12 +4,12 @@ ghost use Rattle.mdp_spec.specs.Mdp.{states_of, choices_at};
 ghost use Rattle.mdp_spec.specs.Row.{entries};
 ghost use Rattle.mdp_farkas.specs.Bellman.{stands, sum_stands, stands_at};
 ghost use Rattle.mdp_farkas.specs.Reach.{policy_check};
-ghost use Rattle.mdp_farkas.specs.Verdict.{at_choice, at_choices, objection_to};
+ghost use Rattle.mdp_farkas.specs.Verdict.{at_choice, objection_to};
 
 use crate::compare::{at_least, at_most};
 use crate::reach::reversed;
 use crate::verdict::judged;
-use crate::walk::{OneCheck, each_choice};
+use crate::walk::OneCheck;
 use mdp_claims::{Objection, Rule};
 use mdp_num::{Frac, Wide};
 use mdp_rows::{Dir, Model, Row};
@@ -75,14 +75,6 @@ impl Held<'_> {
             &Frac::whole(0),
             self.values,
         )
-    }
-
-    /// The inequality at each choice.
-    pub(crate) fn meets_on_each(self) -> Result<(), Objection>
-        ensures { result ≡ objection_to (at_choices self.entry.model.now self.entry.state
-            (λ c. at_choice self.entry.rule self.entry.state c (stands_at self.entry.dir self.entry.model.now self.entry.values.now self.entry.state c))) }
-    {
-        each_choice(self.model, self.state, self)
     }
 
     /// The inequality the other way round, for the choice of the policy.

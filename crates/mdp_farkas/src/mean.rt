@@ -3,7 +3,7 @@ ghost use Rattle.std.specs.Result.{result_ok};
 ghost use Rattle.mdp_spec.specs.Mdp.{states_of, choices_at};
 ghost use Rattle.mdp_spec.specs.Bounds.{MeanMax, MeanMin};
 ghost use Rattle.mdp_farkas.specs.Mean.{gain_check, written_step, bound_stands, relative_check, keeps_gain, policy_gain_check, earns_gain, policy_bias_check};
-ghost use Rattle.mdp_farkas.specs.Mean.{spread_check, mean_checks_at, state_checks, mean_checks, IsMean};
+ghost use Rattle.mdp_farkas.specs.Mean.{spread_check, mean_checks_at, mean_checks, IsMean};
 ghost use Rattle.mdp_farkas.specs.Verdict.{objection_to, verdict_of, at_choices, IsYes, IfYes};
 ghost use Rattle.mdp_rows.specs.declared.dir.Dir.TheVariants.{Max, Min};
 
@@ -41,7 +41,9 @@ impl Checks for Claimed<'_> {
 
     /// The rules at state `s`.
     fn check(self, s: u32) -> Result<(), Objection> {
-        self.state_at(s, self.choices[s as usize])
+        let choice = self.choices[s as usize];
+        choice_at(self.model, s, choice)?;
+        self.rules_at(s, choice)
     }
 }
 
@@ -60,7 +62,8 @@ impl OneCheck for Bounds<'_> {
 
     /// The bound at choice `c`.
     fn check_at(self, c: u32) -> Result<(), Objection> {
-        self.claimed.bound_at(self.state, c)
+        let stands = self.claimed.bound_stands(self.state, c);
+        judged(stands, Rule::BoundOnEachChoice, self.state, Some(c))
     }
 }
 
@@ -86,7 +89,7 @@ impl Claimed<'_> {
             rule: Rule::GainOnEachChoice,
             state: s,
         };
-        held.meets_on_each()
+        each_choice(self.model, s, held)
     }
 
     /// Whether the gain and the bound of state `s` together are at least, or for the least mean payoff at most, what its choice `c` earns by the
@@ -101,16 +104,7 @@ impl Claimed<'_> {
         row_stands(self.model.row(s, c), self.dir, &step, &reward, self.bound)
     }
 
-    /// That of state `s` and its choice `c`.
-    fn bound_at(self, s: u32, c: u32) -> Result<(), Objection>
-        requires state { s < states_of self.model.now }
-        requires choice { c < length (choices_at self.model.now s) }
-        ensures { result ≡ objection_to (relative_check self.entry.dir self.entry.model.now self.entry.name self.entry.gains.now self.entry.bound.now s c ∷ []) }
-    {
-        judged(self.bound_stands(s, c), Rule::BoundOnEachChoice, s, Some(c))
-    }
-
-    /// The same of each choice.
+    /// The bound at each choice of state `s`.
     fn bounds_at(self, s: u32) -> Result<(), Objection>
         requires { s < states_of self.model.now }
         ensures { result ≡ objection_to (at_choices self.entry.model.now s (relative_check self.entry.dir self.entry.model.now self.entry.name self.entry.gains.now self.entry.bound.now s)) }
@@ -177,36 +171,13 @@ impl Claimed<'_> {
         self.policy_at(s, choice)
     }
 
-    /// The rules at state `s`, where the policy takes this choice.
-    fn state_at(self, s: u32, choice: u32) -> Result<(), Objection>
-        requires { s < states_of self.model.now }
-        ensures { result ≡ objection_to (mean_checks_at self.entry.dir self.entry.model.now self.entry.name self.entry.gains.now self.entry.bound.now self.entry.bias.now s choice) }
-    {
-        choice_at(self.model, s, choice)?;
-        self.rules_at(s, choice)
-    }
-
-    /// The rules at each state, from 0 on.
-    fn states(self) -> Result<(), Objection>
-        ensures { result ≡ objection_to (state_checks self.entry.dir self.entry.model.now self.entry.name self.entry.gains.now self.entry.bound.now self.entry.bias.now self.entry.choices.now) }
-    {
-        each_below(self.model.states(), self)
-    }
-
-    /// The spread is that of bounds and biases.
-    fn spread_at(self, spread: &Frac) -> Result<(), Objection>
-        ensures { result ≡ objection_to (spread_check self.entry.bound.now self.entry.bias.now spread.now ∷ []) }
-    {
-        let holds = spread_holds(self.bound, self.bias, spread);
-        judged_at(holds, Rule::SpreadIsGreatest, None, None)
-    }
-
     /// All rules: those at each state, and that of the spread.
     fn walk(self, spread: &Frac) -> Result<(), Objection>
         ensures { result ≡ objection_to (mean_checks self.entry.dir self.entry.model.now self.entry.name self.entry.gains.now self.entry.bound.now self.entry.bias.now spread.now self.entry.choices.now) }
     {
-        self.states()?;
-        self.spread_at(spread)
+        each_below(self.model.states(), self)?;
+        let holds = spread_holds(self.bound, self.bias, spread);
+        judged_at(holds, Rule::SpreadIsGreatest, None, None)
     }
 }
 

@@ -1,7 +1,6 @@
 ghost use Rattle.std.specs.Prelude.{◌≡◌, ◌<◌, ◌↔◌, length, slice_index, [], ◌∷◌, ◌++◌};
 ghost use Rattle.mdp_spec.specs.Mdp.{states_of, choices_at};
-ghost use Rattle.mdp_farkas.specs.Bellman.{bound_checks};
-ghost use Rattle.mdp_farkas.specs.Reach.{choice_exists, other, policy_check, value_checks, rank_checks, reach_at, reach_checks, IsReach};
+ghost use Rattle.mdp_farkas.specs.Reach.{choice_exists, other, value_checks, rank_checks, reach_at, reach_checks, IsReach};
 ghost use Rattle.mdp_farkas.specs.Verdict.{objection_to, verdict_of, IsYes, IfYes};
 ghost use Rattle.mdp_rows.specs.declared.dir.Dir.TheVariants.{Max, Min};
 ghost use Rattle.mdp_spec.specs.Bounds.{ReachMax, ReachMin};
@@ -10,7 +9,7 @@ use crate::bellman::Held;
 use crate::ranks::rank_at_state;
 use crate::upper::{goal_at, probability_at};
 use crate::verdict::{judged, verdict_after};
-use crate::walk::{Checks, each_below};
+use crate::walk::{Checks, each_below, each_choice};
 use mdp_claims::{Objection, ReachCert, Rule, Verdict};
 use mdp_num::Frac;
 use mdp_rows::{Dir, Marks, Model};
@@ -60,30 +59,16 @@ impl Checks for Claimed<'_> {
 
     /// The rules at state `s`.
     fn check(self, s: u32) -> Result<(), Objection> {
-        self.state_at(s, self.choices[s as usize])
+        let choice = self.choices[s as usize];
+        choice_at(self.model, s, choice)?;
+        probability_at(self.values, s)?;
+        self.place_at(s, choice)
     }
 }
 
 impl Claimed<'_> {
-    /// Bellman's inequality at each choice of state `s`, and the other way round for the policy's.
+    /// The value of state `s` is 1 at a goal. Elsewhere Bellman's inequality holds at each choice, and the other way round for the policy's.
     #[tactic(auto, using(crate::proofs::Objections::walked))]
-    fn sums_at(self, s: u32, choice: u32) -> Result<(), Objection>
-        requires state { s < states_of self.model.now }
-        requires choice { choice < length (choices_at self.model.now s) }
-        ensures { result ≡ objection_to (bound_checks self.entry.dir self.entry.model.now self.entry.values.now s ++ policy_check self.entry.dir self.entry.model.now self.entry.values.now s choice ∷ []) }
-    {
-        let held = Held {
-            dir: self.dir,
-            model: self.model,
-            values: self.values,
-            rule: Rule::ValueOnEachChoice,
-            state: s,
-        };
-        held.meets_on_each()?;
-        held.meets_on_policy(choice)
-    }
-
-    /// The value of state `s` is 1 at a goal; else it stands so to the sums.
     fn value_at(self, s: u32, choice: u32) -> Result<(), Objection>
         requires state { s < states_of self.model.now }
         requires choice { choice < length (choices_at self.model.now s) }
@@ -92,7 +77,15 @@ impl Claimed<'_> {
         if self.goals.at(s) {
             goal_at(self.values, s)
         } else {
-            self.sums_at(s, choice)
+            let held = Held {
+                dir: self.dir,
+                model: self.model,
+                values: self.values,
+                rule: Rule::ValueOnEachChoice,
+                state: s,
+            };
+            each_choice(self.model, s, held)?;
+            held.meets_on_policy(choice)
         }
     }
 
@@ -114,23 +107,6 @@ impl Claimed<'_> {
             s,
             choice,
         )
-    }
-
-    /// The rules at state `s`, where the policy takes this choice.
-    fn state_at(self, s: u32, choice: u32) -> Result<(), Objection>
-        requires { s < states_of self.model.now }
-        ensures { result ≡ objection_to (reach_at self.entry.dir self.entry.model.now self.entry.goals.now self.entry.values.now self.entry.ranks.now s choice) }
-    {
-        choice_at(self.model, s, choice)?;
-        probability_at(self.values, s)?;
-        self.place_at(s, choice)
-    }
-
-    /// The rules at each state, from 0 on.
-    fn states(self) -> Result<(), Objection>
-        ensures { result ≡ objection_to (reach_checks self.entry.dir self.entry.model.now self.entry.goals.now self.entry.values.now self.entry.choices.now self.entry.ranks.now) }
-    {
-        each_below(self.model.states(), self)
     }
 }
 
@@ -156,5 +132,5 @@ pub fn holds_reach(model: &Model, goals: &Marks, dir: Dir, cert: &ReachCert) -> 
         choices: cert.choices.as_slice(),
         ranks: cert.ranks.as_slice(),
     };
-    verdict_after(claimed.states())
+    verdict_after(each_below(model.states(), claimed))
 }

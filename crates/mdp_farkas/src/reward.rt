@@ -64,7 +64,10 @@ impl Checks for Claimed<'_> {
 
     /// The rules at state `s`.
     fn check(self, s: u32) -> Result<(), Objection> {
-        self.state_at(s, self.choices[s as usize])
+        let choice = self.choices[s as usize];
+        choice_at(self.model, s, choice)?;
+        self.nonneg_at(s)?;
+        self.rules_at(s, choice)
     }
 }
 
@@ -82,9 +85,14 @@ impl Checks for AtState<'_> {
     ghost checks = { λ x c. if is_looked_at x.claimed.dir x.claimed.model.now x.claimed.values.now x.state c
         then earning_check x.claimed.dir x.claimed.model.now x.claimed.name x.claimed.values.now x.state c ∷ [] else [] };
 
-    /// What choice `c` earns, where that counts.
+    /// Bellman's inequality at choice `c`, where that counts.
     fn check(self, c: u32) -> Result<(), Objection> {
-        self.claimed.earning_at(self.state, c)
+        let claimed = self.claimed;
+        if !is_held_against(claimed.model, claimed.dir, claimed.values, self.state, c) {
+            return Ok(());
+        }
+        let stands = claimed.earning_stands(claimed.dir, self.state, c);
+        judged(stands, Rule::RewardOnEachChoice, self.state, Some(c))
     }
 }
 
@@ -93,9 +101,12 @@ impl OneCheck for AtState<'_> {
 
     ghost check = { λ x. sign_check x.claimed.model.now x.claimed.name x.state };
 
-    /// The sign of the reward of choice `c`.
+    /// The reward of choice `c` is at least 0.
     fn check_at(self, c: u32) -> Result<(), Objection> {
-        self.claimed.sign_at(self.state, c)
+        let claimed = self.claimed;
+        let reward = claimed.model.reward(claimed.name, self.state, c);
+        let nonneg = at_least(&reward, &Frac::whole(0));
+        judged(nonneg, Rule::RewardNotNegative, self.state, Some(c))
     }
 }
 
@@ -130,19 +141,6 @@ impl Claimed<'_> {
         value_stands(dir, &finite_at(self.values, s), &sum)
     }
 
-    /// Bellman's inequality at state `s` and its choice `c`, where that counts.
-    fn earning_at(self, s: u32, c: u32) -> Result<(), Objection>
-        requires state { s < states_of self.model.now }
-        requires choice { c < length (choices_at self.model.now s) }
-        ensures { result ≡ objection_to (if is_looked_at self.entry.dir self.entry.model.now self.entry.values.now s c then earning_check self.entry.dir self.entry.model.now self.entry.name self.entry.values.now s c ∷ [] else []) }
-    {
-        if !is_held_against(self.model, self.dir, self.values, s, c) {
-            return Ok(());
-        }
-        let stands = self.earning_stands(self.dir, s, c);
-        judged(stands, Rule::RewardOnEachChoice, s, Some(c))
-    }
-
     /// The inequality at each choice of state `s` that counts.
     fn earnings_at(self, s: u32) -> Result<(), Objection>
         requires { s < states_of self.model.now }
@@ -155,23 +153,14 @@ impl Claimed<'_> {
         each_below(self.model.choices(s), at)
     }
 
-    /// Bellman's inequality the other way round, for the choice of the policy.
-    fn policy_earns(self, s: u32, choice: u32) -> Result<(), Objection>
-        requires state { s < states_of self.model.now }
-        requires choice { choice < length (choices_at self.model.now s) }
-        ensures { result ≡ objection_to (policy_earning_check self.entry.dir self.entry.model.now self.entry.name self.entry.values.now s choice ∷ []) }
-    {
-        let stands = self.earning_stands(reversed(self.dir), s, choice);
-        judged(stands, Rule::RewardOnPolicy, s, Some(choice))
-    }
-
-    /// What the policy earns at state `s`, and that ranks fall there.
+    /// Bellman's inequality the other way round at state `s`, for the policy's choice, and that ranks fall there.
     fn policy_at(self, s: u32, choice: u32) -> Result<(), Objection>
         requires state { s < states_of self.model.now }
         requires choice { choice < length (choices_at self.model.now s) }
         ensures { result ≡ objection_to (policy_earning_check self.entry.dir self.entry.model.now self.entry.name self.entry.values.now s choice ∷ rank_fall_checks self.entry.dir self.entry.model.now self.entry.ranks.now s choice) }
     {
-        self.policy_earns(s, choice)?;
+        let stands = self.earning_stands(reversed(self.dir), s, choice);
+        judged(stands, Rule::RewardOnPolicy, s, Some(choice))?;
         rank_falls_at_state(self.model, self.dir, self.ranks, s, choice)
     }
 
@@ -202,22 +191,7 @@ impl Claimed<'_> {
         }
     }
 
-    /// The reward of choice `c` is at least 0.
-    fn sign_at(self, s: u32, c: u32) -> Result<(), Objection>
-        requires state { s < states_of self.model.now }
-        requires choice { c < length (choices_at self.model.now s) }
-        ensures { result ≡ objection_to (sign_check self.entry.model.now self.entry.name s c ∷ []) }
-    {
-        let reward = self.model.reward(self.name, s, c);
-        judged(
-            at_least(&reward, &Frac::whole(0)),
-            Rule::RewardNotNegative,
-            s,
-            Some(c),
-        )
-    }
-
-    /// The same of each choice.
+    /// The reward of each choice is at least 0.
     fn signs_at(self, s: u32) -> Result<(), Objection>
         requires { s < states_of self.model.now }
         ensures { result ≡ objection_to (sign_checks self.entry.model.now self.entry.name s) }
@@ -238,23 +212,6 @@ impl Claimed<'_> {
     {
         self.place_at(s, choice)?;
         self.signs_at(s)
-    }
-
-    /// The rules at state `s`, where the policy takes this choice.
-    fn state_at(self, s: u32, choice: u32) -> Result<(), Objection>
-        requires { s < states_of self.model.now }
-        ensures { result ≡ objection_to (reward_checks_at self.entry.dir self.entry.model.now self.entry.name self.entry.goals.now self.entry.values.now self.entry.ranks.now s choice) }
-    {
-        choice_at(self.model, s, choice)?;
-        self.nonneg_at(s)?;
-        self.rules_at(s, choice)
-    }
-
-    /// The rules at each state, from 0 on.
-    fn states(self) -> Result<(), Objection>
-        ensures { result ≡ objection_to (reward_checks self.entry.dir self.entry.model.now self.entry.name self.entry.goals.now self.entry.values.now self.entry.choices.now self.entry.ranks.now) }
-    {
-        each_below(self.model.states(), self)
     }
 }
 
@@ -282,5 +239,5 @@ pub fn holds_reward(model: &Model, m: u32, goals: &Marks, dir: Dir, cert: &Rewar
         choices: cert.choices.as_slice(),
         ranks: cert.ranks.as_slice(),
     };
-    verdict_after(claimed.states())
+    verdict_after(each_below(model.states(), claimed))
 }

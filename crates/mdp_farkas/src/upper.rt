@@ -7,7 +7,7 @@ ghost use Rattle.mdp_spec.specs.Bounds.{Above};
 use crate::bellman::Held;
 use crate::compare::{at_least, at_most, equal};
 use crate::verdict::{judged, verdict_after};
-use crate::walk::{Checks, each_below};
+use crate::walk::{Checks, each_below, each_choice};
 use mdp_claims::{Objection, Rule, UpperCert, Verdict};
 use mdp_num::Frac;
 use mdp_rows::{Dir, Marks, Model};
@@ -40,28 +40,6 @@ pub(crate) fn goal_at(values: &[Frac], s: u32) -> Result<(), Objection>
     )
 }
 
-/// The rules at state `s`.
-fn upper_at_state(model: &Model, goals: &Marks, values: &[Frac], s: u32) -> Result<(), Objection>
-    requires goals { length goals.now ≡ states_of model.now }
-    requires values { length values.now ≡ states_of model.now }
-    requires state { s < states_of model.now }
-    ensures { result ≡ objection_to (upper_at model.now goals.now values.now s) }
-{
-    probability_at(values, s)?;
-    if goals.at(s) {
-        goal_at(values, s)
-    } else {
-        let held = Held {
-            dir: Dir::Max,
-            model,
-            values,
-            rule: Rule::ValueOnEachChoice,
-            state: s,
-        };
-        held.meets_on_each()
-    }
-}
-
 /// Values that are held against a model.
 #[derive(Clone, Copy)]
 struct Claimed<'a> {
@@ -77,8 +55,21 @@ impl Checks for Claimed<'_> {
 
     ghost checks = { λ x. upper_at x.model.now x.goals.now x.values.now };
 
+    /// The rules at state `s`.
     fn check(self, s: u32) -> Result<(), Objection> {
-        upper_at_state(self.model, self.goals, self.values, s)
+        probability_at(self.values, s)?;
+        if self.goals.at(s) {
+            goal_at(self.values, s)
+        } else {
+            let held = Held {
+                dir: Dir::Max,
+                model: self.model,
+                values: self.values,
+                rule: Rule::ValueOnEachChoice,
+                state: s,
+            };
+            each_choice(self.model, s, held)
+        }
     }
 }
 

@@ -5,7 +5,7 @@ use Rattle.std.proofs.lemmas.Bool.{false≢true, cases_Bool}
 use Rattle.std.proofs.lemmas.List.Elements.{All-from_recursion}
 use Rattle.mdp_math.specs.Gcd.{gcd, gcd_with_fuel}
 use Rattle.mdp_math.specs.Rational.{of_int, ratio, ◌+ℚ◌, ◌<ℚ◌, lt_ℚ}
-use Rattle.mdp_spec.specs.Mdp.{Entry, State, Mdp, states_of, choices_at, row_at}
+use Rattle.mdp_spec.specs.Mdp.{Entry, State, Mdp, states_of, choices_at}
 use Rattle.mdp_spec.specs.Row.{IsRow, IsMdp}
 use Rattle.mdp_graph.proofs.ModelBy.{model_by, one_row}
 use Rattle.mdp_graph.specs.Sets.{marked, can_enter}

@@ -12,9 +12,7 @@ ghost use Rattle.mdp_graph.specs.Forest.{AreFrom, AreKnown, IsUncut, IsForest, A
 ghost use Rattle.mdp_graph.specs.Falling.{IsRound};
 ghost use Rattle.mdp_graph.specs.NextLayer.{AreLayers};
 
-use crate::forest::{
-    Way, attach_all, cut_below, cut_choices, found_ways, no_ways, take_found, unattached,
-};
+use crate::forest::{Way, attach_all, cut_below, cut_choices, found_ways, take_found, unattached};
 use crate::layers::Layers;
 use crate::pass::Pass;
 use crate::rounds::rounds_outside;
@@ -69,15 +67,8 @@ impl Falling {
         model.known();
         Ok(Falling {
             layers: Layers::new(alloc, model)?,
-            ways: no_ways(alloc, model.states())?,
+            ways: vec![in alloc; None; model.states() as usize]?,
         })
-    }
-
-    /// The rounds in which the states fell.
-    fn into_ranks(self) -> Vec<Option<u32>>
-        ensures { result.items ≡ self.layers.ranks.items }
-    {
-        self.layers.into_ranks()
     }
 
     /// Gives the broken states ways, where they have some by choices that wait. Answers those that have none.
@@ -162,7 +153,7 @@ pub(crate) fn falling_rounds(
         fell = falling.next(alloc, model, goals, &fell, round)?;
         round += 1;
     }
-    Ok(falling.into_ranks())
+    Ok(falling.layers.ranks)
 }
 
 /// The greatest sure set, with ranks and choices, and the rounds of the states outside.

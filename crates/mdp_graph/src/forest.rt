@@ -17,13 +17,6 @@ pub(crate) struct Way {
     choice: u32,
 }
 
-/// So many states without a way.
-pub(crate) fn no_ways(alloc: Global, states: u32) -> Result<Vec<Option<Way>>, AllocError>
-    ensures { IfOk result (λ ways. ways.items ≡ replicate states None) }
-{
-    vec![in alloc; None; states as usize]
-}
-
 /// Whether the way takes this choice and, where a target is given, goes there.
 fn uses(way: Option<Way>, choice: u32, only: Option<u32>) -> bool
     ensures { result ≡ uses way choice only }

@@ -34,13 +34,6 @@ impl Layers {
         })
     }
 
-    /// The ranks that were given.
-    pub(crate) fn into_ranks(self) -> Vec<Option<u32>>
-        ensures { result.items ≡ self.ranks.items }
-    {
-        self.ranks
-    }
-
     /// Gives `rank` to those of the states that have none yet. Answers the states without one each of whose choices has a successor with one by
     /// now, where that wasn't so before. Each entry is looked at once, so the time grows with their number.
     pub(crate) fn next(

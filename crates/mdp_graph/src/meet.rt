@@ -29,7 +29,7 @@ pub(crate) fn meeting_ranks(
         rank += 1;
         met = layers.next(alloc, model, &met, rank)?;
     }
-    Ok(layers.into_ranks())
+    Ok(layers.ranks)
 }
 
 /// What `must_meet` answers, by its ranks.

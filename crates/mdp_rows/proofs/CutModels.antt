@@ -21,7 +21,7 @@ use Rattle.mdp_spec.specs.Row.{IsDistribution, IsRow, IsMdp}
 use Rattle.mdp_spec.specs.Sub.{loop_at, cut_from, sub_of}
 use Rattle.mdp_spec.specs.Tree.{is_marked}
 use Rattle.mdp_spec.specs.Unit.{row_den}
-use Rattle.mdp_rows.specs.Limits.{known_after, all_below, in_order_of_sight, HasSmallTerms, IsChoiceWithin, IsModel}
+use Rattle.mdp_rows.specs.Limits.{known_after, all_below, in_order_of_sight, HasSmallTerms, IsChoiceWithin, IsStateWithin, IsModel}
 use Rattle.mdp_rows.specs.Cut.{cut_state}
 use Rattle.mdp_rows.specs.Draft.{Draft, new_draft, after_finish, ◌>>=◌}
 use Rattle.mdp_rows.specs.Replay.{with_states, replayed}
@@ -203,6 +203,9 @@ pub row_within : (m : Mdp) (s c : ℕ) → IsModel m → s < states_of m → c <
 row_within m s c ok h l =
     let x = closed_at m ok s no_state h in
     recursion_from_All (λ x. IsWithinLimit x.prob) (row_at m s c) (probs_within (row_at m s c) (IsRow.distribution (x.rows c no_choice l)) (IsChoiceWithin.den (x.within.choices c no_choice l)))
+
+pub rewards_each : (m : Mdp) (s c : ℕ) → IsModel m → s < states_of m → c < length (choices_at m s) → length (get_or (choices_at m s) c no_choice).rewards ≡ length m.names
+rewards_each m s c ok h l = IsChoiceWithin.rewards (IsStateWithin.choices (ok.states s no_state h) c no_choice l)
 
 -- ---- the subsystem, state by state
 

@@ -1,9 +1,9 @@
 -- Sums over shared denominators, as code computes them with numerators of 64 bits.
-use Rattle.std.proofs.Common.{◌≡◌, ℕ, ◌+◌, ◌*◌, ◌<◌, ◌^◌, sym, ◌∙◌, refl, ap, ap₂, subst, ℤ, pos, ◌+ℤ◌, ◌*ℤ◌, unsigned_abs, to_z, of_z, to_z-of_z, mul-pos, Some, Option, List, length, drop, get_or}
+use Rattle.std.proofs.Common.{◌≡◌, ℕ, ◌+◌, ◌*◌, ◌<◌, ◌≤◌, ◌^◌, sym, ◌∙◌, refl, ap, ap₂, subst, ℤ, pos, ◌+ℤ◌, ◌*ℤ◌, unsigned_abs, to_z, of_z, to_z-of_z, mul-pos, Some, Option, List, length, drop, get_or}
 use lib.Signed.{mag}
 use mir.Syntax.{w128}
 use Rattle.std.proofs.lemmas.Int.{fits_signed_from_abs}
-use Rattle.std.proofs.lemmas.List.{drop_more}
+use Rattle.std.proofs.lemmas.List.{drop_more, drop_all}
 use Rattle.mdp_math.specs.Rational.{ℚ, ratio}
 use Rattle.mdp_math.specs.Written.{narrow, written_add, written_mul, ◌>>=◌}
 use Rattle.mdp_math.proofs.IntegerRing.{int_ring}
@@ -56,3 +56,10 @@ written_sum-step z ts ps i p v acc term next h e f m a =
     ap₂ (λ (us : List ℕ) (qs : List ℚ). written_sum z acc (entries us qs)) (drop_more ts i 0 h) (drop_more ps i p (subst (λ (n : ℕ). i < n) e h))
     ∙ ap (λ (o : Option ℚ). o >>= λ t. written_add acc t >>= λ s. written_sum z s row) (ap (λ (x : ℚ). written_mul (get_or ps i p) x) (sym f) ∙ m)
     ∙ ap (λ (o : Option ℚ). o >>= λ s. written_sum z s row) a
+
+pub written_sum-end : (z : List ℚ) (ts : List ℕ) (ps : List ℚ) (i : ℕ) (acc : ℚ) → length ts ≤ i → written_sum z acc (entries (drop i ts) (drop i ps)) ≡ Some acc
+written_sum-end z ts ps i acc h = ap (λ (us : List ℕ). written_sum z acc (entries us (drop i ps))) (drop_all i ts h)
+
+-- a denominator that is read at 128 bits
+pub product-is : (n : ℤ) (l : ℕ) → n ≡ pos l → l < 2 ^ 127 → to_z w128 (of_z w128 n) ≡ pos l
+product-is n l e h = rw e (to_z-of_z (fits_signed_from_abs w128 (pos l) h))

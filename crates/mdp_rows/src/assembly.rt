@@ -295,7 +295,11 @@ impl Assembly {
         requires whole { FinishesModel (finished self) }
         ensures { finished self ≡ Ok result }
     {
-        crate::model::Model::from_parts(self.choices, self.starts, self.labels)
+        crate::model::Model {
+            choices: self.choices,
+            starts: self.starts,
+            labels: self.labels,
+        }
     }
 
     /// A builder of a model of so many states, 1 to 2^20, with these reward names: 1 to 16 different ones of 1 to 255 bytes without blank,

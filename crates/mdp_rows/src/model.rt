@@ -17,9 +17,9 @@ use std::alloc::{AllocError, Global};
 /// A Markov decision process. States are numbered from 0, and so are the choices of each state.
 #[derive(Drop)]
 pub struct Model {
-    choices: Choices,
-    starts: Vec<u32>,
-    labels: Labels,
+    pub(crate) choices: Choices,
+    pub(crate) starts: Vec<u32>,
+    pub(crate) labels: Labels,
 }
 
 impl std::marker::Model for Model {
@@ -38,20 +38,6 @@ impl std::marker::Model for Model {
 }
 
 impl Model {
-    ghost use Rattle.mdp_rows.specs.FlatModel.{mdp_in, IsFlat};
-
-    /// The model that these parts hold.
-    pub(crate) fn from_parts(choices: Choices, starts: Vec<u32>, labels: Labels) -> Model
-        requires { IsFlat (record { choices = choices; starts = starts; labels = labels }) }
-        ensures { result ≡ mdp_in (record { choices = choices; starts = starts; labels = labels }) }
-    {
-        Model {
-            choices,
-            starts,
-            labels,
-        }
-    }
-
     /// What each model keeps.
     pub fn known(&self)
         ensures mdp { IsMdp self.now }

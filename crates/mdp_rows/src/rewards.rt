@@ -1,27 +1,20 @@
 ghost use Rattle.std.specs.Prelude.{◌≡◌, ◌⊎◌, length, OnOk, IfErr};
 ghost use Rattle.mdp_math.specs.Written.{written_add};
-ghost use Rattle.mdp_rows.specs.Draft.{has_small_terms, kept_sum, summed_rewards};
+ghost use Rattle.mdp_rows.specs.Draft.{kept_sum, summed_rewards};
 
 use crate::error::RowsError;
 use crate::limits::MAX_TERM;
 use crate::terms::{den_of, num_of};
 use mdp_num::Frac;
 
-/// Whether both lowest terms have magnitude at most 10^36.
-fn has_small_terms(reward: &Frac) -> bool
-    ensures { result ≡ has_small_terms reward.now }
-{
-    num_of(reward) <= MAX_TERM && den_of(reward) <= MAX_TERM
-}
-
-/// The reward of a state and of its choice together.
+/// The reward of a state and of its choice together, where both lowest terms have magnitude at most 10^36.
 fn add_reward(own: &Frac, given: &Frac) -> Result<Frac, RowsError>
     ensures { result ≡ kept_sum (written_add own.now given.now) }
 {
     let Ok(sum) = own.add(given) else {
         return Err(RowsError::Large);
     };
-    if has_small_terms(&sum) {
+    if num_of(&sum) <= MAX_TERM && den_of(&sum) <= MAX_TERM {
         Ok(sum)
     } else {
         Err(RowsError::Large)

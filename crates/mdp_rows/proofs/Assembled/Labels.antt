@@ -19,6 +19,11 @@ use Rattle.mdp_rows.specs.declared.assembly.Assembly.TheInside.{Inside}
 use Rattle.mdp_rows.proofs.Assembled.Drafts.{same_draft}
 use Rattle.mdp_rows.proofs.Assembled.Places.{length-with_place}
 
+-- names that no state has as yet
+pub is_named : (b : Inside) (labels : Labelling) (places : Vec ℕ) → IsDraft b → labels.of_state ≡ b.labels.of_state → places.items ≡ b.places.items
+    → IsDraft (record b { labels = labels; places = places })
+is_named b labels places ok same kept = record { states = rw same ok.states; room = ok.room; head = rw kept ok.head; choices = ok.choices; row = ok.row }
+
 pub no_state_for_label : (b : Inside) (v : Draft) (name : List ℕ) → draft_in b ≡ v → b.stage ≡ Between → after_label v name ≡ Ok v
 unfolding draft_in
 no_state_for_label b v name is e =

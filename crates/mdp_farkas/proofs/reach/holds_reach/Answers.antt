@@ -14,7 +14,7 @@ returns c =
     let ranks = c.args.cert.now.ranks.items in
     let e : c.verdict_after.result ≡ verdict_of (reach_checks c.args.dir m goals z policy ranks) =
     c.verdict_after.ensures
-    ∙ ap verdict c.states.ensures
+    ∙ ap verdict (rw c.states.ensures at c.each_below.ensures)
     ∙ ap (λ (z : List ℚ). verdict_of (reach_checks c.args.dir m goals z c.as_slice-2.result.now c.as_slice-3.result.now)) c.as_slice.ensures.value
     ∙ ap (λ (p : List ℕ). verdict_of (reach_checks c.args.dir m goals z p c.as_slice-3.result.now)) c.as_slice-2.ensures.value
     ∙ ap (λ (r : List ℕ). verdict_of (reach_checks c.args.dir m goals z policy r)) c.as_slice-3.ensures.value

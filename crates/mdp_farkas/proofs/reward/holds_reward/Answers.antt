@@ -14,7 +14,7 @@ returns c =
     let ranks = c.args.cert.now.ranks.items in
     let e : c.verdict_after.result ≡ verdict_of (reward_checks c.args.dir m c.args.m goals v policy ranks) =
     c.verdict_after.ensures
-    ∙ ap verdict c.states.ensures
+    ∙ ap verdict (rw c.states.ensures at c.each_below.ensures)
     ∙ ap (λ (v : List (Option ℚ)). verdict_of (reward_checks c.args.dir m c.args.m goals v c.as_slice-2.result.now c.as_slice-3.result.now)) c.as_slice.ensures.value
     ∙ ap (λ (p : List ℕ). verdict_of (reward_checks c.args.dir m c.args.m goals v p c.as_slice-3.result.now)) c.as_slice-2.ensures.value
     ∙ ap (λ (k : List ℕ). verdict_of (reward_checks c.args.dir m c.args.m goals v policy k)) c.as_slice-3.ensures.value

@@ -1,10 +1,11 @@
-use Rattle.std.proofs.Common.{◌≡◌, ◌<◌, ℕ, None, cond, List, Bool, map, is_none, ap, subst, ◌∙◌, arith}
+use Rattle.std.proofs.Common.{◌≡◌, ◌<◌, ℕ, None, cond, List, Bool, map, is_none, ap, subst, ◌∙◌, arith, length}
 use Rattle.mdp_spec.specs.Mdp.{states_of}
 use Rattle.mdp_graph.specs.Sets.{marked}
 use Rattle.mdp_graph.specs.Layers.{rank_at, AreReached}
 use Rattle.mdp_graph.specs.Reach.{may_step}
 use Rattle.mdp_graph.proofs.Avoiding.{avoid_marks}
 use Rattle.mdp_graph.proofs.Dropping.{sure_marks, sure_ranks}
+use Rattle.std.proofs.lemmas.List.{length-map}
 use Rattle.mdp_graph.proofs.always.sure_ranks.Goals as goal
 
 pub returns : goal.returns
@@ -23,3 +24,7 @@ returns c =
       sure = (map is_none ranks, avoid_marks m c.known.ensures.mdp goals ranks c.in_ok-ranks.ensures, sure_marks m goals ranks c.in_ok-ranks.ensures marks r new count left);
       least = sure_ranks m goals ranks c.in_ok-ranks.ensures marks r new count left;
     }
+
+pub may_reach-requires-clause-target : goal.may_reach-requires-clause-target
+may_reach-requires-clause-target c =
+    ap length (c.in_ok-avoiding.ensures ∙ ap (map is_none) c.deref.ensures.value) ∙ length-map c.in_ok-ranks.ranks.items is_none ∙ c.in_ok-ranks.ensures.count

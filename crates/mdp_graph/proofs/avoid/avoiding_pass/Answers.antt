@@ -1,5 +1,6 @@
-use Rattle.std.proofs.Common.{◌≡◌, map, is_none, ◌∙◌}
+use Rattle.std.proofs.Common.{◌≡◌, map, is_none, ◌∙◌, length, ap}
 use Rattle.mdp_graph.proofs.Avoiding.{avoid_marks, avoid_choices}
+use Rattle.std.proofs.lemmas.List.{length-map}
 use Rattle.mdp_graph.proofs.avoid.avoiding_pass.Goals as goal
 
 pub returns-clause-marks : goal.returns-clause-marks
@@ -13,3 +14,6 @@ returns-clause-choices c =
     rw e
     (avoid_choices c.args.model.now c.known.ensures.mdp c.args.goals.now c.args.met.now c.requires.met c.in_ok-marks.marks
     c.in_ok-marks.ensures c.in_ok-choices.choices.items c.in_ok-choices.ensures)
+
+pub keeping_choices-requires : goal.keeping_choices-requires
+keeping_choices-requires c = record { marks = ap length (c.in_ok-marks.ensures {u = tt}) ∙ length-map c.args.met.now is_none ∙ c.requires.met.count }

@@ -11,4 +11,4 @@ next-requires-clause-before c =
 
 pub returns : goal.returns
 returns c =
-    rw c.into_ranks.ensures (last_round _ c.known.ensures.mdp _ _ _ _ _ _ c.loop-alloc.invariant.1 (omega (arith, is_zero _ c.loop-alloc-test.ensures)))
+    last_round _ c.known.ensures.mdp _ _ _ _ _ _ c.loop-alloc.invariant.1 (omega (arith, is_zero _ c.loop-alloc-test.ensures))

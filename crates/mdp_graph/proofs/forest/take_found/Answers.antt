@@ -6,7 +6,6 @@ use Rattle.mdp_graph.proofs.Seeking.{found_taken, found_kept}
 use Rattle.mdp_graph.proofs.Taking.{grown_set, taken_set, taken_more}
 use Rattle.mdp_math.proofs.Booleans.{and-false}
 use Rattle.mdp_graph.proofs.forest.take_found.Goals.{in-Some+then-not-is_attached+in_ok-push, in-Some+else-not-is_attached, in_default}
-use Rattle.std.proofs.Common.{ℕ}
 use Rattle.mdp_graph.proofs.Taking.{grown_start, taken_none}
 use Rattle.mdp_graph.proofs.forest.take_found.Goals as goal
 

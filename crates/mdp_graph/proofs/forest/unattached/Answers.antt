@@ -1,4 +1,4 @@
-use Rattle.std.proofs.Common.{not, sym, ap, ◌∙◌, ◌&&◌, ℕ, List, arith}
+use Rattle.std.proofs.Common.{not, sym, ap, ◌∙◌, ◌&&◌, ℕ, List}
 use Rattle.std.proofs.lemmas.List.{take_all}
 use Rattle.mdp_rows.specs.Preds.{is_among}
 use Rattle.mdp_graph.specs.Forest.{attached}

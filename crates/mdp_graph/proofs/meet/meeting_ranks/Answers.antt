@@ -49,6 +49,5 @@ loop-alloc-preserved c =
 pub returns : goal.returns
 returns c =
     let m = c.args.model.now in
-    rw c.into_ranks.ensures
-    (met_all (must_step m) (marked c.args.target.now) (states_of m) (must_respects m c.known.ensures.mdp) _ _ _ c.loop-alloc.invariant.0
-    (omega (arith, is_zero _ c.loop-alloc-test.ensures)))
+    met_all (must_step m) (marked c.args.target.now) (states_of m) (must_respects m c.known.ensures.mdp) _ _ _ c.loop-alloc.invariant.0
+    (omega (arith, is_zero _ c.loop-alloc-test.ensures))

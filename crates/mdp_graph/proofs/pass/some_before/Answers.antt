@@ -1,4 +1,4 @@
-use Rattle.std.proofs.Common.{false, ap, sym, ◌∙◌, List, ℕ}
+use Rattle.std.proofs.Common.{ap, sym, ◌∙◌, List, ℕ}
 use Rattle.std.specs.List.{list_any}
 use Rattle.std.proofs.lemmas.List.{take_all}
 use Rattle.mdp_graph.specs.Layers.{rank_at}

@@ -1,4 +1,5 @@
-use Rattle.std.proofs.Common.{arith}
+use Rattle.std.proofs.Common.{[], ◌∙◌, arith}
+use Rattle.std.proofs.lemmas.List.{length-replicate}
 use Rattle.mdp_rows.proofs.Queries.Preds.{more_led, states_more, all_led}
 use Rattle.mdp_rows.specs.Preds.{choices_of}
 use Rattle.mdp_rows.proofs.preds.preds_of.Goals as goal
@@ -10,3 +11,6 @@ loop-s-preserved c =
 
 pub returns : goal.returns
 returns c = all_led _ _ c.loop-s.s c.loop-s.invariant (omega arith)
+
+pub push_state-requires-clause-lists : goal.push_state-requires-clause-lists
+push_state-requires-clause-lists c = c.loop-s.invariant.count ∙ length-replicate _ []

@@ -1,4 +1,7 @@
-use Rattle.std.proofs.Common.{arith, sym, ap, ◌∙◌, unsigned_abs}
+use Rattle.std.proofs.Common.{List, ◌++◌, map, arith, sym, ap, ◌∙◌, unsigned_abs}
+use Rattle.std.proofs.lemmas.List.{take_all}
+use Rattle.mdp_rows.specs.Given.{kept_given}
+use Rattle.mdp_rows.specs.declared.given.Given.{Given}
 use Rattle.mdp_rows.proofs.Flat.Kept.{num_zero, appended_one, appended_skip}
 use Rattle.mdp_rows.proofs.rows.append_kept.Goals.{then-num_of-ne0+in_ok-push+in_ok-push-2, else-num_of-ne0}
 use Rattle.mdp_rows.proofs.rows.append_kept.Goals as goal
@@ -20,3 +23,9 @@ loop-given-preserved c = elim c.if-num_of-ne0.branch [
       c.loop-given.invariant
       (num_zero c.given-item.result.value (sym c.num_of.ensures ∙ w.if-num_of-ne0.false)))
 ]
+
+pub returns-clause-probs : goal.returns-clause-probs
+returns-clause-probs c = c.loop-given.invariant.probs ∙ ap (λ (row : List Given). c.args.probs.now.items ++ map (λ g. g.value) (kept_given row)) (take_all c.loop-given.given-index c.args.row.now c.loop-given-test.false)
+
+pub returns-clause-targets : goal.returns-clause-targets
+returns-clause-targets c = c.loop-given.invariant.targets ∙ ap (λ (row : List Given). c.args.targets.now.items ++ map (λ g. g.target) (kept_given row)) (take_all c.loop-given.given-index c.args.row.now c.loop-given-test.false)

@@ -71,3 +71,9 @@ unattached-requires-clause-goals c = λ k d l. (let h = c.requires.below k d l i
 
 pub unattached-requires-clause-ways : goal.unattached-requires-clause-ways
 unattached-requires-clause-ways c = ap length c.deref-3.ensures.value ∙ c.in_ok-attach_all.ensures.forest.count ∙ sym c.requires.goals
+
+pub attach_all-requires-clause-wide : goal.attach_all-requires-clause-wide
+attach_all-requires-clause-wide c = c.requires.wide
+
+pub attach_all-requires-clause-goals : goal.attach_all-requires-clause-goals
+attach_all-requires-clause-goals c = c.requires.goals

@@ -51,3 +51,6 @@ returns-clause-after c =
 pub returns-clause-fewer : goal.returns-clause-fewer
 returns-clause-fewer c =
     rw c.attach.ensures.layers (fewer _ c.known.ensures.mdp _ _ _ _ _ _ c.requires.before _ _ c.in_ok-next.ensures.next.given c.requires.some)
+
+pub attach-requires-clause-goals : goal.attach-requires-clause-goals
+attach-requires-clause-goals c = c.requires.goals

@@ -1,5 +1,5 @@
-use Rattle.std.proofs.Common.{ℕ, ◌+◌, arith, sym, ap, ◌∙◌, false, subst, map}
-use Rattle.std.proofs.lemmas.List.{length-set}
+use Rattle.std.proofs.Common.{ℕ, ◌+◌, arith, sym, ap, ◌∙◌, false, subst, map, length}
+use Rattle.std.proofs.lemmas.List.{length-map, length-set}
 use Rattle.mdp_rows.specs.Pieces.{ArePlaces}
 use Rattle.mdp_graph.specs.Waiting.{count_waiting}
 use Rattle.mdp_graph.proofs.FlatPieces.{place_after}
@@ -55,3 +55,13 @@ returns-clause-last c =
     (count_there _ _ _ _ c.args.s c.self.invariant c.self.view_is c.requires.state) c.requires.state
     (sym (choice_read _ _ _ _ c.args.s c.args.c _ c.self.invariant c.self.view_is c.requires.state c.requires.choice c.index.ensures _ c.index-2.ensures) ∙ c.if-not-index.false)
     c.index_mut-2.ensures.value _ c.index-3.ensures)
+
+pub index-requires-3 : goal.index-requires-3
+index-requires-3 c =
+    let n = ap length (count_there _ _ _ _ c.args.s c.self.invariant c.self.view_is c.requires.state) ∙ length-map c.args.self.now count_waiting in
+    omega (arith, n, c.requires.state, c.self.inside.counts.ok.0)
+
+pub index_mut-requires-2 : goal.index_mut-requires-2
+index_mut-requires-2 c =
+    let n = ap length (count_there _ _ _ _ c.args.s c.self.invariant c.self.view_is c.requires.state) ∙ length-map c.args.self.now count_waiting in
+    omega (arith, n, c.requires.state)

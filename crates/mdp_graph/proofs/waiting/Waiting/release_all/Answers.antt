@@ -1,4 +1,4 @@
-use Rattle.std.proofs.Common.{◌∷◌, [], take, get_or, ◌&&◌, not, is_none, sym, ap, ◌∙◌}
+use Rattle.std.proofs.Common.{◌∷◌, [], take, get_or, ◌&&◌, not, is_none, sym, ap, ◌∙◌, arith}
 use Rattle.std.proofs.lemmas.List.{take_more}
 use Rattle.mdp_rows.specs.Preds.{pair}
 use Rattle.mdp_rows.specs.declared.preds.Pred.{Pred}
@@ -49,3 +49,6 @@ loop-pred-init c = met_none _ _ _
 
 pub returns : goal.returns
 returns c = rw (take_all c.loop-pred.pred-index c.args.preds.now c.loop-pred-test.false) at c.loop-pred.invariant
+
+pub bounds-ranks-pred : goal.bounds-ranks-pred
+bounds-ranks-pred c = omega (arith, (within_at c.args.self.now c.args.preds.now c.loop-pred.pred-index (pair 0 0) c.requires.within c.loop-pred-test.true).0, c.requires.ranks)

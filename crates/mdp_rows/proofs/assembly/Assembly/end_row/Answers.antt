@@ -1,4 +1,4 @@
-use Rattle.std.proofs.Common.{inr, ap, sym, subst, ◌∙◌, ◌-◌}
+use Rattle.std.proofs.Common.{inr, length, ap, sym, subst, ◌∙◌, ◌-◌}
 use Rattle.std.proofs.lemmas.Result.{err_from_is_err_and}
 use Rattle.std.specs.Vec.{with_items}
 use Rattle.mdp_rows.specs.ChoiceTable.{ChoiceTable}
@@ -72,3 +72,6 @@ returns c =
           (closes_as c.self.inside c.sort_row.new.row c.close_row.new.row _ _ c.deref_mut.ensures.value c.sort_row.ensures c.deref_mut-2.ensures.value c.self.inside.rule _ _ _
           (c.in_ok-close_row.ensures {u = tt}).closed);
     }
+
+pub push-requires-clause-one_each : goal.push-requires-clause-one_each
+push-requires-clause-one_each c = ap length c.deref-2.ensures.value ∙ c.self.invariant.head.summed c.in-InRow.is

@@ -1,6 +1,8 @@
-use Rattle.std.proofs.Common.{inl, inr, refl, List, ℕ, [], ◌∷◌, ◌++◌, length, ap, ◌∙◌, arith}
+use Rattle.std.proofs.Common.{inl, inr, refl, List, ℕ, [], ◌∷◌, ◌++◌, length, ap, sym, subst, ◌∙◌, arith}
 use Rattle.mdp_rows.proofs.Assembled.Drafts.{no_state_to_close, state_refused, state_kept, is_with_state, is_with_room}
-use Rattle.mdp_rows.proofs.Assembled.Outcomes.{at_ok}
+use Rattle.mdp_rows.specs.Labelling.{Labelling}
+use Rattle.mdp_rows.specs.FlatDraft.{IsDraft}
+use Rattle.mdp_rows.proofs.Assembled.Outcomes.{at_ok, at_err}
 use Rattle.mdp_rows.proofs.assembly.Assembly.end_state.Goals as goal
 
 pub returns-in_default : goal.returns-in_default
@@ -50,3 +52,15 @@ invariant_of-self c = is_with_room c.self.inside c.reserve.new.self c.self.invar
 
 pub returns-then-is_err : goal.returns-then-is_err
 returns-then-is_err c = record { follows = inl refl }
+
+pub invariant_of-self-then-is_err-2 : goal.invariant_of-self-then-is_err-2
+invariant_of-self-then-is_err-2 c =
+    let u = at_err c.push_state.result c.if-is_err-2.ensures.negation c.push_state.ensures.unchanged in
+    subst (λ (x : Labelling). IsDraft (record c.self.inside { starts = c.reserve.new.self; labels = x })) (sym u)
+    (is_with_room c.self.inside c.reserve.new.self c.self.invariant c.reserve.ensures.items)
+
+pub invariant_of-self-then-is_err-3 : goal.invariant_of-self-then-is_err-3
+invariant_of-self-then-is_err-3 c =
+    let room = at_ok c.reserve.result c.if-is_err.ensures.negation c.reserve.ensures.ok in
+    let full = at_err c.push.result c.if-is_err-3.ensures.negation c.push.ensures.full in
+    absurd (omega (arith, room, full))

@@ -1,7 +1,8 @@
-use Rattle.std.proofs.Common.{ℕ, ap, inr, ◌∙◌, arith}
+use Rattle.std.proofs.Common.{ℕ, ap, inr, refl, ◌∙◌, arith}
 use Rattle.mdp_rows.specs.Draft.{with_place}
-use Rattle.mdp_rows.proofs.Assembled.Labels.{no_state_for_label, past_calls, past_names, label_taken, is_labelled}
-use Rattle.mdp_rows.proofs.Assembled.Outcomes.{at_ok}
+use Rattle.mdp_rows.specs.Labelling.{Labelling}
+use Rattle.mdp_rows.proofs.Assembled.Labels.{no_state_for_label, past_calls, past_names, label_taken, is_named, is_labelled}
+use Rattle.mdp_rows.proofs.Assembled.Outcomes.{at_ok, at_err}
 use Rattle.mdp_rows.proofs.assembly.Assembly.try_label.Goals as goal
 
 pub returns-in-Between : goal.returns-in-Between
@@ -37,3 +38,11 @@ returns c =
           (omega (arith, c.names_with.ensures, c.if-names_with-gt-MAX_LABELS.false))
           s.seen (a ∙ ap (λ (l : ℕ). with_place l c.self.inside.places.items) s.place);
     }
+
+pub invariant_of-self-then-is_err : goal.invariant_of-self-then-is_err
+invariant_of-self-then-is_err c =
+    is_named c.self.inside _ _ c.self.invariant (ap (λ (x : Labelling). x.of_state) (c.in-Ok.ensures {u = tt}).seen)
+    (at_err c.add_place.result c.if-is_err.ensures.negation c.add_place.ensures.unchanged)
+
+pub invariant_of-self : goal.invariant_of-self
+invariant_of-self c = is_named c.self.inside _ _ c.self.invariant (ap (λ (x : Labelling). x.of_state) (c.in_default-see_name.ensures {u = tt}).unchanged) refl

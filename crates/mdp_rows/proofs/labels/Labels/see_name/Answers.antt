@@ -1,4 +1,4 @@
-use Rattle.std.proofs.Common.{◌≡◌, List, ℕ, map, length, refl, ap, sym, ◌∙◌, arith}
+use Rattle.std.proofs.Common.{◌≡◌, ◌≤◌, ◌^◌, List, ℕ, map, length, refl, ap, sym, subst, ◌∙◌, arith}
 use Rattle.std.specs.Global.{Vec}
 use Rattle.std.specs.List.{position_or_len}
 use Rattle.std.specs.Str.{bytes_eq}
@@ -46,3 +46,7 @@ returns-clause-seen c =
     names_grown c.self.inside _ refl refl c.args.self.now _ c.self.view_is
     (ap (λ (ks : List (Vec ℕ)). map (λ v. v.items) ks) (c.in_ok-place.ensures {u = tt}).keys ∙ with_name-keys c.self.inside.names.keys k
     ∙ ap (with_name (map (λ v. v.items) c.self.inside.names.keys)) f ∙ ap (λ (x : List (List ℕ)). with_name x c.args.name.now) n)
+
+pub invariant_of-self-in_err-place : goal.invariant_of-self-in_err-place
+invariant_of-self-in_err-place c = are_labels_named c.self.inside _ refl refl c.self.invariant
+    (subst (λ (names : List (Vec ℕ)). length names ≤ 2 ^ 10) (sym (c.in_err-place.ensures {u = tt}).err) c.self.invariant.few_names)

@@ -50,3 +50,6 @@ returns-clause-appended c =
     (record { targets = e.targets; probs = e.probs; starts = p.items ∙ ap₂ (λ (xs : List ℕ) (n : ℕ). xs ++ n ∷ []) c.reserve.ensures.items end })
     c.self.invariant
     ∙ ap (λ (v : List (List Entry)). v ++ kept (row_of c.args.row.now) ∷ []) c.self.view_is
+
+pub invariant_of-self-in_err-push : goal.invariant_of-self-in_err-push
+invariant_of-self-in_err-push c = absurd (omega (arith, (c.in_ok-reserve.ensures {u = tt}).ok, (c.in_err-push.ensures {u = tt}).full))
