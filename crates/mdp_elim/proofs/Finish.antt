@@ -5,7 +5,7 @@ use Rattle.std.specs.List.{All}
 use Rattle.mdp_elim.specs.Equation.{Equation, Values}
 use Rattle.mdp_elim.specs.Elimination.{CanEliminate, evaluated, at_state, ◌and_then◌, eliminated, Eliminated, solution}
 use Rattle.mdp_elim.specs.Finish.{finish, LeadDown, placed}
-use Rattle.mdp_elim.specs.Errors.{StepError}
+use Rattle.mdp_elim.specs.Errors.{StepError, ElimError}
 use Rattle.mdp_wide.specs.declared.unfinished.Unfinished.TheVariants as error
 
 then_then : (r : Result Values ℕ) (f g : Values → Result Values ℕ) → ((r and_then f) and_then g) ≡ (r and_then (λ v. f v and_then g))
@@ -87,3 +87,10 @@ pub placed-ok : {A : Type 0} → (state : ℕ) (x : A) (step : Result A StepErro
 placed-ok state x (Ok y) h = cc
 placed-ok state x (Err (error.TooWide _)) h = cc
 placed-ok state x (Err error.Memory) h = cc
+
+pub wide_state : {A : Type 0} → (a b : ℕ) → (let r : Result A ElimError = Err (error.TooWide a) in r) ≡ Err (error.TooWide b) → a ≡ b
+wide_state a b e = cc
+
+-- a value is no error
+pub ok_no_err : {A R : Type 0} → (x : A) (y : R) → (let r : Result A R = Ok x in r) ≡ Err y → ⊥
+ok_no_err x y e = cc

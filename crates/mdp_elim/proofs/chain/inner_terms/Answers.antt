@@ -1,4 +1,4 @@
-use Rattle.std.proofs.Common.{◌≡◌, ◌<◌, ◌∙◌, ◌∷◌, ◌++◌, [], ap, length, get_or, rules, arith}
+use Rattle.std.proofs.Common.{◌<◌, ◌∙◌, ◌∷◌, ◌++◌, [], sym, ap, length, get_or, arith}
 use Rattle.std.proofs.lemmas.List.{get_or_default}
 use Rattle.mdp_math.proofs.Order.{0ℚ}
 use Rattle.mdp_spec.specs.Mdp.{Entry}
@@ -12,16 +12,14 @@ loop-i-preserved c =
     let t = get_or_default c.args.row.targets.now c.loop-i.i 0 (get_or c.args.row.targets.now c.loop-i.i 0) (omega arith) in
     elim c.if-at.branch [
       | then-at+in_ok-push w ↦
-          let is : c.if-at.terms.items ≡ w.push.new.self.items = search rules in
-          rw is
+          rw w.terms-is
           (inner-kept c.args.active.now c.args.row.targets.now c.args.row.probs.now c.loop-i.i (get_or c.args.row.targets.now c.loop-i.i 0)
           (get_or c.args.row.probs.now c.loop-i.i w.index-row-i.result) (omega arith) c.args.row.same_length
           t (get_or_default c.args.row.probs.now c.loop-i.i w.index-row-i.result _ l) c.loop-i.terms.items _ c.loop-i.invariant
-          w.push.new.self.items (search rules) ((w.in_ok-push.ensures {u = tt}).items ∙ ap (λ (x : Entry). c.loop-i.terms.items ++ x ∷ []) w.new.ensures))
+          w.push.new.self.items (sym c.at.ensures ∙ w.if-at.true) ((w.in_ok-push.ensures {u = tt}).items ∙ ap (λ (x : Entry). c.loop-i.terms.items ++ x ∷ []) w.new.ensures))
       | else-at w ↦
-          let is : c.if-at.terms.items ≡ c.loop-i.terms.items = search rules in
-          rw is
+          rw w.terms-is
           (inner-left c.args.active.now c.args.row.targets.now c.args.row.probs.now c.loop-i.i
           (get_or c.args.row.targets.now c.loop-i.i 0) (get_or c.args.row.probs.now c.loop-i.i 0ℚ) (omega arith) c.args.row.same_length
-          t (get_or_default c.args.row.probs.now c.loop-i.i 0ℚ _ l) c.loop-i.terms.items _ c.loop-i.invariant (search rules))
+          t (get_or_default c.args.row.probs.now c.loop-i.i 0ℚ _ l) c.loop-i.terms.items _ c.loop-i.invariant (sym c.at.ensures ∙ w.if-at.false))
     ]

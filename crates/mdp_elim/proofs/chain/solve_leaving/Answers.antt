@@ -10,6 +10,7 @@ use Rattle.mdp_elim.specs.Predecessors.{LeadBelow}
 use Rattle.mdp_elim.proofs.Active.{wide_active}
 use Rattle.mdp_elim.proofs.Leaving.{system-can, system-leads, system-len, solve_each}
 use Rattle.mdp_elim.proofs.Chains.{solution-of, written_solution-ok, written_solution-err}
+use Rattle.mdp_elim.proofs.Finish.{ok_no_err}
 use Rattle.mdp_elim.proofs.chain.solve_leaving.Goals as goal
 
 pub solve_system-requires-clause-can : goal.solve_system-requires-clause-can
@@ -55,3 +56,6 @@ returns-clause-solves g c =
     (record { first = c.in_ok-values.values.first.items; second = c.in_ok-values.values.second.items }) made (subst (λ m. (m ≡ 1) ⊎ (m ≡ 2)) (sym n) c.requires.some_columns) in
     subst (λ (xs : List (List ℚ)). SolveEach (g.R.RowsOf.rows c.args.rows.now) c.args.active.now (map (λ x. x.items) c.args.columns.now) xs)
     (ap (λ m. columns_of m (record { first = c.in_ok-values.values.first.items; second = c.in_ok-values.values.second.items })) n ∙ sym (c.in_ok-answers.ensures {u = tt})) each
+
+pub returns-clause-wide : goal.returns-clause-wide
+returns-clause-wide g c = λ s e. absurd (ok_no_err _ _ e)

@@ -1,4 +1,4 @@
-use Rattle.std.proofs.Common.{◌≡◌, ◌∙◌, ◌-◌, ◌+◌, ◌<◌, ◌^◌, suc, List, [], ◌∷◌, Err, Some, length, subst, ap, sym, rules, arith}
+use Rattle.std.proofs.Common.{zero-add, ◌≡◌, ◌∙◌, ◌-◌, ◌+◌, ◌<◌, ◌^◌, suc, List, [], ◌∷◌, Err, Some, length, subst, ap, sym, rules, arith, refl}
 use Rattle.std.proofs.lemmas.List.{length-append}
 use Rattle.std.proofs.lemmas.Result.{MatchResult-at_ok}
 use Rattle.mdp_elim.specs.Equation as spec
@@ -45,3 +45,12 @@ pub eliminate-requires-clause-linked : goal.eliminate-requires-clause-linked
 eliminate-requires-clause-linked c =
     let n : c.loop-s.s ≡ c.loop-s.s - 1 + 1 = omega arith in
     subst (λ k. IsLinked k k c.loop-s.left.lists.items c.loop-s.left.equations.items) n c.loop-s.invariant.linked
+
+pub loop-s-init : goal.loop-s-init
+loop-s-init c =
+    let n : c.len-s.result ≡ length c.args.equations.items = search rules in
+    let linked = rw c.deref.ensures.value at c.in_ok-lists.ensures in
+    rw (n, c.new-done.ensures.items) (record { same = refl; can = c.requires.can; linked = linked; down = tt; count = zero-add _ })
+
+pub returns-clause-ok : goal.returns-clause-ok
+returns-clause-ok c = let z : c.loop-s.s ≡ 0 = omega arith in rw z at c.loop-s.invariant.same

@@ -37,3 +37,8 @@ loop-equation-preserved c =
       first = omega (arith, more.0, c.loop-equation.invariant.first);
       second = omega (arith, more.1, c.loop-equation.invariant.second);
     }
+
+pub returns-clause-ok : goal.returns-clause-ok
+returns-clause-ok c =
+    let none : c.loop-equation.waiting.items ≡ [] = search rules in
+    c.loop-equation.invariant.same ∙ ap (λ (es : List spec.Equation). finish c.loop-equation.s es (Ok (record { first = c.loop-equation.first.items; second = c.loop-equation.second.items }))) none

@@ -1,6 +1,7 @@
 use Rattle.std.proofs.Common.{ap, ◌∙◌, ◌∷◌, ◌++◌, [], List}
 use Rattle.mdp_spec.specs.Mdp.{Entry}
 use Rattle.mdp_elim.proofs.Merge.{merge-no_term, merge-no_sum, merge-next}
+use Rattle.mdp_elim.proofs.Finish.{ok_no_err}
 use Rattle.mdp_elim.proofs.entries.merge_entry.Goals as goal
 
 pub returns-in_err-more-clause-wide : goal.returns-in_err-more-clause-wide
@@ -21,3 +22,6 @@ returns-clause-ok c =
     c.args.sums.now.items c.in_ok-sum.sum c.split_row-split.result.before.now c.split_row-split.result.behind.now c.push.new.self.items c.new.result c.target-2.result
     (c.in_ok-sum.ensures {u = tt}) c.split_row-split.ensures.before c.split_row-split.ensures.behind c.target-2.ensures c.new.ensures
     ((c.in_ok-push.ensures {u = tt}).items ∙ ap (λ (xs : List Entry). xs ++ c.new.result ∷ []) (c.in_ok-extend_from_slice.ensures {u = tt}).items)
+
+pub returns-clause-wide : goal.returns-clause-wide
+returns-clause-wide c = λ e. absurd (ok_no_err _ _ e)

@@ -1,6 +1,7 @@
 use Rattle.std.proofs.Common.{◌≡◌, Err, rules, arith}
 use Rattle.mdp_wide.specs.declared.unfinished.Unfinished.TheVariants as error
 use Rattle.mdp_elim.proofs.Merge.{merged-wide, merged-more, merged-all}
+use Rattle.mdp_elim.proofs.Finish.{ok_no_err}
 use Rattle.mdp_elim.proofs.entries.merged.Goals as goal
 
 pub returns-in_err-rest-clause-wide : goal.returns-in_err-rest-clause-wide
@@ -18,3 +19,6 @@ pub returns-clause-ok : goal.returns-clause-ok
 returns-clause-ok c =
     merged-all c.args.times.now c.args.source.now c.loop-x.x-index c.loop-x.rest.now c.loop-x.sums.items c.extend_from_slice.new.self.items _
     (omega (arith, c.loop-x.auto.x-index-end, c.loop-x-test.false)) c.loop-x.invariant (c.in_ok-extend_from_slice.ensures {u = tt}).items
+
+pub returns-clause-wide : goal.returns-clause-wide
+returns-clause-wide c = λ e. absurd (ok_no_err _ _ e)

@@ -6,6 +6,7 @@ use Rattle.mdp_elim.specs.Equation as spec
 use Rattle.mdp_elim.specs.Entries.{Between}
 use Rattle.mdp_elim.specs.Elimination.{divided}
 use Rattle.mdp_elim.proofs.PutIn.{divided-down}
+use Rattle.mdp_elim.proofs.Finish.{ok_no_err}
 use Rattle.mdp_elim.proofs.keeping.solve_row.Goals as goal
 
 on_err : {A E : Type 0} (r : Result A E) (P : Type 0) → OnErr r P → is_err r ≡ true → P
@@ -32,3 +33,6 @@ returns-clause-ok c =
       length-set c.args.solved.now c.args.t c.divide.new.self,
       λ u h. get_or-set_other c.args.solved.now c.args.t u c.divide.new.self spec.no_equation h,
     )
+
+pub returns-clause-wide : goal.returns-clause-wide
+returns-clause-wide c = λ s e. absurd (ok_no_err _ _ e)

@@ -6,6 +6,7 @@ use Rattle.mdp_elim.specs.Kept.{put_in, IsTried}
 use Rattle.mdp_elim.proofs.Leaving.{at-system, system-len, system-down, system-pivots}
 use Rattle.mdp_elim.proofs.Dividing.{not_one}
 use Rattle.mdp_elim.proofs.Solving.{AreTried, tried_first, tried_next, tried_solved, tried_wide, tried-other, tried-down, above_solved, other-not_here}
+use Rattle.mdp_elim.proofs.Finish.{wide_state}
 use Rattle.mdp_elim.proofs.keeping.solve_states.Goals as goal
 
 pub loop-i-init : goal.loop-i-init
@@ -89,7 +90,7 @@ returns-in-Some-clause-wide g c = λ s h.
     let columns = map (λ c. c.items) c.args.columns.now in
     let len = system-len rows active c.requires.leaves.0 c.known.ensures c.requires.active c.requires.leaves.1 columns in
     let z : c.loop-i.i ≡ 0 = omega (arith, c.loop-i-test.false) in
-    let same : c.in-Some.state ≡ s = cc in
+    let same = wide_state c.in-Some.state s h in
     let o : c.loop-i.wide ≡ Some s = c.in-Some.is ∙ ap Some same in
     tried_wide c.args.states.now (system rows active columns) (length rows) len c.loop-i.solved c.loop-i.invariant.count s
     (subst (λ j. AreTried c.args.states.now (system rows active columns) (length rows) j c.loop-i.solved (Some s)) z

@@ -30,3 +30,6 @@ loop-t-preserved c =
           (sym same) (targets-next c.loop-t.lists.items more c.args.equations.now c.loop-t.t kept c.loop-t.invariant.listed new);
       smaller = subst HoldSmaller (sym same) (kept.smaller c.loop-t.invariant.smaller);
     }
+
+pub loop-t-init : goal.loop-t-init
+loop-t-init c = record { count = c.in_ok-lists.ensures.count; listed = λ t h. absurd (omega (arith, h)); smaller = c.in_ok-lists.ensures.smaller }

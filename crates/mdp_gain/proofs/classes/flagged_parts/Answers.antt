@@ -1,5 +1,5 @@
 use Rattle.std.proofs.Common.{◌+◌, List, Bool, sym, subst, ◌∙◌}
-use Rattle.mdp_gain.proofs.Flagging.{AreFlagged, flagged_on, not_flagged}
+use Rattle.mdp_gain.proofs.Flagging.{AreFlagged, flagged_on, not_flagged, none_flagged}
 use Rattle.mdp_gain.proofs.classes.flagged_parts.Goals as goal
 use Rattle.mdp_gain.proofs.classes.flagged_parts.Goals.{then-flags-s, else-flags-s}
 
@@ -12,3 +12,6 @@ loop-s-preserved c = elim c.if-flags-s.branch [
       subst (λ (marks : List Bool). AreFlagged c.args.flags.now c.args.parts.now (c.loop-s.s + 1) marks) (sym w.marks-is)
       (not_flagged c.args.flags.now c.args.parts.now c.loop-s.s c.loop-s.marks c.loop-s.invariant w.if-flags-s.false)
 ]
+
+pub loop-s-init : goal.loop-s-init
+loop-s-init c = none_flagged c.args.flags.now c.args.parts.now c.in_ok-marks.marks (c.in_ok-marks.ensures {u = tt})

@@ -30,3 +30,6 @@ pub loop-t-smaller : goal.loop-t-smaller
 loop-t-smaller c =
     let e : c.loop-t.losing.lost.items ≡ c.pop.new.self.items ++ c.in-Some.t ∷ [] = rw c.in-Some.is at c.pop.ensures.items in
     omega (arith, c.in_ok-forbid_into.ensures.less, ap length e ∙ length-append c.pop.new.self.items (c.in-Some.t ∷ []))
+
+pub forbid_into-requires-clause-allowed : goal.forbid_into-requires-clause-allowed
+forbid_into-requires-clause-allowed c = c.loop-t.invariant.pruned.sizes

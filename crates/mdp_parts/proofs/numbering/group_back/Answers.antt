@@ -1,5 +1,5 @@
 use Rattle.std.proofs.Common.{◌≡◌, ◌+◌, ◌-◌, ℕ, get_or, is_none, not, refl, ap, ◌∙◌, subst, arith}
-use Rattle.mdp_parts.proofs.Grouping.{IsGrouping, grouping_skip, grouping_more, grouped, free_root, read_at}
+use Rattle.mdp_parts.proofs.Grouping.{IsGrouping, grouping_begins, grouping_skip, grouping_more, grouped, free_root, read_at}
 use Rattle.mdp_parts.proofs.numbering.group_back.Goals as goal
 
 pub loop-k-preserved-then-is_none : goal.loop-k-preserved-then-is_none
@@ -27,3 +27,14 @@ loop-k-preserved c =
 pub returns : goal.returns
 returns c = grouped c.args.back.now c.args.order.now c.args.states c.requires.edges c.requires.all _ c.loop-k.number (let z : c.loop-k.k ≡ 0 = omega arith in subst (λ
     (j : ℕ). IsGrouping c.args.back.now c.args.order.now c.args.states j c.loop-k.numbers.items c.loop-k.number) z c.loop-k.invariant)
+
+pub loop-k-init : goal.loop-k-init
+loop-k-init c = rw c.in_ok-numbers.ensures (grouping_begins c.args.back.now c.args.order.now c.args.states c.requires.edges _ (omega arith))
+
+pub take_back-requires-clause-free : goal.take_back-requires-clause-free
+take_back-requires-clause-free c =
+    let b = c.requires.below (c.loop-k.k - 1) (omega arith) in
+    read_at c.loop-k.numbers.items _ c.index.result.now (omega (arith, b, c.loop-k.invariant.count)) c.index.ensures ∙ free_root c.index.result.now (ap not c.if-is_none.ensures)
+
+pub take_back-requires-clause-root : goal.take_back-requires-clause-root
+take_back-requires-clause-root c = let b = c.requires.below (c.loop-k.k - 1) (omega arith) in omega (arith, b, c.loop-k.invariant.count)

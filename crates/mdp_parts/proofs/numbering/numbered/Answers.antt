@@ -1,7 +1,7 @@
 use Rattle.std.proofs.Common.{◌≡◌, ◌<◌, ℕ, List, get_or, Option, Some, None, length, set, is_none, not, refl, sym, ap, ◌∙◌, arith}
 use Rattle.std.proofs.lemmas.List.{length-set}
 use Rattle.mdp_parts.proofs.Grouping.{read_at}
-use Rattle.mdp_parts.proofs.Renumbering.{no_key, known_key, new_key}
+use Rattle.mdp_parts.proofs.Renumbering.{renumbering_begins, no_key, known_key, new_key, renumbered}
 use Rattle.mdp_parts.proofs.numbering.numbered.Goals.{in-Some+in_ok-push-in-Some, then-is_none, else-is_none, in-None+in_ok-push-in-None}
 use Rattle.mdp_parts.proofs.numbering.numbered.Goals as goal
 
@@ -36,3 +36,24 @@ loop-key-preserved c =
       | in-None+in_ok-push-in-None w ↦
           rw (w.given-is, w.numbers-is, w.count-is, w.in_ok-push-in-None.ensures.items) (no_key c.args.keys.now c.args.limit n given numbers c.loop-key.count a w.in-None.is)
     ]
+
+pub loop-key-init : goal.loop-key-init
+loop-key-init c = rw c.in_ok-numbers.ensures.items (renumbering_begins c.args.keys.now c.args.limit c.in_ok-given.given.items c.in_ok-given.ensures)
+
+pub returns-clause-numbers : goal.returns-clause-numbers
+returns-clause-numbers c = renumbered c.args.keys.now c.args.limit c.loop-key.key-index _ _ _ c.loop-key.invariant (omega arith)
+
+pub index_mut-requires : goal.index_mut-requires
+index_mut-requires c = let l = c.requires.below c.loop-key.key-index c.in-Some.k c.loop-key-test.true c.in-Some.is in omega (arith, l, c.loop-key.invariant.size)
+
+pub index-requires-in-Some : goal.index-requires-in-Some
+index-requires-in-Some c =
+    let l = c.requires.below c.loop-key.key-index c.in-Some.k c.loop-key-test.true c.in-Some.is in
+    let h : c.in-Some.k < length c.loop-key.given.items = omega (arith, l, c.loop-key.invariant.size) in
+    elim c.if-is_none.branch [
+      | then-is_none w ↦ (let n = length-set c.loop-key.given.items c.in-Some.k (Some c.loop-key.count) in rw w.given-is (omega (arith, n, h)))
+      | else-is_none w ↦ rw w.given-is (omega (arith, h))
+    ]
+
+pub index-requires : goal.index-requires
+index-requires c = let l = c.requires.below c.loop-key.key-index c.in-Some.k c.loop-key-test.true c.in-Some.is in omega (arith, l, c.loop-key.invariant.size)

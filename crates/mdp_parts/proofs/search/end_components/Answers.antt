@@ -35,3 +35,18 @@ ends_of-requires c =
       components = a.parts;
       keeps = a.keeps;
     })
+
+pub loop-alloc-init : goal.loop-alloc-init
+loop-alloc-init c = record { sizes = c.in_ok-allowed.ensures.sizes; keeps = λ set chosen e s c' hs i hc t. c.in_ok-allowed.ensures.each s c' hs hc; parts = c.in_ok-parts.ensures }
+
+pub components-requires-in-loop-alloc : goal.components-requires-in-loop-alloc
+components-requires-in-loop-alloc c = c.in_ok-forbid_losing.ensures.sizes
+
+pub components-requires : goal.components-requires
+components-requires c = c.in_ok-allowed.ensures.sizes
+
+pub forbid_losing-requires-clause-allowed : goal.forbid_losing-requires-clause-allowed
+forbid_losing-requires-clause-allowed c = IsRound.sizes c.forbid_leaving.ensures
+
+pub forbid_leaving-requires-clause-allowed : goal.forbid_leaving-requires-clause-allowed
+forbid_leaving-requires-clause-allowed c = c.loop-alloc.invariant.sizes

@@ -1,4 +1,4 @@
-use Rattle.std.proofs.Common.{◌<◌, inl, inr, length, refl, sym, ◌∙◌, arith}
+use Rattle.std.proofs.Common.{◌<◌, inl, inr, length, sym, ◌∙◌, arith}
 use Rattle.mdp_spec.specs.Mdp.{choices_at}
 use Rattle.mdp_parts.proofs.Forbidding.{forbidding_begins, forbids, leaves_be, forbidden}
 use Rattle.mdp_parts.proofs.search.forbid_at.Goals.{then-at+then-not-stays, else-at, else-at-via-then-at+else-not-stays, else-at-via-else-at}

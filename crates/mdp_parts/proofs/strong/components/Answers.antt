@@ -1,7 +1,7 @@
 use Rattle.std.proofs.Common.{ℕ, List, Option, sym, ◌∙◌, subst, arith}
 use Rattle.mdp_parts.specs.Allowed.{allowed_at}
 use Rattle.mdp_parts.specs.Numbered.{AreGrouped, IsRenumbered}
-use Rattle.mdp_parts.proofs.ComponentsFound.{targets_edges, edges_all, order_all, groups_below, components_found}
+use Rattle.mdp_parts.proofs.ComponentsFound.{targets_edges, edges_all, order_all, groups_below, components_found, order_below, back_edges}
 use Rattle.mdp_parts.proofs.strong.components.Goals as goal
 
 pub reversed-requires : goal.reversed-requires
@@ -32,3 +32,10 @@ returns c =
     c.in_ok-numbering.numbering.numbers.items c.states-3.result c.states-3.ensures c.in_ok-edges.ensures c.in_ok-back.ensures c.in_ok-order.ensures
     (subst (λ (xs : List ℕ). AreGrouped c.in_ok-back.back xs c.states-3.result c.in_ok-groups.groups.items) c.deref.ensures.value c.in_ok-groups.ensures)
     (subst (λ (xs : List (Option ℕ)). IsRenumbered xs c.in_ok-numbering.numbering.numbers.items) c.deref-2.ensures.value c.in_ok-numbering.ensures.numbers))
+
+pub group_back-requires-clause-below : goal.group_back-requires-clause-below
+group_back-requires-clause-below c =
+    order_below c.in_ok-edges.edges c.in_ok-order.order.items c.deref.result.now c.states-3.result c.in_ok-order.ensures c.deref.ensures.value (c.in_ok-edges.ensures.count ∙ sym c.states-3.ensures)
+
+pub group_back-requires-clause-edges : goal.group_back-requires-clause-edges
+group_back-requires-clause-edges c = back_edges c.in_ok-edges.edges c.in_ok-back.back c.states-3.result c.in_ok-back.ensures (c.in_ok-edges.ensures.count ∙ sym c.states-3.ensures)

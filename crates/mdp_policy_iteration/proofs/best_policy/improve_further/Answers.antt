@@ -162,3 +162,18 @@ rounds-preserved g c =
         },
       );
     }
+
+pub round_of-requires-clause-compared_ascend : goal.round_of-requires-clause-compared_ascend
+round_of-requires-clause-compared_ascend g c = (scope_is g c).compared_ascend
+
+pub round_of-requires-clause-affected_ascend : goal.round_of-requires-clause-affected_ascend
+round_of-requires-clause-affected_ascend g c = (scope_is g c).affected_ascend
+
+pub round_of-requires-clause-affected_below : goal.round_of-requires-clause-affected_below
+round_of-requires-clause-affected_below g c = (scope_is g c).affected_below
+
+pub round_of-requires-clause-compared_below : goal.round_of-requires-clause-compared_below
+round_of-requires-clause-compared_below g c = (scope_is g c).compared_below
+
+pub round_of-requires-clause-loops : goal.round_of-requires-clause-loops
+round_of-requires-clause-loops g c = c.requires.loops

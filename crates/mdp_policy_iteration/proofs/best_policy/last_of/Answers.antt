@@ -1,3 +1,4 @@
+use Rattle.std.proofs.lemmas.Result.{IfOk-at_ok}
 use Rattle.std.proofs.Common.{◌≡◌, ℕ, List, Ok, Err, refl, sym, subst, arith, rules}
 use Rattle.mdp_policy_iteration.specs.Problem.{IsPolicy}
 use Rattle.mdp_policy_iteration.specs.Values.{CanLeave}
@@ -55,3 +56,13 @@ returns-clause-path g c =
     subst (λ (e : PathError). IsRefused p c.args.start.items e) (sym c.path_error.ensures)
     (ends_by p 0 c.deref.result.now c.args.start.items c.first_round.new.evaluation.values c.first_round.result c.deref.ensures.value (c.first_round.ensures.step 0)
     c.args.start.items 0 c.args.start c.in-Err.error refl (omega arith) (λ r h. h) was)
+
+pub improve_further-requires-clause-ascend : goal.improve_further-requires-clause-ascend
+improve_further-requires-clause-ascend g c =
+    let was : c.first_round.result ≡ Ok c.in-Ok.changes = search rules in
+    IfOk-at_ok _ was c.first_round.ensures.ascend
+
+pub improve_further-requires-clause-each : goal.improve_further-requires-clause-each
+improve_further-requires-clause-each g c =
+    let was : c.first_round.result ≡ Ok c.in-Ok.changes = search rules in
+    IfOk-at_ok _ was c.first_round.ensures.each

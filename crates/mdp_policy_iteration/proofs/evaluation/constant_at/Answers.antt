@@ -1,4 +1,5 @@
-use Rattle.std.proofs.Common.{arith}
+use Rattle.std.proofs.Common.{◌<◌, sym, subst, arith}
+use Rattle.std.specs.List.{All}
 use Rattle.mdp_policy_iteration.proofs.Chain.{can_take}
 use Rattle.mdp_policy_iteration.proofs.evaluation.constant_at.Goals as goal
 
@@ -22,3 +23,9 @@ row-requires-clause-node g c = c.requires.node
 
 pub row-requires-clause-choice : goal.row-requires-clause-choice
 row-requires-clause-choice g c = can_take (g.P.ShortestPath.problem c.args.problem.now) c.args.policy.now c.requires.policy c.args.s c.requires.node
+
+pub outer_sum-requires-clause-values : goal.outer_sum-requires-clause-values
+outer_sum-requires-clause-values g c = subst (λ n. All (λ t. t < n) c.row.result.targets.now) (sym c.requires.values) c.row.ensures.in_range
+
+pub outer_sum-requires-clause-active : goal.outer_sum-requires-clause-active
+outer_sum-requires-clause-active g c = subst (λ n. All (λ t. t < n) c.row.result.targets.now) (sym c.requires.active) c.row.ensures.in_range

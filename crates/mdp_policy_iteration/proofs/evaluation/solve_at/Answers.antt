@@ -3,7 +3,7 @@ use Rattle.std.specs.Global.{Global}
 use Rattle.mdp_num.specs.declared.frac.Frac.{Frac}
 use Rattle.mdp_elim.specs.Kept as elimination
 use Rattle.mdp_elim.specs.System.{Leaves, system}
-use Rattle.mdp_policy_iteration.specs.Problem.{rows_of}
+use Rattle.mdp_policy_iteration.specs.Problem.{rows_of, active_of}
 use Rattle.mdp_policy_iteration.proofs.Chain.{rows-len, active-len}
 use Rattle.mdp_policy_iteration.proofs.Solving.{one_column, solution-below}
 use Rattle.mdp_policy_iteration.proofs.evaluation.solve_at.Goals as goal
@@ -44,3 +44,13 @@ solve_again-requires-clause-others g c =
     let rows = rows_of (g.P.ShortestPath.problem c.args.rows.problem.now) c.args.rows.policy.now in
     subst (λ (xs : List (Vec Frac Global)). elimination.CanServe c.args.nodes.now (system rows c.args.active.now (map (λ c. c.items) xs)) c.args.kept.now) (sym c.from_ref.ensures.value)
     (subst (λ (a : List Bool). elimination.CanServe c.args.nodes.now (system rows a (c.args.constants.now.items ∷ [])) c.args.kept.now) (sym c.requires.active) c.requires.others)
+
+pub returns-in-Ok-clause-kept : goal.returns-in-Ok-clause-kept
+returns-in-Ok-clause-kept g c =
+    let p = g.P.ShortestPath.problem c.args.rows.problem.now in
+    let rows = rows_of p c.args.rows.policy.now in
+    subst (λ (xs : List (Vec Frac Global)). elimination.IsKept (system rows (active_of p c.args.rows.policy.now) (map (λ c. c.items) xs)) c.solve_again.new.self) c.from_ref.ensures.value
+    (subst (λ (a : List Bool). elimination.IsKept (system rows a (map (λ c. c.items) c.from_ref.result.now)) c.solve_again.new.self) c.requires.active c.in-Ok.ensures.kept)
+
+pub returns-in-Ok-clause-others : goal.returns-in-Ok-clause-others
+returns-in-Ok-clause-others g c = c.in-Ok.ensures.others

@@ -21,3 +21,9 @@ returns-in-None c =
       subst (λ (xs : List ℕ). Picks (component_in c.args.self.now.component) c.args.self.now.policy.now xs None) c.deref.ensures.value
           (subst (λ (o : Option (List Bool)). Picks (component_in c.args.self.now.component) c.args.self.now.policy.now c.deref.result.now o) c.in-None.is (c.in_ok-class.ensures {u = tt})),
     )
+
+pub toward_class-requires-clause-picked : goal.toward_class-requires-clause-picked
+toward_class-requires-clause-picked c = (rw c.in-Some.is at (c.in_ok-class.ensures {u = tt})).1
+
+pub toward_class-requires-clause-count : goal.toward_class-requires-clause-count
+toward_class-requires-clause-count c = (rw c.in-Some.is at (c.in_ok-class.ensures {u = tt})).0

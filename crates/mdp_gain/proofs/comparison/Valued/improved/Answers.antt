@@ -1,5 +1,5 @@
-use Rattle.std.proofs.Common.{◌∙◌, ◌+◌, ℕ, Result, Ok, sym, ap, arith}
-use Rattle.mdp_policy_iteration.specs.Places.{Place}
+use Rattle.std.proofs.Common.{◌∙◌, ◌+◌, ℕ, Result, Ok, sym, ap, arith, ◌≡◌, subst}
+use Rattle.mdp_policy_iteration.specs.Places.{Place, up_to}
 use Rattle.mdp_policy_iteration.proofs.Answering.{up_to-more}
 use Rattle.mdp_unichain.specs.Component.{count}
 use Rattle.mdp_unichain.specs.Written.{improved_at}
@@ -19,3 +19,10 @@ returns-in_err-choice c =
     let x = c.args.self.now in
     up_to-stops (improved_at (component_in x.chosen.component) x.chosen.policy.now (values_in x.values.now)) c.loop-s.s (count (component_in x.chosen.component)) c.loop-s.choices.items
     c.loop-s.invariant (omega arith) c.improved_at.result c.in_err-choice.field-0.0 c.improved_at.ensures c.in_err-choice.was (λ xs. xs.items) c.from_residual.result c.from_residual.ensures.1
+
+pub returns : goal.returns
+returns c =
+    let x = c.args.self.now in
+    let f : ℕ → Result ℕ Place = improved_at (component_in x.chosen.component) x.chosen.policy.now (values_in x.values.now) in
+    let all : c.loop-s.s ≡ count (component_in x.chosen.component) = omega (arith, c.count-s-end.ensures) in
+    subst (λ n. up_to f n ≡ Ok c.loop-s.choices.items) all c.loop-s.invariant

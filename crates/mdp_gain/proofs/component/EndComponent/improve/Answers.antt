@@ -74,3 +74,6 @@ pub returns-in-Err-round-clause-entries : goal.returns-in-Err-round-clause-entri
 returns-in-Err-round-clause-entries c =
     subst (λ (e : PathError). HasEntries (component_in c.args.self.now) (Err e)) (sym c.path_error.ensures)
     (error_entries (component_in c.args.self.now) c.in-Err-round.error c.rounds.round c.rounds.policy (IsPolicy.len (IsStart.is c.rounds.invariant.start)))
+
+pub reference-requires-clause-start : goal.reference-requires-clause-start
+reference-requires-clause-start c = rw c.deref.ensures.value c.requires.start

@@ -1,4 +1,5 @@
-use Rattle.std.proofs.Common.{◌∙◌, List, sym, ap, ap₂}
+use Rattle.std.specs.List.{All}
+use Rattle.std.proofs.Common.{◌∙◌, List, sym, ap, ap₂, ◌<◌, subst}
 use Rattle.std.specs.Result.{result_ok}
 use Rattle.mdp_math.specs.Rational.{ℚ}
 use Rattle.mdp_spec.specs.Mdp.{Entry}
@@ -21,3 +22,9 @@ div-requires c =
     not_zero x.steps.now (row_by (component_in x.of.chosen.component) x.of.chosen.policy.now x.of.t) c.in_ok-steps.steps c.requires
     (ap₂ (λ (one : ℚ) (es : List Entry). written_sum x.steps.now one es) (sym c.whole.ensures) (sym c.row-row.ensures.row)
     ∙ sym c.sum-2.ensures ∙ ap result_ok (c.in_ok-steps.was {u = tt}))
+
+pub sum-requires-2 : goal.sum-requires-2
+sum-requires-2 c = subst (λ n. All (λ t. t < n) c.row-row.result.targets.now) (sym c.args.self.now.steps_each) c.row-row.ensures.in_range
+
+pub sum-requires : goal.sum-requires
+sum-requires c = subst (λ n. All (λ t. t < n) c.row-row.result.targets.now) (sym c.args.self.now.earned_each) c.row-row.ensures.in_range

@@ -1,3 +1,4 @@
+use Rattle.std.proofs.lemmas.List.{length-map}
 use Rattle.std.proofs.Common.{◌∙◌, Ok, Err, inr, length, map, sym, ap, arith, rules}
 use Rattle.std.proofs.lemmas.List.FromFn.{length-map-range_with_len}
 use Rattle.mdp_elim.specs.System.{IsSolution}
@@ -43,3 +44,8 @@ solve_leaving-requires-clause-active c = ap length (c.in_ok-active.ensures {u = 
 
 pub solve_leaving-requires-clause-some_columns : goal.solve_leaving-requires-clause-some_columns
 solve_leaving-requires-clause-some_columns c = inr (ap length c.deref.ensures.value ∙ (c.in_ok-sides.ensures {u = tt}).count)
+
+pub returns-in-Ok-clause-count : goal.returns-in-Ok-clause-count
+returns-in-Ok-clause-count c =
+    let n = simp length-map at (c.in-Ok.ensures {u = tt}).solves.0 in
+    omega (arith, n, ap length c.deref.ensures.value, (c.in_ok-sides.ensures {u = tt}).count)

@@ -14,3 +14,9 @@ loop-self-init c =
       met = rw c.in_ok-enter.ensures.met (new_mark self.met c.args.root h);
       kept = λ s e. rw c.in_ok-enter.ensures.met (kept_mark self.met c.args.root s h e);
     }
+
+pub loop-self-preserved : goal.loop-self-preserved
+loop-self-preserved c = record { search = c.in_ok-go_on.ensures.search; met = c.in_ok-go_on.ensures.kept c.args.root c.loop-self.invariant.met; kept = λ s e. c.in_ok-go_on.ensures.kept s (c.loop-self.invariant.kept s e) }
+
+pub go_on-requires-clause-edges : goal.go_on-requires-clause-edges
+go_on-requires-clause-edges c = c.requires.edges

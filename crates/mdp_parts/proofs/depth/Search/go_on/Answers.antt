@@ -1,7 +1,7 @@
 use Rattle.std.proofs.Common.{rules, vec_len, ◌≡◌, ℕ, ◌<◌, ◌+◌, List, length, get_or, set, sym, ap, ◌∙◌, subst, arith}
 use Rattle.std.specs.List.{All}
 use Rattle.mdp_graph.specs.Sets.{marked}
-use Rattle.mdp_parts.proofs.Searching.{top_below, goes_on, goes_on-less, goes_back, known_before, search_as, targets_below, target_below, at_default}
+use Rattle.mdp_parts.proofs.Searching.{top_below, goes_on, goes_on-less, goes_back, known_before, search_as, targets_below, target_below, at_default, goes_back-less}
 use Rattle.mdp_parts.proofs.depth.Search.go_on.Goals as goal
 
 pub first_unmet-requires-clause-in_range : goal.first_unmet-requires-clause-in_range
@@ -57,3 +57,17 @@ returns-in_ok-push-in-None-clause-search c =
     (λ k l. known_before c.args.edges.now c.args.self.now.way.items c.args.self.now.next.items c.args.self.now.met c.args.self.now.done.items c.args.top s c.requires.some c.requires.last (k + 1)
     (λ j lj le. sym (ap (λ (xs : List ℕ). marked c.args.self.now.met (get_or xs j 0)) e)
     ∙ c.in-None.ensures j (let n = ap (λ (xs : List ℕ). length xs) e in omega (arith, lj, l, n)) (omega (arith, le, c.index.ensures, from))) k (omega arith)))
+
+pub index_mut-requires : goal.index_mut-requires
+index_mut-requires c =
+    let s = c.requires.search in
+    let e = c.in_ok-enter-in-Some.ensures.next in
+    let top = top_below _ _ _ _ _ c.args.top s c.requires.some c.requires.last in
+    omega (arith, top, s.count_next, ap (λ (xs : List ℕ). length xs) e)
+
+pub returns-in_ok-push-in-None-clause-less : goal.returns-in_ok-push-in-None-clause-less
+returns-in_ok-push-in-None-clause-less c =
+    let s = c.requires.search in
+    let way = c.args.self.now.way in
+    let n : vec_len way ≡ length way.items = search rules in
+    rw (c.pop.ensures.rest, n) (goes_back-less c.args.edges.now way.items c.args.self.now.next.items c.args.self.now.met c.args.self.now.done.items c.args.top s c.requires.some c.requires.last)

@@ -49,3 +49,15 @@ pub returns-else-goes_on-clause-in_range : goal.returns-else-goes_on-clause-in_r
 returns-else-goes_on-clause-in_range g c =
     below_one (length
     (rows_of (g.P.ShortestPath.problem c.args.self.now.problem.now) c.args.self.now.policy.now)) c.args.s c.row-else-goes_on.result.targets.now c.row-else-goes_on.ensures.targets c.requires
+
+pub row-requires-clause-node : goal.row-requires-clause-node
+row-requires-clause-node g c = subst (λ n. c.args.s < n) (rows-len (g.P.ShortestPath.problem c.args.self.now.problem.now) c.args.self.now.policy.now) c.requires
+
+pub row-requires-clause-fits : goal.row-requires-clause-fits
+row-requires-clause-fits g c =
+    c.args.self.now.fit c.args.s (subst (λ n. c.args.s < n) (rows-len (g.P.ShortestPath.problem c.args.self.now.problem.now) c.args.self.now.policy.now) c.requires)
+
+pub row-requires-clause-choice : goal.row-requires-clause-choice
+row-requires-clause-choice g c =
+    can_take (g.P.ShortestPath.problem c.args.self.now.problem.now) c.args.self.now.policy.now c.args.self.now.is c.args.s
+    (subst (λ n. c.args.s < n) (rows-len (g.P.ShortestPath.problem c.args.self.now.problem.now) c.args.self.now.policy.now) c.requires)

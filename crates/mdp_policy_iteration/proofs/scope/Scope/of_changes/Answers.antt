@@ -1,4 +1,4 @@
-use Rattle.std.proofs.Common.{ℕ, ◌<◌, List, sym, subst, ◌∙◌}
+use Rattle.std.proofs.Common.{ℕ, ◌<◌, List, sym, subst, ◌∙◌, length}
 use Rattle.std.specs.List.{All}
 use Rattle.mdp_policy_iteration.specs.Problem.{count}
 use Rattle.mdp_readers.specs.Readers.{AreComingTo, AreWithReaders}
@@ -32,3 +32,6 @@ returns-clause-scope g c =
     found.ascend
     (subst (λ n. All (λ s. s < n) c.in_ok-compared.compared.items) c.requires.readers.each_node more.in_range)
     more.ascend
+
+pub with_readers-requires-clause-nodes : goal.with_readers-requires-clause-nodes
+with_readers-requires-clause-nodes g c = subst (λ (xs : List ℕ). All (λ s. s < length c.args.readers.now) xs) (sym c.deref-2.ensures.value) (c.in_ok-affected.ensures {u = tt}).in_range
