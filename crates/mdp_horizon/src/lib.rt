@@ -10,7 +10,6 @@ mod laws;
 mod objective;
 mod push;
 mod steps;
-mod totals;
 mod write;
 
 pub use bounded::Bounded;
@@ -18,5 +17,4 @@ pub use error::{HorizonError, HorizonPlace};
 pub use induction::{total, until};
 pub use laws::{between_law, total_law, until_law};
 pub use push::push_steps;
-pub use totals::write_total;
-pub use write::write_until;
+pub use write::{write_total, write_until};

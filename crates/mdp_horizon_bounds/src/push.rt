@@ -1,10 +1,10 @@
-ghost use Rattle.std.specs.Prelude.{◌≡◌, ◌<◌, ◌++◌, ◌∷◌, [], codes, decimal, length, OnOk};
+ghost use Rattle.std.specs.Prelude.{◌≡◌, ◌++◌, ◌∷◌, codes, decimal, length, OnOk, OnErr};
 ghost use Rattle.mdp_spec.specs.Mdp.{states_of};
 ghost use Rattle.mdp_spec.specs.Labels.{initial_of};
 ghost use Rattle.mdp_text.specs.Answer.{Keeps};
 ghost use Rattle.mdp_text.specs.Parts.{part_text};
-ghost use Rattle.mdp_text.specs.Spelling.{line, dir_text, quoted};
-ghost use Rattle.mdp_horizon_bounds.specs.Spelling.{version_text, claim_text, objective_text, plain_claim, lower_text, upper_text, start_text, init_text, state_text, state_lines};
+ghost use Rattle.mdp_text.specs.Spelling.{line, dir_text};
+ghost use Rattle.mdp_horizon_bounds.specs.Spelling.{version_text, claim_text, plain_claim, lower_text, upper_text, init_text, state_lines};
 
 use crate::claim::Claim;
 use mdp_num::{Frac, Memory};
@@ -12,57 +12,55 @@ use mdp_rows::{Dir, Model};
 use mdp_text::Part::{Bytes, Fraction, Whole};
 use mdp_text::{Part, push_parts};
 
-/// Appends the line of the version.
-pub(crate) fn push_version(out: &mut Vec<u8>) -> Result<(), Memory>
-    ensures text { OnOk result (out.new.items ≡ out.old.items ++ line version_text) }
-    ensures front { Keeps out.old.items out.new.items }
-{
-    push_parts(out, &[Bytes(b"mdp-horizon-bounds 1\n")])
-}
-
-/// The word of a direction, with the blanks around it.
+/// The line of the version, and the words before what a claim is about.
 fn front_of(dir: Dir) -> &'static [u8]
-    ensures { result.now ≡ codes "claim " ++ dir_text dir ++ codes " " }
+    ensures { result.now ≡ line version_text ++ (codes "claim " ++ (dir_text dir ++ codes " ")) }
 {
     match dir {
-        Dir::Max => b"claim max ",
-        Dir::Min => b"claim min ",
+        Dir::Max => b"mdp-horizon-bounds 1\nclaim max ",
+        Dir::Min => b"mdp-horizon-bounds 1\nclaim min ",
     }
 }
 
-/// Appends what was asked.
-fn push_objective(out: &mut Vec<u8>, claim: Claim<'_>) -> Result<(), Memory>
-    ensures text { OnOk result (out.new.items ≡ out.old.items ++ objective_text (plain_claim claim.entry)) }
-    ensures front { Keeps out.old.items out.new.items }
-{
-    match claim {
-        Claim::Until(stay, label) => push_parts(
-            out,
-            &[
-                Bytes(b"until \""),
-                Bytes(stay),
-                Bytes(b"\" \""),
-                Bytes(label),
-                Bytes(b"\""),
-            ],
-        ),
-        Claim::Total(name) => push_parts(out, &[Bytes(b"total \""), Bytes(name), Bytes(b"\"")]),
-    }
-}
-
-/// Appends the line of the claim.
+/// Appends the lines of the version and of the claim. After `Memory` the text is as before.
 pub(crate) fn push_claim(
     out: &mut Vec<u8>,
     dir: Dir,
     claim: Claim<'_>,
     steps: u64,
 ) -> Result<(), Memory>
-    ensures text { OnOk result (out.new.items ≡ out.old.items ++ line (claim_text dir (plain_claim claim.entry) steps)) }
+    ensures text { OnOk result (out.new.items ≡ out.old.items ++ (line version_text ++ line (claim_text dir (plain_claim claim.entry) steps))) }
     ensures front { Keeps out.old.items out.new.items }
+    ensures unchanged { OnErr result (out.new.items ≡ out.old.items) }
 {
-    push_parts(out, &[Bytes(front_of(dir))])?;
-    push_objective(out, claim)?;
-    push_parts(out, &[Bytes(b" "), Whole(steps), Bytes(b"\n")])
+    let front = Bytes(front_of(dir));
+    let steps = Whole(steps);
+    match claim {
+        Claim::Until(stay, label) => push_parts(
+            out,
+            &[
+                front,
+                Bytes(b"until \""),
+                Bytes(stay),
+                Bytes(b"\" \""),
+                Bytes(label),
+                Bytes(b"\" "),
+                steps,
+                Bytes(b"\n"),
+            ],
+        ),
+        Claim::Total(name) => push_parts(
+            out,
+            &[
+                front,
+                Bytes(b"total \""),
+                Bytes(name),
+                Bytes(b"\" "),
+                steps,
+                Bytes(b"\n"),
+            ],
+        ),
+    }
 }
 
 /// A lower value, `-inf` where it is missing.
@@ -93,7 +91,7 @@ fn push_values(
     lower: &Option<Frac>,
     upper: &Option<Frac>,
 ) -> Result<(), Memory>
-    ensures text { OnOk result (out.new.items ≡ out.old.items ++ (front.now ++ (decimal state ++ (32 ∷ (lower_text lower.now ++ (32 ∷ (upper_text upper.now ++ 10 ∷ []))))))) }
+    ensures text { OnOk result (out.new.items ≡ out.old.items ++ line (front.now ++ (decimal state ++ 32 ∷ (lower_text lower.now ++ 32 ∷ upper_text upper.now)))) }
     ensures front { Keeps out.old.items out.new.items }
 {
     push_parts(
@@ -108,19 +106,6 @@ fn push_values(
             Bytes(b"\n"),
         ],
     )
-}
-
-/// Appends the line of a given initial state.
-fn push_start(
-    out: &mut Vec<u8>,
-    state: u64,
-    lower: &Option<Frac>,
-    upper: &Option<Frac>,
-) -> Result<(), Memory>
-    ensures text { OnOk result (out.new.items ≡ out.old.items ++ line (start_text state lower.now upper.now)) }
-    ensures front { Keeps out.old.items out.new.items }
-{
-    push_values(out, b"init ", state, lower, upper)
 }
 
 /// Appends the line of the initial state.
@@ -139,23 +124,10 @@ pub(crate) fn push_init(
         Some(state) => {
             let low = lower[state as usize];
             let high = upper[state as usize];
-            push_start(out, u64::from(state), &low, &high)
+            push_values(out, b"init ", u64::from(state), &low, &high)
         }
         None => push_parts(out, &[Bytes(b"init -\n")]),
     }
-}
-
-/// Appends the line of a state.
-fn push_state(
-    out: &mut Vec<u8>,
-    state: u64,
-    lower: &Option<Frac>,
-    upper: &Option<Frac>,
-) -> Result<(), Memory>
-    ensures text { OnOk result (out.new.items ≡ out.old.items ++ line (state_text state lower.now upper.now)) }
-    ensures front { Keeps out.old.items out.new.items }
-{
-    push_values(out, b"state ", state, lower, upper)
 }
 
 /// Appends a line for each state.
@@ -169,7 +141,7 @@ pub(crate) fn push_states(
     ensures front { Keeps out.old.items out.new.items }
 {
     for s in 0..lower.len() {
-        push_state(out, s as u64, &lower[s], &upper[s])?;
+        push_values(out, b"state ", s as u64, &lower[s], &upper[s])?;
     }
     Ok(())
 }

@@ -6,12 +6,12 @@ use Rattle.std.proofs.lemmas.List.Elements.{All-from_recursion}
 use Rattle.mdp_math.specs.Gcd.{gcd, gcd_with_fuel}
 use Rattle.mdp_math.specs.Rational.{ℚ, of_int, ratio, le_ℚ, lt_ℚ, ◌+ℚ◌, ◌*ℚ◌, ◌≤ℚ◌, ◌<ℚ◌}
 use Rattle.mdp_math.proofs.Order.{0ℚ, <ℚ_irrefl, clash_ℚ}
-use Rattle.mdp_spec.specs.Mdp.{Mdp, states_of, choices_at, row_at, value_at}
+use Rattle.mdp_spec.specs.Mdp.{states_of, choices_at, row_at, value_at}
 use Rattle.mdp_spec.specs.Tree.{is_marked}
 use Rattle.mdp_spec.specs.Unit.{unit_of}
 use Rattle.mdp_spec.specs.Hit.{hit}
 use Rattle.mdp_spec.specs.Sub.{sub_of, policy_on}
-use Rattle.mdp_spec.proofs.Small.{choice, entry, half, one, state, back, back_goals}
+use Rattle.mdp_spec.proofs.Small.{entry, half, one, back, back_goals}
 use Rattle.mdp_subsystem_rules.specs.Kept.{kept_marks, spread}
 use Rattle.mdp_subsystem_rules.specs.Listed.{listed, marks_at, values_at, ranks_at}
 use Rattle.mdp_subsystem_rules.specs.Visits.{visit_flows}

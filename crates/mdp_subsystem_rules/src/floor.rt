@@ -1,4 +1,4 @@
-ghost use Rattle.std.specs.Prelude.{◌≡◌, ◌<◌, ◌↔◌, ◌||◌, not, length, [], ◌∷◌, ◌++◌, All, MatchOption, nat_lt, slice_index, false};
+ghost use Rattle.std.specs.Prelude.{◌≡◌, ◌<◌, ◌↔◌, ◌||◌, not, length, [], ◌∷◌, All, MatchOption, nat_lt, slice_index, false};
 ghost use Rattle.std.specs.Result.{result_ok};
 ghost use Rattle.mdp_math.specs.Rational.{lt_ℚ};
 ghost use Rattle.mdp_spec.specs.Bounds.{SubMin};
@@ -8,16 +8,14 @@ ghost use Rattle.mdp_spec.specs.Tree.{is_marked};
 ghost use Rattle.mdp_spec.specs.Written.{written_sum};
 ghost use Rattle.mdp_farkas.specs.Bellman.{sum_stands};
 ghost use Rattle.mdp_farkas.specs.Compare.{0ℚ};
-ghost use Rattle.mdp_farkas.specs.Verdict.{at_choices, verdict_of, IsYes, IfYes, objection_to};
+ghost use Rattle.mdp_farkas.specs.Verdict.{verdict_of, IsYes, IfYes, objection_to};
 ghost use Rattle.mdp_rows.specs.declared.dir.Dir.TheVariants.{Min};
 ghost use Rattle.mdp_subsystem_rules.specs.FloorChecks.{line_rank, line_values, value_checks, cover_check, cover_checks, fall_check};
-ghost use Rattle.mdp_subsystem_rules.specs.FloorChecks.{rank_checks, line_checks, checks_of_line, each_line, start_check, floor_checks, HoldsFloor};
-ghost use Rattle.mdp_subsystem_rules.specs.FlowChecks.{kept_check};
+ghost use Rattle.mdp_subsystem_rules.specs.FloorChecks.{rank_checks, line_checks, checks_of_line, each_line, floor_checks, HoldsFloor};
 ghost use Rattle.mdp_subsystem_rules.specs.Kept.{is_listed, kept_marks};
 ghost use Rattle.mdp_subsystem_rules.specs.Shape.{IsFloorShape};
 
 use crate::flow::kept_at;
-use crate::lines::place_of;
 use mdp_claims::FloorCert;
 use mdp_farkas::{
     Objection, OneCheck, Rule, StateTest, Verdict, at_least, at_most, each_choice, judged,
@@ -99,12 +97,12 @@ impl OneCheck for Falls<'_> {
 }
 
 impl Claimed<'_> {
-    /// On which line state `s` stands, if it is kept.
+    /// On which line state `s` stands, if it is kept. It takes time in proportion to the logarithm of the number of lines.
     fn line_of(self, s: u32) -> Option<usize>
         ensures { MatchOption result (is_listed self.entry.cert.now.kept.items s ≡ false)
             (λ i. (i < length self.entry.cert.now.kept.items) × (slice_index self.entry.cert.now.kept.items i ≡ s)) }
     {
-        place_of(self.cert.kept.as_slice(), s)
+        self.cert.kept.binary_search(&s).ok()
     }
 
     /// What state `s` counts as: a goal as 1, a kept state as the value of its line, any other state as 0.
@@ -135,23 +133,14 @@ impl Claimed<'_> {
         }
     }
 
-    /// The sum over a row of its probabilities times what its targets count as, added in the order of the targets. `Wide` where a written term of one
-    /// of these operations is past width.
-    fn row_sum(self, row: Row<'_>) -> Result<Frac, Wide>
-        requires { All (λ t. t < states_of self.model.now) row.targets.now }
-        ensures { result_ok result ≡ written_sum (line_values self.entry.model.now self.entry.goals.now self.entry.cert.now.kept.items self.entry.cert.now.values.items)
-            0ℚ (entries row.entry.targets.now row.entry.probs.now) }
-    {
-        row.sum_over(&Frac::whole(0), &self)
-    }
-
-    /// Whether a value is at most that sum.
+    /// Whether a value is at most the sum over a row of its probabilities times what its targets count as, added in the order of the targets. `Wide` where
+    /// a written term of one of these operations is past width.
     fn row_covers(self, row: Row<'_>, value: &Frac) -> Result<bool, Wide>
         requires { All (λ t. t < states_of self.model.now) row.targets.now }
         ensures { result_ok result ≡ sum_stands Min value.now (line_values self.entry.model.now self.entry.goals.now self.entry.cert.now.kept.items self.entry.cert.now.values.items)
             0ℚ (entries row.entry.targets.now row.entry.probs.now) }
     {
-        let sum = self.row_sum(row)?;
+        let sum = row.sum_over(&Frac::whole(0), &self)?;
         at_most(value, &sum)
     }
 
@@ -183,20 +172,6 @@ impl Claimed<'_> {
         each_choice(self.model, s, covers)
     }
 
-    /// An entry of the row of each choice at the kept state `s` leads to a rank below this one.
-    fn falls_at(self, s: u32, rank: u32) -> Result<(), Objection>
-        requires { s < states_of self.model.now }
-        ensures { result ≡ objection_to (at_choices self.entry.model.now s
-            (fall_check self.entry.model.now (line_rank self.entry.model.now self.entry.goals.now self.entry.cert.now.kept.items self.entry.cert.now.ranks.items) s rank)) }
-    {
-        let falls = Falls {
-            claimed: self,
-            state: s,
-            rank,
-        };
-        each_choice(self.model, s, falls)
-    }
-
     /// The kept state `s` has rank 0 where it is a goal or has value 0; else an entry of each row leads to a smaller rank.
     fn rank_at(self, s: u32, value: &Frac, rank: u32) -> Result<(), Objection>
         requires { s < states_of self.model.now }
@@ -206,21 +181,12 @@ impl Claimed<'_> {
         if ends_at(self.goals, s, value) {
             return judged(Ok(rank == 0), Rule::RankZero, s, None);
         }
-        self.falls_at(s, rank)
-    }
-
-    /// That the value and the rank of the kept state `s` stand so to those of its targets, and that it is no goal.
-    fn rules_at(self, s: u32, value: &Frac, rank: u32) -> Result<(), Objection>
-        requires { s < states_of self.model.now }
-        ensures { result ≡ objection_to (cover_checks self.entry.model.now self.entry.goals.now
-            (line_values self.entry.model.now self.entry.goals.now self.entry.cert.now.kept.items self.entry.cert.now.values.items) s value.now
-            ++ (rank_checks self.entry.model.now self.entry.goals.now
-            (line_rank self.entry.model.now self.entry.goals.now self.entry.cert.now.kept.items self.entry.cert.now.ranks.items) s value.now rank
-            ++ kept_check self.entry.goals.now s ∷ [])) }
-    {
-        self.covers_at(s, value)?;
-        self.rank_at(s, value, rank)?;
-        kept_at(self.goals, s)
+        let falls = Falls {
+            claimed: self,
+            state: s,
+            rank,
+        };
+        each_choice(self.model, s, falls)
     }
 
     /// The rules at the kept state `s` of this value and rank.
@@ -230,7 +196,9 @@ impl Claimed<'_> {
             self.entry.cert.now.values.items self.entry.cert.now.ranks.items s value.now rank) }
     {
         probability_at(s, value)?;
-        self.rules_at(s, value, rank)
+        self.covers_at(s, value)?;
+        self.rank_at(s, value, rank)?;
+        kept_at(self.goals, s)
     }
 
     /// The rules at the kept state of line `i`.
@@ -252,23 +220,15 @@ impl Claimed<'_> {
         Ok(())
     }
 
-    /// What the start counts as is at least the threshold.
-    fn start_at(self, start: u32, threshold: &Frac) -> Result<(), Objection>
-        requires { start < states_of self.model.now }
-        ensures { result ≡ objection_to (start_check self.entry.model.now self.entry.goals.now start threshold.now self.entry.cert.now.kept.items self.entry.cert.now.values.items ∷ []) }
-    {
-        let reaches = at_least(&self.counted(start), threshold);
-        judged_at(reaches, Rule::StartReachesThreshold, None, None)
-    }
-
-    /// All rules: those at each kept state, and that of the start.
+    /// All rules: those at each kept state, and that what the start counts as is at least the threshold.
     fn walk(self, start: u32, threshold: &Frac) -> Result<(), Objection>
         requires { start < states_of self.model.now }
         ensures { result ≡ objection_to (floor_checks self.entry.model.now self.entry.goals.now start threshold.now
             self.entry.cert.now.kept.items self.entry.cert.now.values.items self.entry.cert.now.ranks.items) }
     {
         self.each_line_at()?;
-        self.start_at(start, threshold)
+        let reaches = at_least(&self.counted(start), threshold);
+        judged_at(reaches, Rule::StartReachesThreshold, None, None)
     }
 }
 
@@ -280,19 +240,12 @@ fn probability_at(s: u32, value: &Frac) -> Result<(), Objection>
     judged(at_most(value, &Frac::whole(1)), Rule::Probability, s, None)
 }
 
-/// Whether a number is above 0.
-fn is_above_zero(value: &Frac) -> bool
-    ensures { result ≡ lt_ℚ 0ℚ value.now }
-{
-    value.sign() > 0
-}
-
 /// Whether state `s`, of this value, is a goal or has value 0.
 fn ends_at(goals: &Marks, s: u32, value: &Frac) -> bool
     requires { s < length goals.now }
     ensures { result ≡ (is_marked goals.now s || not (lt_ℚ 0ℚ value.now)) }
 {
-    goals.at(s) || !is_above_zero(value)
+    goals.at(s) || value.sign() <= 0
 }
 
 /// Whether the values and ranks show that each policy of the subsystem with these kept states reaches a goal from the start with a probability of at

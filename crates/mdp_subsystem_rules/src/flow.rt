@@ -1,10 +1,9 @@
 ghost use Rattle.std.specs.Prelude.{◌≡◌, ◌<◌, ◌↔◌, length, [], ◌∷◌, ◌++◌, map, All, IfOk, OnOk};
 ghost use Rattle.mdp_spec.specs.Bounds.{SubMax, SubMaxWithin};
 ghost use Rattle.mdp_spec.specs.Mdp.{states_of};
-ghost use Rattle.mdp_farkas.specs.Reach.{choice_exists};
 ghost use Rattle.mdp_farkas.specs.Verdict.{verdict_of, IsYes, IfYes, objection_to};
 ghost use Rattle.mdp_subsystem_rules.specs.Flow.{flow_total};
-ghost use Rattle.mdp_subsystem_rules.specs.FlowChecks.{kept_check, flow_check, checks_at, each_flow, balance_check, arrival_check, sum_checks, checks_from, flow_checks, HoldsFlow};
+ghost use Rattle.mdp_subsystem_rules.specs.FlowChecks.{kept_check, flow_check, checks_at, each_flow, balance_check, sum_checks, checks_from, flow_checks, HoldsFlow};
 ghost use Rattle.mdp_subsystem_rules.specs.Kept.{kept_marks};
 ghost use Rattle.mdp_subsystem_rules.specs.Shape.{IsFlowShape};
 ghost use Rattle.mdp_subsystem_rules.specs.Sums.{AreSums, after_flow, after_flows};
@@ -14,7 +13,8 @@ use crate::sums::Sums;
 use crate::walk::each_kept;
 use mdp_claims::{Flow, FlowCert};
 use mdp_farkas::{
-    Objection, OneCheck, Rule, Verdict, at_least, at_most, judged, judged_at, verdict_after,
+    Objection, OneCheck, Rule, Verdict, at_least, at_most, choice_at, judged, judged_at,
+    verdict_after,
 };
 use mdp_num::{Frac, Memory, Wide};
 use mdp_rows::{Marks, Model};
@@ -44,20 +44,6 @@ impl OneCheck for Goals<'_> {
     }
 }
 
-/// The flow's state has its choice.
-fn choice_at(model: &Model, flow: &Flow) -> Result<(), Objection>
-    requires { flow.now.state < states_of model.now }
-    ensures { result ≡ objection_to (choice_exists model.now flow.now.state flow.now.choice ∷ []) }
-{
-    let exists = flow.choice < model.choices(flow.state);
-    judged(
-        Ok(exists),
-        Rule::ChoiceExists,
-        flow.state,
-        Some(flow.choice),
-    )
-}
-
 /// The flow's state is kept and its amount above 0.
 fn amount_at(kept: &Marks, flow: &Flow) -> Result<(), Objection>
     requires { flow.now.state < length kept.now }
@@ -81,35 +67,25 @@ impl OneCheck for Balances<'_> {
 
     /// What leaves the kept state `s` is at most what comes in.
     fn check_at(self, s: u32) -> Result<(), Objection> {
-        judged(
-            at_most(&self.sums.outflow(s), &self.sums.inflow(s)),
-            Rule::FlowsBalance,
-            s,
-            None,
-        )
+        let sums = self.sums;
+        let balances = at_most(&sums.outflows[s as usize], &sums.inflows[s as usize]);
+        judged(balances, Rule::FlowsBalance, s, None)
     }
 }
 
-/// What comes to the goals is at least the threshold.
-fn arrival_at(sums: &Sums, threshold: &Frac) -> Result<(), Objection>
-    ensures { result ≡ objection_to (arrival_check sums.now threshold.now ∷ []) }
-{
-    judged_at(
-        at_least(&sums.goal(), threshold),
-        Rule::FlowsReachGoals,
-        None,
-        None,
-    )
-}
-
-/// The rules on the sums.
+/// The rules on the sums: those at each kept state, and that what comes to the goals is at least the threshold.
 fn sums_at(sums: &Sums, kept: &[u32], threshold: &Frac) -> Result<(), Objection>
     requires same_length { length sums.now.outflows ≡ length sums.now.inflows }
     requires kept { All (λ s. s < length sums.now.outflows) kept.now }
     ensures { result ≡ objection_to (sum_checks kept.now threshold.now sums.now) }
 {
     each_kept(kept, Balances { sums })?;
-    arrival_at(sums, threshold)
+    judged_at(
+        at_least(&sums.goal, threshold),
+        Rule::FlowsReachGoals,
+        None,
+        None,
+    )
 }
 
 /// Kept states and flows that are held against a model, with a mark for each kept state.
@@ -133,7 +109,7 @@ impl Claimed<'_> {
         ensures verdict { result ≡ objection_to (checks_at self.entry.model.now self.entry.goals.now self.entry.kept.now sums.old flow.now) }
         ensures sums { OnOk result (sums.new ≡ after_flow self.entry.model.now self.entry.goals.now sums.old flow.now) }
     {
-        choice_at(self.model, flow)?;
+        choice_at(self.model, flow.state, flow.choice)?;
         amount_at(self.kept, flow)?;
         match sums.add_flow(self.model, self.goals, flow) {
             Ok(()) => Ok(()),
@@ -157,15 +133,6 @@ impl Claimed<'_> {
         Ok(())
     }
 
-    /// The rules at the flows and on their sums.
-    fn flows_walk(self, threshold: &Frac, sums: &mut Sums) -> Result<(), Objection>
-        requires sums { AreSums (states_of self.model.now) sums.old }
-        ensures { result ≡ objection_to (checks_from self.entry.model.now self.entry.goals.now threshold.now self.entry.cert.now.kept.items self.entry.cert.now.flows.items sums.old) }
-    {
-        self.each_flow_at(sums, self.cert.flows.as_slice())?;
-        sums_at(sums, self.cert.kept.as_slice(), threshold)
-    }
-
     /// All rules: those at the kept states, at the flows and on their sums.
     fn walk(self, threshold: &Frac, sums: &mut Sums) -> Result<(), Objection>
         requires sums { AreSums (states_of self.model.now) sums.old }
@@ -173,7 +140,8 @@ impl Claimed<'_> {
     {
         let goals = Goals { goals: self.goals };
         each_kept(self.cert.kept.as_slice(), goals)?;
-        self.flows_walk(threshold, sums)
+        self.each_flow_at(sums, self.cert.flows.as_slice())?;
+        sums_at(sums, self.cert.kept.as_slice(), threshold)
     }
 }
 

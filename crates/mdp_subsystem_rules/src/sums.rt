@@ -1,5 +1,5 @@
 ghost use Rattle.std.specs.Prelude.{◌≡◌, ◌<◌, length, All, IfOk, MatchResult, Some, None};
-ghost use Rattle.mdp_spec.specs.Mdp.{Entry, states_of, choices_at, value_at};
+ghost use Rattle.mdp_spec.specs.Mdp.{Entry, states_of, choices_at};
 ghost use Rattle.mdp_spec.specs.Row.{entries};
 ghost use Rattle.mdp_subsystem_rules.specs.Flow.{goal_source};
 ghost use Rattle.mdp_subsystem_rules.specs.Sums.{AreSums, first_sums, with_outflow, with_goal, with_inflow, with_entry, with_row, with_flow};
@@ -12,9 +12,9 @@ use std::alloc::Global;
 /// What a flow sums to: what leaves each state, what comes to each state that is no goal, and what comes to all goals together.
 #[derive(Drop)]
 pub(crate) struct Sums {
-    outflows: Vec<Frac>,
-    inflows: Vec<Frac>,
-    goal: Frac,
+    pub outflows: Vec<Frac>,
+    pub inflows: Vec<Frac>,
+    pub goal: Frac,
 }
 
 impl std::marker::Model for Sums {
@@ -48,29 +48,6 @@ impl Sums {
             inflows,
             goal: goal_start(goals, start),
         })
-    }
-
-    /// What leaves state `s`.
-    pub(crate) fn outflow(&self, s: u32) -> Frac
-        requires { s < length self.now.outflows }
-        ensures { result ≡ value_at self.now.outflows s }
-    {
-        self.outflows[s as usize]
-    }
-
-    /// What comes to state `s`.
-    pub(crate) fn inflow(&self, s: u32) -> Frac
-        requires { s < length self.now.inflows }
-        ensures { result ≡ value_at self.now.inflows s }
-    {
-        self.inflows[s as usize]
-    }
-
-    /// What comes to the goals.
-    pub(crate) fn goal(&self) -> Frac
-        ensures { result ≡ self.now.goal }
-    {
-        self.goal
     }
 
     /// An amount leaves state `s`.

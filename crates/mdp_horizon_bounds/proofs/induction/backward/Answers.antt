@@ -1,5 +1,5 @@
-use Rattle.std.proofs.Common.{◌∙◌, length, ap}
-use Rattle.mdp_horizon_bounds.specs.Columns.{cover_next, follow_next, choices_next}
+use Rattle.std.proofs.Common.{◌≡◌, ℕ, ◌∙◌, length, ap, subst, arith}
+use Rattle.mdp_horizon_bounds.specs.Columns.{cover, follow, cover_next, follow_next, choices_next}
 use Rattle.mdp_horizon_bounds.specs.Code.{plain_objective}
 use Rattle.mdp_horizon_bounds.proofs.Steps.{cover_states, follow_states, cover_more, follow_more, table_more}
 use Rattle.mdp_horizon_bounds.proofs.induction.backward.Goals as goal
@@ -27,3 +27,13 @@ loop-done-preserved c =
       choices = table_more dir one m o c.loop-done.done c.loop-done.table.items _ _ (c.in_ok-push.ensures {u = tt}).items c.loop-done.invariant.choices
           (made.choices ∙ ap (choices_next dir one m o) (c.deref-in-loop-done-2.ensures.value ∙ c.loop-done.invariant.follows));
     }
+
+pub returns-clause-cover : goal.returns-clause-cover
+returns-clause-cover c =
+    let e : c.loop-done.done ≡ c.args.steps = omega arith in
+    subst (λ (n : ℕ). c.loop-done.cover.items ≡ cover c.args.query.dir c.args.query.one c.args.query.model.now (plain_objective c.args.query.objective) n) e c.loop-done.invariant.covers
+
+pub returns-clause-follow : goal.returns-clause-follow
+returns-clause-follow c =
+    let e : c.loop-done.done ≡ c.args.steps = omega arith in
+    subst (λ (n : ℕ). c.loop-done.follow.items ≡ follow c.args.query.dir c.args.query.one c.args.query.model.now (plain_objective c.args.query.objective) n) e c.loop-done.invariant.follows

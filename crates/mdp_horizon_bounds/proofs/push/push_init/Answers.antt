@@ -23,8 +23,8 @@ returns-in-Some-clause-text c =
     let k = c.requires.upper in
     let inside : s < length lower = omega (arith, lt, n) in
     let within : s < length upper = omega (arith, lt, k) in
-    subst (λ (t : List ℕ). OnOk c.push_start.result (c.push_start.new.out.items ≡ c.args.out.now.items ++ line t))
+    subst (λ (t : List ℕ). OnOk c.push_values.result (c.push_values.new.out.items ≡ c.args.out.now.items ++ line t))
     (ap (λ (n : ℕ). start_text n c.index-lower-state.result c.index-upper-state.result) c.from.ensures
     ∙ ap₂ (start_text s) (c.index-lower-state.is ∙ get_or_default lower s c.index-lower-state.result (Some (of_int (pos 0))) inside)
     (c.index-upper-state.is ∙ get_or_default upper s c.index-upper-state.result (Some (of_int (pos 0))) within)
-    ∙ ap (λ (o : Option ℕ). init_text o lower upper) c.in-Some.ensures) c.push_start.ensures.text
+    ∙ ap (λ (o : Option ℕ). init_text o lower upper) c.in-Some.ensures) c.push_values.ensures.text

@@ -1,7 +1,10 @@
-use Rattle.std.proofs.Common.{List, [], ◌∷◌, map}
+use Rattle.std.proofs.Common.{Bool, Option, None, List, [], ◌∷◌, map, ap, ◌∙◌}
 use Rattle.std.proofs.lemmas.Result.{err_from_is_err_and}
-use Rattle.mdp_farkas.specs.Verdict.{Check}
+use Rattle.mdp_farkas.specs.Compare.{is_at_least}
+use Rattle.mdp_farkas.specs.Verdict.{Check, objection_to}
+use Rattle.mdp_claims.specs.declared.rule.Rule.TheVariants.{FlowsReachGoals}
 use Rattle.mdp_subsystem_rules.specs.FlowChecks.{balance_check, arrival_check}
+use Rattle.mdp_subsystem_rules.specs.Sums.{FlowSums}
 use Rattle.mdp_farkas.proofs.Objections.{halts, goes_on}
 use Rattle.mdp_subsystem_rules.proofs.flow.sums_at.Goals as goal
 
@@ -16,4 +19,7 @@ pub returns : goal.returns
 returns c =
     let balances = map (balance_check c.args.sums.now) c.args.kept.now in
     let arrival : List Check = arrival_check c.args.sums.now c.args.threshold.now ∷ [] in
-    goes_on balances arrival tt c.arrival_at.result (c.in_ok-each_kept.ensures {u = tt}) c.arrival_at.ensures
+    goes_on balances arrival tt c.judged_at.result (c.in_ok-each_kept.ensures {u = tt})
+    (c.judged_at.ensures
+    ∙ ap (λ (holds : Option Bool). objection_to (record { rule = FlowsReachGoals; state = None; choice = None; holds = holds } ∷ []))
+    (c.at_least.ensures ∙ ap (λ (sums : FlowSums). is_at_least sums.goal c.args.threshold.now) c.sums.view_is))

@@ -1,9 +1,9 @@
-use Rattle.std.proofs.Common.{Ok, Result, ap, arith}
+use Rattle.std.proofs.Common.{◌≡◌, ℕ, Ok, Result, ap, subst, arith}
 use Rattle.std.proofs.lemmas.Result.{err_from_is_err_and}
 use Rattle.mdp_math.specs.Result.{◌>>=◌}
 use Rattle.mdp_spec.specs.Mdp.{states_of}
 use Rattle.mdp_horizon.specs.Choices.{Best}
-use Rattle.mdp_horizon.specs.Written.{Place, Row, backup, next_state, no_states, with_state}
+use Rattle.mdp_horizon.specs.Written.{Place, Row, in_turn, backup, next_state, no_states, with_state}
 use Rattle.mdp_horizon.specs.Code.{plain_objective}
 use Rattle.mdp_horizon.specs.Answer.{row_of}
 use Rattle.mdp_horizon.proofs.Turns.{in_turn-refused, says_of, says_then, says_same, answers_err}
@@ -20,3 +20,10 @@ returns-in_err-leader c =
     (λ w h. in_turn-refused f (Ok no_states) c.loop-s.s (states_of m) (row_of c.loop-s.made) w c.loop-s.invariant
     (ap (λ (r : Result Best Place). let q : Result Row Place = r >>= (λ x. Ok (with_state (row_of c.loop-s.made) x)) in q) h) (omega arith))
     (says_of _ c.backup.result c.in_err-leader.field-0.0 _ c.backup.ensures c.in_err-leader.was)))
+
+pub returns : goal.returns
+returns c =
+    let m = c.args.self.model.now in
+    let f = next_state c.args.self.dir m (plain_objective c.args.self.objective) c.args.depth c.args.values.now in
+    let e : c.loop-s.s ≡ states_of m = omega arith in
+    subst (λ (n : ℕ). in_turn f (Ok no_states) n ≡ Ok (row_of c.loop-s.made)) e c.loop-s.invariant

@@ -1,5 +1,7 @@
-use Rattle.std.proofs.Common.{◌∙◌, ◌-◌, sym, arith}
+use Rattle.std.proofs.Common.{◌≡◌, ℕ, ◌∙◌, ◌-◌, Ok, length, sym, subst, arith}
 use Rattle.std.proofs.lemmas.Result.{err_from_is_err_and, IfErr-at_err}
+use Rattle.mdp_spec.specs.Mdp.{choices_at}
+use Rattle.mdp_horizon.specs.Written.{in_turn, first_choice, next_choice}
 use Rattle.mdp_horizon.specs.Code.{plain_objective}
 use Rattle.mdp_horizon.specs.Answer.{shown}
 use Rattle.mdp_horizon.proofs.Turns.{placed-err, says, answers_err}
@@ -24,3 +26,11 @@ returns-in_err-leader c =
     (says c.args.depth c.args.s c.loop-c.c e.0 _ (e.2 ∙ wide.error_is)
     (choice-refused c.args.self.dir c.args.self.model.now (plain_objective c.args.self.objective) c.args.depth c.args.values.now c.args.s
     (c.loop-c.c - 1) c.loop-c.c (shown c.loop-c.leader) c.loop-c.invariant none (omega arith) (omega arith)))
+
+pub returns : goal.returns
+returns c =
+    let m = c.args.self.model.now in
+    let o = plain_objective c.args.self.objective in
+    let e : c.loop-c.c - 1 ≡ length (choices_at m c.args.s) - 1 = omega arith in
+    subst (λ (n : ℕ). in_turn (next_choice c.args.self.dir m o c.args.depth c.args.values.now c.args.s) (first_choice m o c.args.depth c.args.values.now c.args.s) n ≡ Ok (shown c.loop-c.leader))
+    e c.loop-c.invariant

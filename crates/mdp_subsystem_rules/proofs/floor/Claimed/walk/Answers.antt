@@ -1,8 +1,12 @@
-use Rattle.std.proofs.Common.{List, [], ◌∷◌}
+use Rattle.std.proofs.Common.{Bool, Option, None, List, [], ◌∷◌, ap, ◌∙◌}
 use Rattle.std.proofs.lemmas.Result.{err_from_is_err_and}
-use Rattle.mdp_farkas.specs.Verdict.{Check}
-use Rattle.mdp_subsystem_rules.specs.FloorChecks.{each_line, start_check}
+use Rattle.mdp_math.specs.Rational.{ℚ}
+use Rattle.mdp_farkas.specs.Compare.{is_at_least}
+use Rattle.mdp_farkas.specs.Verdict.{Check, objection_to}
 use Rattle.mdp_farkas.proofs.Objections.{halts, goes_on}
+use Rattle.mdp_claims.specs.declared.rule.Rule.TheVariants.{StartReachesThreshold}
+use Rattle.mdp_subsystem_rules.specs.FloorChecks.{each_line, start_check}
+use Rattle.mdp_subsystem_rules.proofs.Counted.{line_values-at}
 use Rattle.mdp_subsystem_rules.proofs.floor.Claimed.walk.Goals as goal
 
 pub returns-in_err-each_line_at : goal.returns-in_err-each_line_at
@@ -22,4 +26,9 @@ returns c =
     let cert = c.args.self.cert.now in
     let lines = each_line m goals cert.kept.items cert.values.items cert.ranks.items in
     let starts : List Check = start_check m goals c.args.start c.args.threshold.now cert.kept.items cert.values.items ∷ [] in
-    goes_on lines starts tt c.start_at.result (c.in_ok-each_line_at.ensures {u = tt}) c.start_at.ensures
+    goes_on lines starts tt c.judged_at.result (c.in_ok-each_line_at.ensures {u = tt})
+    (c.judged_at.ensures
+    ∙ ap (λ (holds : Option Bool). objection_to (record { rule = StartReachesThreshold; state = None; choice = None; holds = holds } ∷ []))
+    (c.at_least-reaches.ensures
+    ∙ ap (λ (x : ℚ). is_at_least x c.args.threshold.now)
+    (c.counted.ensures ∙ line_values-at m goals cert.kept.items cert.values.items c.args.start c.requires)))

@@ -2,9 +2,9 @@ use Rattle.std.proofs.Common.{List, [], ◌∷◌, ◌++◌}
 use Rattle.std.proofs.lemmas.Result.{err_from_is_err_and}
 use Rattle.mdp_farkas.specs.Verdict.{Check}
 use Rattle.mdp_farkas.proofs.Objections.{halts, goes_on}
-use Rattle.mdp_subsystem_rules.specs.FloorChecks.{cover_checks, rank_checks, line_rank, line_values}
+use Rattle.mdp_subsystem_rules.specs.FloorChecks.{value_checks, cover_checks, rank_checks, line_rank, line_values}
 use Rattle.mdp_subsystem_rules.specs.FlowChecks.{kept_check}
-use Rattle.mdp_subsystem_rules.proofs.floor.Claimed.rules_at.Goals as goal
+use Rattle.mdp_subsystem_rules.proofs.floor.Claimed.state_at.Goals as goal
 
 pub returns-in_err-covers_at : goal.returns-in_err-covers_at
 returns-in_err-covers_at c =
@@ -12,9 +12,10 @@ returns-in_err-covers_at c =
     let goals = c.args.self.goals.now in
     let cert = c.args.self.cert.now in
     let covers = cover_checks m goals (line_values m goals cert.kept.items cert.values.items) c.args.s c.args.value.now in
-    let ranks = rank_checks m goals (line_rank m goals cert.kept.items cert.ranks.items) c.args.s c.args.value.now c.args.rank in
-    let p = err_from_is_err_and c.from_residual.result c.from_residual.ensures.1 in
-    rw (p.1, p.2) (halts covers (ranks ++ kept_check goals c.args.s ∷ []) c.in_err-covers_at.field-0.0 (c.in_err-covers_at.ensures {u = tt}))
+    let rest = rank_checks m goals (line_rank m goals cert.kept.items cert.ranks.items) c.args.s c.args.value.now c.args.rank ++ kept_check goals c.args.s ∷ [] in
+    let p = err_from_is_err_and c.from_residual-in_err-covers_at.result c.from_residual-in_err-covers_at.ensures.1 in
+    rw (p.1, p.2)
+    (goes_on (value_checks c.args.s c.args.value.now) (covers ++ rest) tt _ (c.in_ok-probability_at.ensures {u = tt}) (halts covers rest c.in_err-covers_at.field-0.0 (c.in_err-covers_at.ensures {u = tt})))
 
 pub returns-in_err-rank_at : goal.returns-in_err-rank_at
 returns-in_err-rank_at c =
@@ -25,7 +26,9 @@ returns-in_err-rank_at c =
     let ranks = rank_checks m goals (line_rank m goals cert.kept.items cert.ranks.items) c.args.s c.args.value.now c.args.rank in
     let last : List Check = kept_check goals c.args.s ∷ [] in
     let p = err_from_is_err_and c.from_residual-in_err-rank_at.result c.from_residual-in_err-rank_at.ensures.1 in
-    rw (p.1, p.2) (goes_on covers (ranks ++ last) tt _ (c.in_ok-covers_at.ensures {u = tt}) (halts ranks last c.in_err-rank_at.field-0.0 (c.in_err-rank_at.ensures {u = tt})))
+    rw (p.1, p.2)
+    (goes_on (value_checks c.args.s c.args.value.now) (covers ++ (ranks ++ last)) tt _ (c.in_ok-probability_at.ensures {u = tt})
+    (goes_on covers (ranks ++ last) tt _ (c.in_ok-covers_at.ensures {u = tt}) (halts ranks last c.in_err-rank_at.field-0.0 (c.in_err-rank_at.ensures {u = tt}))))
 
 pub returns : goal.returns
 returns c =
@@ -35,4 +38,5 @@ returns c =
     let covers = cover_checks m goals (line_values m goals cert.kept.items cert.values.items) c.args.s c.args.value.now in
     let ranks = rank_checks m goals (line_rank m goals cert.kept.items cert.ranks.items) c.args.s c.args.value.now c.args.rank in
     let last : List Check = kept_check goals c.args.s ∷ [] in
-    goes_on covers (ranks ++ last) tt c.kept_at.result (c.in_ok-covers_at.ensures {u = tt}) (goes_on ranks last tt c.kept_at.result (c.in_ok-rank_at.ensures {u = tt}) c.kept_at.ensures)
+    goes_on (value_checks c.args.s c.args.value.now) (covers ++ (ranks ++ last)) tt c.kept_at.result (c.in_ok-probability_at.ensures {u = tt})
+    (goes_on covers (ranks ++ last) tt c.kept_at.result (c.in_ok-covers_at.ensures {u = tt}) (goes_on ranks last tt c.kept_at.result (c.in_ok-rank_at.ensures {u = tt}) c.kept_at.ensures))
