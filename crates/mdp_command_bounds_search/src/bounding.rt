@@ -27,9 +27,13 @@ fn bounds_of_label(
     let Some(place) = model.label(label) else {
         return Err(Refusal::QueryLabel);
     };
-    let goals = model.marks_of(alloc, place)?;
-    let bounds = bounds_reach(alloc, model, &goals, dir, digits)?;
-    Ok(BoundsBody::Reach(bounds))
+    let Ok(goals) = model.marks_of(alloc, place) else {
+        return Err(Refusal::Memory);
+    };
+    match bounds_reach(alloc, model, &goals, dir, digits) {
+        Ok(bounds) => Ok(BoundsBody::Reach(bounds)),
+        Err(_) => Err(Refusal::Memory),
+    }
 }
 
 /// Bounds of the rewards of a name until a label, or the first refusal: the name is looked up first, then the label, then it is asked whether a reward of
@@ -56,9 +60,13 @@ fn bounds_of_reward(
     if model.negative(reward) {
         return Err(Refusal::QueryNegative);
     }
-    let goals = model.marks_of(alloc, place)?;
-    let bounds = bounds_reward(alloc, model, reward, &goals, dir, digits)?;
-    Ok(BoundsBody::Reward(bounds))
+    let Ok(goals) = model.marks_of(alloc, place) else {
+        return Err(Refusal::Memory);
+    };
+    match bounds_reward(alloc, model, reward, &goals, dir, digits) {
+        Ok(bounds) => Ok(BoundsBody::Reward(bounds)),
+        Err(_) => Err(Refusal::Memory),
+    }
 }
 
 /// Bounds of the mean payoffs of a name, or the refusal of a name that isn't there.
@@ -77,8 +85,10 @@ fn bounds_of_mean(
     let Some(reward) = model.reward_named(name) else {
         return Err(Refusal::QueryReward);
     };
-    let bounds = bounds_mean(alloc, model, reward, dir, digits)?;
-    Ok(BoundsBody::Mean(bounds))
+    match bounds_mean(alloc, model, reward, dir, digits) {
+        Ok(bounds) => Ok(BoundsBody::Mean(bounds)),
+        Err(_) => Err(Refusal::Memory),
+    }
 }
 
 /// Bounds of a query, or its refusal.

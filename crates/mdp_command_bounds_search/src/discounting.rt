@@ -22,8 +22,10 @@ fn certificate_text(alloc: Global, cert: &DiscountBoundsCert) -> Result<Vec<u8>,
     ensures { (said result ≡ Err no_memory) ⊎ (said result ≡ Ok (text_of (plain cert.now))) }
 {
     let mut text = Vec::new(alloc);
-    write_discount_bounds(cert, &mut text)?;
-    Ok(text)
+    match write_discount_bounds(cert, &mut text) {
+        Ok(()) => Ok(text),
+        Err(_) => Err(Refusal::Memory),
+    }
 }
 
 /// The text of a certificate of bounds of the discounted rewards of a name, or the refusal of a name that isn't there.
@@ -45,8 +47,12 @@ fn bounds_named(
     let Some(place) = model.reward_named(name) else {
         return Err(Refusal::QueryReward);
     };
-    let bounds = bounds_discount(alloc, model, place, dir, &factor, digits)?;
-    let cert = certificate_of(alloc, model, place, dir, name, factor, bounds)?;
+    let Ok(bounds) = bounds_discount(alloc, model, place, dir, &factor, digits) else {
+        return Err(Refusal::Memory);
+    };
+    let Ok(cert) = certificate_of(alloc, model, place, dir, name, factor, bounds) else {
+        return Err(Refusal::Memory);
+    };
     certificate_text(alloc, &cert)
 }
 
@@ -66,6 +72,8 @@ pub fn bounds_discount_file<S: Source>(
     ensures read { IsDiscountBoundsRead rule dir name.now factor (input S.left S.faults model.old model.new) (said result) }
     ensures end { OnOk (said result) (IsAtEnd (S.left model.new)) }
 {
-    let model = read_model(alloc, model, rule)?;
-    bounds_named(alloc, &model, dir, name, factor, digits)
+    match read_model(alloc, model, rule) {
+        Ok(model) => bounds_named(alloc, &model, dir, name, factor, digits),
+        Err(refusal) => Err(refusal),
+    }
 }

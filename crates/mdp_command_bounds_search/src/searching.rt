@@ -20,8 +20,10 @@ fn certificate_text(alloc: Global, cert: &BoundsCert) -> Result<Vec<u8>, Refusal
     ensures { (said result ≡ Err no_memory) ⊎ (said result ≡ Ok (text_of (plain cert.now))) }
 {
     let mut text = Vec::new(alloc);
-    write_bounds(cert, &mut text)?;
-    Ok(text)
+    match write_bounds(cert, &mut text) {
+        Ok(()) => Ok(text),
+        Err(_) => Err(Refusal::Memory),
+    }
 }
 
 /// The text of a certificate of bounds of a query, or the refusal of a query that doesn't fit the model.
@@ -38,8 +40,13 @@ fn bounds_text(
     model.known();
     bounds_checking_law();
     bounds_text_law();
-    let body = bounds_of_query(alloc, model, dir, query, digits)?;
-    let claim = claim_of(alloc, dir, query)?;
+    let body = match bounds_of_query(alloc, model, dir, query, digits) {
+        Ok(body) => body,
+        Err(refusal) => return Err(refusal),
+    };
+    let Ok(claim) = claim_of(alloc, dir, query) else {
+        return Err(Refusal::Memory);
+    };
     let cert = certificate_of(model, claim, body);
     certificate_text(alloc, &cert)
 }
@@ -58,6 +65,8 @@ pub fn bounds_file<S: Source>(
     ensures read { IsBoundsRead rule dir (plain_query query.entry) (input S.left S.faults model.old model.new) (said result) }
     ensures end { OnOk (said result) (IsAtEnd (S.left model.new)) }
 {
-    let model = read_model(alloc, model, rule)?;
-    bounds_text(alloc, &model, dir, query, digits)
+    match read_model(alloc, model, rule) {
+        Ok(model) => bounds_text(alloc, &model, dir, query, digits),
+        Err(refusal) => Err(refusal),
+    }
 }

@@ -21,8 +21,10 @@ fn text_of(alloc: Global, model: &Model) -> Result<Vec<u8>, Refusal>
     ensures { (said result ≡ Err no_memory) ⊎ (said result ≡ Ok (text_of model.now)) }
 {
     let mut text = Vec::new(alloc);
-    write(model, &mut text)?;
-    Ok(text)
+    match write(model, &mut text) {
+        Ok(()) => Ok(text),
+        Err(_) => Err(Refusal::Memory),
+    }
 }
 
 /// The text of a policy's chain, or its refusal: the number of states first, then the choices.
@@ -45,8 +47,10 @@ fn of_text(alloc: Global, model: &Model, bytes: &[u8]) -> Result<Vec<u8>, Refusa
     ensures due { (said result ≡ Err no_memory) ⊎ IsTextDue model.now (choices_in bytes.now) (said result) }
     ensures not_of_model { is_of_model (said result) ≡ false }
 {
-    let policy = choices_in(alloc, bytes)?;
-    of_policy(alloc, model, &policy)
+    match choices_in(alloc, bytes) {
+        Ok(policy) => of_policy(alloc, model, &policy),
+        Err(refusal) => Err(refusal),
+    }
 }
 
 /// Reads the policy to its end and judges its text, then gives its chain in the model.
@@ -55,8 +59,10 @@ fn of_source<C: Source>(alloc: Global, model: &Model, second: &mut C) -> Result<
     ensures not_of_model { is_of_model (said result) ≡ false }
     ensures end { OnOk (said result) (IsAtEnd (C.left second.new)) }
 {
-    let bytes = read_second(alloc, second)?;
-    of_text(alloc, model, &bytes)
+    match read_second(alloc, second) {
+        Ok(bytes) => of_text(alloc, model, &bytes),
+        Err(refusal) => Err(refusal),
+    }
 }
 
 /// Reads the model to its end and judges its text, then the second source's, which is a policy or a certificate that names one, and gives the text
@@ -74,6 +80,8 @@ pub fn chain_file<S: Source, C: Source>(
 {
     command_chain_law();
     model_law();
-    let model = read_model(alloc, model, rule)?;
-    of_source(alloc, &model, second)
+    match read_model(alloc, model, rule) {
+        Ok(model) => of_source(alloc, &model, second),
+        Err(refusal) => Err(refusal),
+    }
 }

@@ -49,8 +49,11 @@ fn in_certificate(alloc: Global, bytes: &[u8]) -> Result<Vec<u32>, Refusal>
     ensures named { Names result (in_certificate (cert_text.outcome bytes.now)) }
     ensures not_of_model { IfErr (named result) (λ e. is_of_model (Err e) ≡ false) }
 {
-    let cert = read_cert(alloc, bytes)?;
-    of_body(cert.body)
+    match read_cert(alloc, bytes) {
+        Ok(cert) => of_body(cert.body),
+        Err(CertError::At { line, kind }) => Err(Refusal::CertText { line, kind }),
+        Err(CertError::Memory) => Err(Refusal::Memory),
+    }
 }
 
 /// The choices that a certificate of bounds names.
@@ -58,8 +61,11 @@ fn in_bounds(alloc: Global, bytes: &[u8]) -> Result<Vec<u32>, Refusal>
     ensures named { Names result (in_bounds (bounds_text.outcome bytes.now)) }
     ensures not_of_model { IfErr (named result) (λ e. is_of_model (Err e) ≡ false) }
 {
-    let cert = read_bounds(alloc, bytes)?;
-    Ok(of_bounds(cert.body))
+    match read_bounds(alloc, bytes) {
+        Ok(cert) => Ok(of_bounds(cert.body)),
+        Err(CertError::At { line, kind }) => Err(Refusal::CertText { line, kind }),
+        Err(CertError::Memory) => Err(Refusal::Memory),
+    }
 }
 
 /// The choices that a certificate of discounted rewards names.
@@ -67,8 +73,11 @@ fn in_discount(alloc: Global, bytes: &[u8]) -> Result<Vec<u32>, Refusal>
     ensures named { Names result (in_discount (discount_text.outcome bytes.now)) }
     ensures not_of_model { IfErr (named result) (λ e. is_of_model (Err e) ≡ false) }
 {
-    let cert = read_discount(alloc, bytes)?;
-    Ok(cert.choices)
+    match read_discount(alloc, bytes) {
+        Ok(cert) => Ok(cert.choices),
+        Err(CertError::At { line, kind }) => Err(Refusal::CertText { line, kind }),
+        Err(CertError::Memory) => Err(Refusal::Memory),
+    }
 }
 
 /// The choices that a certificate of bounds of discounted rewards names.
@@ -76,9 +85,14 @@ fn in_discount_bounds(alloc: Global, bytes: &[u8]) -> Result<Vec<u32>, Refusal>
     ensures named { Names result (in_discount_bounds (discount_bounds_text.outcome bytes.now)) }
     ensures not_of_model { IfErr (named result) (λ e. is_of_model (Err e) ≡ false) }
 {
-    let cert = read_discount_bounds(alloc, bytes)?;
-    let bounds = cert.bounds;
-    Ok(bounds.choices)
+    match read_discount_bounds(alloc, bytes) {
+        Ok(cert) => {
+            let bounds = cert.bounds;
+            Ok(bounds.choices)
+        }
+        Err(CertError::At { line, kind }) => Err(Refusal::CertText { line, kind }),
+        Err(CertError::Memory) => Err(Refusal::Memory),
+    }
 }
 
 /// The choices of a policy's text.

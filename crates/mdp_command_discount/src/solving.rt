@@ -16,6 +16,7 @@ use mdp_job::Refusal;
 use mdp_num::Frac;
 use mdp_rows::{Dir, Model, RowRule};
 use mdp_text::{all_narrow, all_short};
+use mdp_wide::SolveError;
 use std::alloc::Global;
 
 /// The value of the initial state is in width, and it isn't infinite where the line is one of a discounted reward.
@@ -43,8 +44,10 @@ fn certificate_text(alloc: Global, cert: &DiscountCert) -> Result<Vec<u8>, Refus
     ensures { (said result ≡ Err no_memory) ⊎ (said result ≡ Ok (text_of (plain cert.now))) }
 {
     let mut text = Vec::new(alloc);
-    write_discount(cert, &mut text)?;
-    Ok(text)
+    match write_discount(cert, &mut text) {
+        Ok(()) => Ok(text),
+        Err(_) => Err(Refusal::Memory),
+    }
 }
 
 /// The text of the certificate of the best discounted rewards, or its refusal: the name is looked up first.
@@ -65,7 +68,11 @@ fn solve_named(
     let Some(place) = model.reward_named(name) else {
         return Err(Refusal::QueryReward);
     };
-    let cert = solve_discount(alloc, model, place, name, dir, factor)?;
+    let cert = match solve_discount(alloc, model, place, name, dir, factor) {
+        Ok(cert) => cert,
+        Err(SolveError::TooWide(wide)) => return Err(Refusal::TooWide(wide)),
+        Err(SolveError::Memory) => return Err(Refusal::Memory),
+    };
     fits(&cert);
     certificate_text(alloc, &cert)
 }
@@ -84,6 +91,8 @@ pub fn discount_file<S: Source>(
     ensures read { IsDiscountRead rule dir name.now factor (input S.left S.faults model.old model.new) (said result) }
     ensures end { OnOk (said result) (IsAtEnd (S.left model.new)) }
 {
-    let model = read_model(alloc, model, rule)?;
-    solve_named(alloc, &model, dir, name, factor)
+    match read_model(alloc, model, rule) {
+        Ok(model) => solve_named(alloc, &model, dir, name, factor),
+        Err(refusal) => Err(refusal),
+    }
 }

@@ -20,6 +20,7 @@ use mdp_job::Refusal;
 use mdp_num::{Frac, Memory};
 use mdp_reach::solve_reach;
 use mdp_rows::{Dir, Model, RowRule};
+use mdp_wide::SolveError;
 use std::alloc::Global;
 
 /// The place of the label `goal` in each layered model.
@@ -90,9 +91,18 @@ fn drill_model(
     ensures found { IfOk (said result) (IsLineOfFound number layers width model.now) }
 {
     model.known();
-    let goals = model.marks_of(alloc, GOAL)?;
-    let answer = solve_reach(alloc, model, &goals, Dir::Max)?;
-    Ok(line_of(alloc, number, layers, width, model, answer)?)
+    let Ok(goals) = model.marks_of(alloc, GOAL) else {
+        return Err(Refusal::Memory);
+    };
+    let answer = match solve_reach(alloc, model, &goals, Dir::Max) {
+        Ok(answer) => answer,
+        Err(SolveError::TooWide(wide)) => return Err(Refusal::TooWide(wide)),
+        Err(SolveError::Memory) => return Err(Refusal::Memory),
+    };
+    match line_of(alloc, number, layers, width, model, answer) {
+        Ok(text) => Ok(text),
+        Err(Memory) => Err(Refusal::Memory),
+    }
 }
 
 /// Makes the text of the layered model of this number, reads it under the rule `Exact`, and solves the greatest probability of reaching its goal: a
@@ -107,6 +117,8 @@ pub fn drill(alloc: Global, number: u64, layers: u32, width: u32) -> Result<Vec<
 {
     layered_law();
     text_law();
-    let model = model_of(alloc, number, layers, width)?;
+    let Ok(model) = model_of(alloc, number, layers, width) else {
+        return Err(Refusal::Memory);
+    };
     drill_model(alloc, number, layers, width, &model)
 }

@@ -24,15 +24,20 @@ pub(crate) fn states_with(alloc: Global, model: &Model, label: &[u8]) -> Result<
     let Some(place) = model.label(label) else {
         return Err(Refusal::QueryLabel);
     };
-    Ok(model.marks_of(alloc, place)?)
+    match model.marks_of(alloc, place) {
+        Ok(marks) => Ok(marks),
+        Err(_) => Err(Refusal::Memory),
+    }
 }
 
 /// Every state.
 fn all_states(alloc: Global, model: &Model) -> Result<Marks, Refusal>
     ensures { (plain_error result ≡ Err no_memory) ⊎ (plain_error result ≡ Ok (replicate (states_of model.now) true)) }
 {
-    let values = vec![in alloc; true; model.states() as usize]?;
-    Ok(Marks::from_values(values))
+    match vec![in alloc; true; model.states() as usize] {
+        Ok(values) => Ok(Marks::from_values(values)),
+        Err(_) => Err(Refusal::Memory),
+    }
 }
 
 /// The states that stay: those with a label, or every state.
@@ -75,15 +80,17 @@ impl Asked<'_> {
         ensures { (said result ≡ Err no_memory) ⊎ (said result ≡ Ok (until_text self.entry.dir (stay_word (names_of self.entry.stay)) self.entry.label.now model.now (plain found.now))) }
     {
         let mut text = Vec::new(alloc);
-        write_until(
+        match write_until(
             model,
             self.dir,
             stay_word(self.stay),
             self.label,
             found,
             &mut text,
-        )?;
-        Ok(text)
+        ) {
+            Ok(()) => Ok(text),
+            Err(_) => Err(Refusal::Memory),
+        }
     }
 
     /// The text for these states, or its refusal.
@@ -114,8 +121,14 @@ impl Asked<'_> {
     {
         model.known();
         horizon_law();
-        let stays = states_that_stay(alloc, model, self.stay)?;
-        let goals = states_with(alloc, model, self.label)?;
+        let stays = match states_that_stay(alloc, model, self.stay) {
+            Ok(stays) => stays,
+            Err(refusal) => return Err(refusal),
+        };
+        let goals = match states_with(alloc, model, self.label) {
+            Ok(goals) => goals,
+            Err(refusal) => return Err(refusal),
+        };
         self.of_marks(alloc, model, &stays, &goals)
     }
 }
@@ -140,6 +153,8 @@ pub fn horizon_file<S: Source>(
         label,
         steps,
     };
-    let model = read_model(alloc, model, rule)?;
-    asked.of_model(alloc, &model)
+    match read_model(alloc, model, rule) {
+        Ok(model) => asked.of_model(alloc, &model),
+        Err(refusal) => Err(refusal),
+    }
 }

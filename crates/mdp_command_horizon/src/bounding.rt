@@ -42,8 +42,10 @@ impl Wanted {
         ensures { (said result ≡ Err no_memory) ⊎ (said result ≡ Ok (bounds_text self.dir (plain_claim claim.entry) model.now (plain found.now))) }
     {
         let mut text = Vec::new(alloc);
-        write_horizon_bounds(model, self.dir, claim, found, &mut text)?;
-        Ok(text)
+        match write_horizon_bounds(model, self.dir, claim, found, &mut text) {
+            Ok(()) => Ok(text),
+            Err(_) => Err(Refusal::Memory),
+        }
     }
 
     /// The text for these states, or its refusal.
@@ -65,7 +67,7 @@ impl Wanted {
             return Err(Refusal::QuerySteps);
         }
         let claim = Claim::Until(stay_word(stay), label);
-        let found = until_bounds(
+        match until_bounds(
             alloc,
             model,
             self.dir,
@@ -73,8 +75,10 @@ impl Wanted {
             goals,
             self.steps,
             self.digits,
-        )?;
-        self.text_of(alloc, model, claim, &found)
+        ) {
+            Ok(found) => self.text_of(alloc, model, claim, &found),
+            Err(_) => Err(Refusal::Memory),
+        }
     }
 
     /// The text of a bounded until for a model, or its refusal: the labels are looked up first.
@@ -88,8 +92,14 @@ impl Wanted {
         ensures { (said result ≡ Err no_memory) ⊎ IsUntilBoundsDue self.dir (names_of stay.entry) label.now self.steps self.digits model.now (said result) }
     {
         model.known();
-        let stays = states_that_stay(alloc, model, stay)?;
-        let goals = states_with(alloc, model, label)?;
+        let stays = match states_that_stay(alloc, model, stay) {
+            Ok(stays) => stays,
+            Err(refusal) => return Err(refusal),
+        };
+        let goals = match states_with(alloc, model, label) {
+            Ok(goals) => goals,
+            Err(refusal) => return Err(refusal),
+        };
         self.of_marks(alloc, model, stay, label, &stays, &goals)
     }
 
@@ -108,8 +118,10 @@ impl Wanted {
         if is_too_long(model, self.steps) {
             return Err(Refusal::QuerySteps);
         }
-        let found = total_bounds(alloc, model, self.dir, place, self.steps, self.digits)?;
-        self.text_of(alloc, model, Claim::Total(name), &found)
+        match total_bounds(alloc, model, self.dir, place, self.steps, self.digits) {
+            Ok(found) => self.text_of(alloc, model, Claim::Total(name), &found),
+            Err(_) => Err(Refusal::Memory),
+        }
     }
 
     /// The text of a total reward for a model, or its refusal: the name is looked up first.
@@ -141,8 +153,10 @@ pub fn until_bounds_file<S: Source>(
     ensures end { OnOk (said result) (IsAtEnd (S.left model.new)) }
 {
     let wanted = Wanted { dir, steps, digits };
-    let model = read_model(alloc, model, rule)?;
-    wanted.until_in(alloc, &model, stay, label)
+    match read_model(alloc, model, rule) {
+        Ok(model) => wanted.until_in(alloc, &model, stay, label),
+        Err(refusal) => Err(refusal),
+    }
 }
 
 /// The same of the best total reward of this name within so many steps. A value that would be too wide is missing.
@@ -160,6 +174,8 @@ pub fn total_bounds_file<S: Source>(
     ensures end { OnOk (said result) (IsAtEnd (S.left model.new)) }
 {
     let wanted = Wanted { dir, steps, digits };
-    let model = read_model(alloc, model, rule)?;
-    wanted.total_in(alloc, &model, name)
+    match read_model(alloc, model, rule) {
+        Ok(model) => wanted.total_in(alloc, &model, name),
+        Err(refusal) => Err(refusal),
+    }
 }

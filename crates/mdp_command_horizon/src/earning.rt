@@ -30,8 +30,10 @@ impl Wanted<'_> {
         ensures { (said result ≡ Err no_memory) ⊎ (said result ≡ Ok (total_text self.entry.dir self.entry.name.now model.now (plain found.now))) }
     {
         let mut text = Vec::new(alloc);
-        write_total(model, self.dir, self.name, found, &mut text)?;
-        Ok(text)
+        match write_total(model, self.dir, self.name, found, &mut text) {
+            Ok(()) => Ok(text),
+            Err(_) => Err(Refusal::Memory),
+        }
     }
 
     /// The text for the name of this place, or its refusal.
@@ -75,6 +77,8 @@ pub fn horizon_reward_file<S: Source>(
     ensures end { OnOk (said result) (IsAtEnd (S.left model.new)) }
 {
     let wanted = Wanted { dir, name, steps };
-    let model = read_model(alloc, model, rule)?;
-    wanted.of_model(alloc, &model)
+    match read_model(alloc, model, rule) {
+        Ok(model) => wanted.of_model(alloc, &model),
+        Err(refusal) => Err(refusal),
+    }
 }

@@ -16,6 +16,7 @@ use mdp_edge::Source;
 use mdp_job::Refusal;
 use mdp_policy::{PolicyValue, read_policy, value_of, write_value};
 use mdp_rows::{Model, RowRule};
+use mdp_wide::SolveError;
 use std::alloc::Global;
 
 /// Whether each choice is one of its state.
@@ -43,8 +44,10 @@ fn text_of(
     ensures { (said result ≡ Err no_memory) ⊎ (said result ≡ Ok (value_text label.now model.now (plain value.now))) }
 {
     let mut text = Vec::new(alloc);
-    write_value(model, label, value, &mut text)?;
-    Ok(text)
+    match write_value(model, label, value, &mut text) {
+        Ok(()) => Ok(text),
+        Err(_) => Err(Refusal::Memory),
+    }
 }
 
 /// The text of the value of a policy whose goals are the states with the label of this place.
@@ -59,9 +62,15 @@ fn value_at(
     ensures due { (said result ≡ Err no_memory) ⊎ IsValueDue label.now model.now policy.now place (said result) }
     ensures not_of_model { is_of_model (said result) ≡ false }
 {
-    let goals = model.marks_of(alloc, place)?;
-    let value = value_of(alloc, model, &goals, policy)?;
-    text_of(alloc, model, label, &value)
+    let goals = match model.marks_of(alloc, place) {
+        Ok(goals) => goals,
+        Err(_) => return Err(Refusal::Memory),
+    };
+    match value_of(alloc, model, &goals, policy) {
+        Ok(value) => text_of(alloc, model, label, &value),
+        Err(SolveError::TooWide(wide)) => Err(Refusal::TooWide(wide)),
+        Err(SolveError::Memory) => Err(Refusal::Memory),
+    }
 }
 
 /// The text of the value of a policy, or its refusal: the number of states first, then the label, then the choices.
@@ -104,8 +113,10 @@ fn of_source<C: Source>(
     ensures not_of_model { is_of_model (said result) ≡ false }
     ensures end { OnOk (said result) (IsAtEnd (C.left second.new)) }
 {
-    let bytes = read_second(alloc, second)?;
-    of_text(alloc, model, label, &bytes)
+    match read_second(alloc, second) {
+        Ok(bytes) => of_text(alloc, model, label, &bytes),
+        Err(refusal) => Err(refusal),
+    }
 }
 
 /// Reads the model to its end and judges its text, then the policy's, and gives the probabilities with which the policy reaches a state with the
@@ -123,6 +134,8 @@ pub fn policy_file<S: Source, C: Source>(
     ensures second_end { OnOk (said result) (IsAtEnd (C.left second.new)) }
 {
     policy_law();
-    let model = read_model(alloc, model, rule)?;
-    of_source(alloc, &model, label, second)
+    match read_model(alloc, model, rule) {
+        Ok(model) => of_source(alloc, &model, label, second),
+        Err(refusal) => Err(refusal),
+    }
 }

@@ -10,6 +10,7 @@ use mdp_command::certificate_text;
 use mdp_job::Refusal;
 use mdp_mean::solve_mean;
 use mdp_rows::{Dir, Model};
+use mdp_wide::SolveError;
 use std::alloc::Global;
 
 /// The text of the certificate that solves a query of the mean payoff, or its refusal.
@@ -27,8 +28,14 @@ pub(crate) fn solve_payoff(
     let Some(reward) = model.reward_named(name) else {
         return Err(Refusal::QueryReward);
     };
-    let answer = solve_mean(alloc, model, reward, dir)?;
-    let name = name.to_vec(alloc)?;
+    let answer = match solve_mean(alloc, model, reward, dir) {
+        Ok(answer) => answer,
+        Err(SolveError::TooWide(wide)) => return Err(Refusal::TooWide(wide)),
+        Err(SolveError::Memory) => return Err(Refusal::Memory),
+    };
+    let Ok(name) = name.to_vec(alloc) else {
+        return Err(Refusal::Memory);
+    };
     let cert = mean_certificate_of(model, dir, name, answer);
     certificate_text(alloc, &cert)
 }

@@ -12,6 +12,7 @@ use mdp_job::Refusal;
 use mdp_policy_iteration::path_law;
 use mdp_reach::solve_reach;
 use mdp_rows::{Dir, Model};
+use mdp_wide::SolveError;
 use std::alloc::Global;
 
 /// The text of the certificate that solves a query of reachability, or its refusal.
@@ -31,9 +32,18 @@ pub(crate) fn solve_label(
     let Some(place) = model.label(label) else {
         return Err(Refusal::QueryLabel);
     };
-    let goals = model.marks_of(alloc, place)?;
-    let answer = solve_reach(alloc, model, &goals, dir)?;
-    let label = label.to_vec(alloc)?;
+    let goals = match model.marks_of(alloc, place) {
+        Ok(goals) => goals,
+        Err(_) => return Err(Refusal::Memory),
+    };
+    let answer = match solve_reach(alloc, model, &goals, dir) {
+        Ok(answer) => answer,
+        Err(SolveError::TooWide(wide)) => return Err(Refusal::TooWide(wide)),
+        Err(SolveError::Memory) => return Err(Refusal::Memory),
+    };
+    let Ok(label) = label.to_vec(alloc) else {
+        return Err(Refusal::Memory);
+    };
     let cert = certificate_of(model, dir, label, answer);
     certificate_text(alloc, &cert)
 }

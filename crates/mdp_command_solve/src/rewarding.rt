@@ -10,6 +10,7 @@ use mdp_command::certificate_text;
 use mdp_job::Refusal;
 use mdp_reward::solve_reward;
 use mdp_rows::{Dir, Model};
+use mdp_wide::SolveError;
 use std::alloc::Global;
 
 /// The text of the certificate that solves a query of rewards until a goal, or its refusal: the name is looked up first, then the label, then it is
@@ -35,10 +36,21 @@ pub(crate) fn solve_named(
     if model.negative(reward) {
         return Err(Refusal::QueryNegative);
     }
-    let goals = model.marks_of(alloc, place)?;
-    let answer = solve_reward(alloc, model, reward, &goals, dir)?;
-    let name = name.to_vec(alloc)?;
-    let label = label.to_vec(alloc)?;
+    let goals = match model.marks_of(alloc, place) {
+        Ok(goals) => goals,
+        Err(_) => return Err(Refusal::Memory),
+    };
+    let answer = match solve_reward(alloc, model, reward, &goals, dir) {
+        Ok(answer) => answer,
+        Err(SolveError::TooWide(wide)) => return Err(Refusal::TooWide(wide)),
+        Err(SolveError::Memory) => return Err(Refusal::Memory),
+    };
+    let Ok(name) = name.to_vec(alloc) else {
+        return Err(Refusal::Memory);
+    };
+    let Ok(label) = label.to_vec(alloc) else {
+        return Err(Refusal::Memory);
+    };
     let cert = reward_certificate_of(model, dir, name, label, answer);
     certificate_text(alloc, &cert)
 }

@@ -52,12 +52,17 @@ impl Asked<'_> {
     {
         model.known();
         text_law();
-        let goals = model.marks_of(alloc, place)?;
+        let goals = match model.marks_of(alloc, place) {
+            Ok(goals) => goals,
+            Err(_) => return Err(Refusal::Memory),
+        };
         let found = match witness(alloc, model, &goals, start, self.dir, self.threshold) {
             Ok(found) => found,
             Err(error) => return Err(refusal_of(error)),
         };
-        let label = self.label.to_vec(alloc)?;
+        let Ok(label) = self.label.to_vec(alloc) else {
+            return Err(Refusal::Memory);
+        };
         let cert = certificate_of(model, label, self.threshold, start, found);
         certificate_text(alloc, &cert)
     }
@@ -97,6 +102,8 @@ pub fn witness_file<S: Source>(
         label,
         threshold,
     };
-    let model = read_model(alloc, model, rule)?;
-    asked.of_model(alloc, &model)
+    match read_model(alloc, model, rule) {
+        Ok(model) => asked.of_model(alloc, &model),
+        Err(refusal) => Err(refusal),
+    }
 }
