@@ -1,4 +1,4 @@
-use Rattle.std.proofs.Common.{◌≡◌, ℕ, ◌<◌, ◌++◌, ◌∷◌, [], List, length, get_or, map, sym, ap, ap₂, ◌∙◌, subst, arith}
+use Rattle.std.proofs.Common.{◌≡◌, ℕ, ◌<◌, ◌++◌, ◌∷◌, [], List, length, get_or, map, sym, ap, ap₂, ◌∙◌, subst, arith, vec_len, rules}
 use Rattle.std.proofs.lemmas.List.{take_more, map-append, get_or_default}
 use Rattle.std.proofs.lemmas.List.FromFn.{map-range_with_len_more}
 use Rattle.mdp_rows.specs.declared.preds.Pred.{Pred}
@@ -57,3 +57,9 @@ returns c = record {
       c.loop-q.invariant.2
       ∙ ap (λ (n : ℕ). map (λ k. rows_by c.args.model.now c.args.numbering.now.nodes.items k (get_or c.args.lists.now k [])) (range_with_len 0 n)) all);
 }
+
+pub index-requires : goal.index-requires
+index-requires c =
+    let h : c.loop-q.q < length c.args.lists.now = omega (arith, c.loop-q-test.true) in
+    let e : vec_len c.args.numbering.now.components ≡ length c.args.numbering.now.components.items = search rules in
+    omega (arith, h, e, c.requires.count, c.requires.components)

@@ -1,4 +1,5 @@
-use Rattle.std.proofs.Common.{◌<◌, ◌∷◌, [], List, ℕ, length, map, ap, ap₂, ◌∙◌, subst}
+use Rattle.std.specs.List.{All}
+use Rattle.std.proofs.Common.{◌<◌, ◌∷◌, [], List, ℕ, map, ap, ap₂, ◌∙◌, subst, sym}
 use Rattle.std.specs.Prelude.{slice_index}
 use Rattle.std.proofs.lemmas.List.{take_all, map-append}
 use Rattle.mdp_spec.specs.Mdp.{Entry}
@@ -31,3 +32,9 @@ returns c = record {
       ∙ ap (λ (xs : List Pred). map (λ (x : Pred). node_row c.args.model.now c.args.nodes.now x.state x.choice) xs) (take_all c.loop-exit.exit-index c.args.exits.now c.loop-exit-test.false);
   clear = c.loop-exit.invariant.1;
 }
+
+pub merge-requires-clause-nodes : goal.merge-requires-clause-nodes
+merge-requires-clause-nodes c = subst (λ n. All (λ q. q < n) c.args.nodes.now) (sym c.loop-exit.invariant.1.count) c.requires.below
+
+pub merge-requires-clause-targets : goal.merge-requires-clause-targets
+merge-requires-clause-targets c = subst (λ n. All (λ t. t < n) c.row-row.result.targets.now) (sym c.requires.nodes) c.row-row.ensures.in_range

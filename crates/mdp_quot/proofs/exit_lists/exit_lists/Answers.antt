@@ -1,7 +1,8 @@
-use Rattle.std.proofs.Common.{◌≡◌, ◌++◌, ℕ, sym, subst}
+use Rattle.std.proofs.Common.{◌≡◌, ◌++◌, ℕ, sym, subst, arith}
 use Rattle.mdp_rows.specs.Preds.{choices_of, choices_below}
 use Rattle.mdp_quot.specs.ExitLists.{AreExits}
 use Rattle.mdp_quot.proofs.ExitsFound.{no_choices, state_more}
+use Rattle.mdp_spec.specs.Mdp.{states_of}
 use Rattle.mdp_quot.proofs.exit_lists.exit_lists.Goals as goal
 
 pub loop-s-init : goal.loop-s-init
@@ -17,3 +18,8 @@ loop-s-preserved c =
     (λ n. AreExits c.args.model.now c.args.ends.now.parts c.args.nodes.now n
     (choices_below c.args.model.now c.loop-s.s ++ choices_of c.args.model.now c.loop-s.s) c.push_state.new.lists.items) _ _ c.loop-s.invariant.count
     (c.in_ok-push_state.ensures (choices_below c.args.model.now c.loop-s.s)) c.loop-s.invariant)
+
+pub returns : goal.returns
+returns c =
+    let all : c.loop-s.s ≡ states_of c.args.model.now = omega arith in
+    subst (λ (n : ℕ). AreExits c.args.model.now c.args.ends.now.parts c.args.nodes.now c.args.count (choices_below c.args.model.now n) c.loop-s.lists.items) all c.loop-s.invariant

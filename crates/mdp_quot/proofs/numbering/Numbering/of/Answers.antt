@@ -1,5 +1,5 @@
-use Rattle.std.proofs.Common.{sym, ◌∙◌, arith}
-use Rattle.mdp_quot.proofs.NodesFound.{if_below, part-below}
+use Rattle.std.proofs.Common.{sym, ◌∙◌, arith, replicate, None, rules}
+use Rattle.mdp_quot.proofs.NodesFound.{if_below, part-below, nothing_numbered}
 use Rattle.std.proofs.Common.{◌≡◌, ℕ, subst}
 use Rattle.mdp_spec.specs.Mdp.{states_of}
 use Rattle.mdp_quot.specs.Numbering.{IsNumbering}
@@ -19,3 +19,8 @@ pub returns : goal.returns
 returns c =
     let all : c.loop-s.s ≡ states_of c.args.model.now = omega arith in
     subst (λ (n : ℕ). IsNumbering c.args.ends.now.parts n c.loop-s.numbering.nodes.items c.loop-s.numbering.components.items c.loop-s.numbering.first.items) all c.loop-s.invariant
+
+pub loop-s-init : goal.loop-s-init
+loop-s-init c =
+    let none : c.in_ok-vec.field-0.items ≡ replicate c.count.result None = search rules in
+    rw (c.new.ensures.items, c.new-2.ensures.items) (nothing_numbered c.args.ends.now.parts _ (rw c.count.ensures at none))

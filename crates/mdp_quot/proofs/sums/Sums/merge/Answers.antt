@@ -1,4 +1,5 @@
-use Rattle.std.proofs.Common.{ℕ, ◌≡◌, ◌<◌, List, length, map, sym, ap₂, ◌∙◌, subst, refl}
+use Rattle.std.proofs.lemmas.List.{length-map}
+use Rattle.std.proofs.Common.{ℕ, ◌≡◌, ◌<◌, List, length, map, sym, ap₂, ◌∙◌, subst, refl, ap}
 use Rattle.std.specs.List.{All}
 use Rattle.std.proofs.lemmas.List.Sorted.{IsNonDecreasingBy-from_sort}
 use Rattle.mdp_math.specs.Rational.{ℚ}
@@ -47,3 +48,8 @@ pub returns-clause-in_range : goal.returns-clause-in_range
 returns-clause-in_range c =
     subst (λ (qs : List ℕ). All (λ q. q < length c.args.self.now.sums.items) qs) (sym (c.in_ok-targets.ensures ∙ c.deref-3.ensures.value))
     (sorted-below _ _ _ _ _ _ c.in_ok-add_row.ensures c.in_ok-sort.ensures.permutation (IsNonDecreasingBy-from_sort (λ x. x) _ c.in_ok-sort.ensures.sorted))
+
+pub invariant_of-result-clause-same_length : goal.invariant_of-result-clause-same_length
+invariant_of-result-clause-same_length c =
+    ap length (c.in_ok-targets.ensures ∙ c.deref-3.ensures.value)
+    ∙ sym (ap length (c.in_ok-probs-2.ensures ∙ c.deref-4.ensures.value ∙ c.in_ok-probs.ensures) ∙ length-map c.deref-2.result.now _ ∙ ap length c.deref-2.ensures.value)
