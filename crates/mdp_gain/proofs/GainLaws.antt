@@ -9,6 +9,7 @@ use Rattle.mdp_spec.specs.Mdp.{Mdp, states_of}
 use Rattle.mdp_rows.specs.declared.dir.Dir.{Dir}
 use Rattle.mdp_rows.specs.declared.dir.Dir.TheVariants.{Max, Min}
 use Rattle.mdp_elim.specs.Laws.{GivesSolutions}
+use Rattle.mdp_elim.proofs.Finish.{ok_no_err}
 use Rattle.mdp_policy_iteration.specs.Path.{Refusal}
 use Rattle.mdp_policy_iteration.specs.Laws.{first}
 use Rattle.mdp_wide.specs.Term.{WideTerm}
@@ -34,9 +35,6 @@ use Rattle.mdp_gain.specs.Query.{Answer, answer_of, refusal_at, after_path, plai
 use Rattle.mdp_gain.specs.Best.{bias_at, taken_at, IsBestInner}
 use Rattle.mdp_gain.specs.Laws.{HasOneEnd, AnswersAreBest, HasOneGain, NoPolicyIsBetter, NoTreeEarnsMore, NoTreeEarnsLess}
 use Rattle.mdp_gain.proofs.BestInner.{known, best_inner, none_is_better, has_best}
-
-ok_or_err : {A E : Type 0} (x : A) (y : E) → (let q : Result A E = Ok x in q) ≡ Err y → ⊥
-ok_or_err x y h = cc
 
 module _ (gives : GivesSolutions) (dir : Dir) (m : Mdp) (parts : List (Option ℕ)) (i r : ℕ) (k : IsPart m parts i) where
   some_state : (s : ℕ) × (is_state (inner_component dir m parts i r) s ≡ true)
@@ -65,7 +63,7 @@ module _ (gives : GivesSolutions) (dir : Dir) (m : Mdp) (parts : List (Option �
   answered : (a : Answer) (start : List ℕ) → IsFirst (inner_component dir m parts i r) start → (end : Result Found Refusal)
       → EndsWith (Makes (inner_component dir m parts i r)) (first start) end
       → (let q : Result Answer WideTerm = Ok a in q) ≡ after_path (members m parts i) i end → IsBestInner dir m parts i r a
-  answered a start f (Err x) path e = absurd (ok_or_err a (term_of (Inner i) (refusal_at (members m parts i) x)) e)
+  answered a start f (Err x) path e = absurd (ok_no_err a (term_of (Inner i) (refusal_at (members m parts i) x)) e)
   answered a start f (Ok found) path e =
       let c = known dir m parts i r k in
       subst (IsBestInner dir m parts i r) (sym (ok_same a (answer_of (members m parts i) found) e))

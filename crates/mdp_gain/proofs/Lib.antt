@@ -15,7 +15,7 @@ mod Starting
 mod Told
 mod OnlyColumns
 mod OnlySums
-mod OnlyState
+pub mod OnlyState
 mod OnlyPath
 mod OnlyMakes
 mod OnlyAlone

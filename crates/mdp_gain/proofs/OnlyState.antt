@@ -50,7 +50,7 @@ module _ {A R : Type 0} (f : ℕ → Result A R) (g : ℕ → A) where
   abbrev with_next : List A → Result A R → Result (List A) R
   with_next xs r = r >>= (λ x. Ok (xs ++ x ∷ []))
 
-  up_to-listed : (n : ℕ) → ((s : ℕ) → s < n → f s ≡ Ok (g s)) → up_to f n ≡ Ok (map g (range_with_len 0 n))
+  pub up_to-listed : (n : ℕ) → ((s : ℕ) → s < n → f s ≡ Ok (g s)) → up_to f n ≡ Ok (map g (range_with_len 0 n))
   up_to-listed zero h = refl
   up_to-listed (suc n) h =
       let e : n + 1 ≡ suc n = omega arith in

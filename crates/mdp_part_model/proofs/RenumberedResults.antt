@@ -1,16 +1,16 @@
 -- Computations of two components that are one but for the numbers: they give the same, or stop at the same place.
-use Rattle.std.proofs.Common.{◌≡◌, ℕ, zero, suc, ◌+◌, ◌<◌, ◌≤◌, ◌⊎◌, inl, inr, Bool, true, false, ◌==◌, if◌then◌else◌, List, [], ◌∷◌, ◌++◌, length, map, get_or}
+use Rattle.std.proofs.Common.{◌≡◌, ℕ, zero, suc, ◌<◌, ◌≤◌, ◌⊎◌, inl, inr, Bool, true, false, ◌==◌, if◌then◌else◌, List, [], ◌∷◌, ◌++◌, length, map, get_or}
 use Rattle.std.proofs.Common.{Option, Some, None, Result, Ok, Err, refl, sym, ◌∙◌, ap, subst, arith}
 use Rattle.std.specs.List.{range_with_len}
 use Rattle.std.specs.Prelude.{slice_index}
 use Rattle.std.proofs.lemmas.Bool.{eq-eqb, ne_eqb, cond-true, cond-false}
 use Rattle.mdp_math.specs.Result.{◌>>=◌}
-use Rattle.mdp_math.proofs.Lists.{map_more}
 use Rattle.mdp_math.proofs.Numbers.{le_or}
 use Rattle.mdp_policy_iteration.specs.Places.{Place, at_place, up_to}
 use Rattle.mdp_policy_iteration.proofs.Answering.{up_to-refused}
 use Rattle.mdp_policy_iteration.proofs.Results.{IsUpTo, up_to-is}
 use Rattle.mdp_gain.specs.Best.{entry_of}
+use Rattle.mdp_gain.proofs.OnlyState.{up_to-listed}
 use Rattle.mdp_part_model.specs.Renumbering.{Ascend, place_there, result_there}
 use Rattle.mdp_part_model.proofs.Spread.{IsUnlisted, Ascend-tail, ascend-le, listed-or, entry-other}
 
@@ -57,21 +57,6 @@ taken-false true h x y = cc
 taken-false false h x y = refl
 
 -- ---- all numbers in turn
-
-module _ {A R : Type 0} (f : ℕ → Result A R) (g : ℕ → A) where
-  abbrev after_next : ℕ → Result (List A) R → Result (List A) R
-  after_next n r = r >>= (λ xs. f n >>= (λ x. Ok (xs ++ x ∷ [])))
-
-  abbrev with_next : List A → Result A R → Result (List A) R
-  with_next xs r = r >>= (λ x. Ok (xs ++ x ∷ []))
-
-  -- where each number has a value, the list of them
-  up_to-listed : (n : ℕ) → ((s : ℕ) → s < n → f s ≡ Ok (g s)) → up_to f n ≡ Ok (map g (range_with_len 0 n))
-  up_to-listed zero h = refl
-  up_to-listed (suc n) h =
-      let e : n + 1 ≡ suc n = omega arith in
-      ap (after_next n) (up_to-listed n (λ s l. h s (omega arith))) ∙ ap (with_next (map g (range_with_len 0 n))) (h n (omega arith))
-      ∙ ap Ok (sym (map_more g n) ∙ ap (λ k. map g (range_with_len 0 k)) e)
 
 -- the first refusal below m, and what was given before it
 pub record IsFirstRefusal {A R : Type 0} (g : ℕ → Result A R) (m : ℕ) (w : R) : Type 0 where

@@ -1,6 +1,7 @@
 -- What a policy of the problem does at each state: at goals and at states that aren't open it stops, and an open state goes on by its choice.
 use Rattle.std.proofs.Common.{◌≡◌, ℕ, ◌<◌, Bool, true, false, List, length, refl, sym, ◌∙◌, ap, subst, arith, pos}
 use Rattle.std.specs.Prelude.{slice_index}
+use Rattle.std.proofs.lemmas.Bool.{false≢true}
 use Rattle.mdp_math.specs.Rational.{of_int}
 use Rattle.mdp_spec.specs.Mdp.{Mdp, states_of, row_at, choices_at}
 use Rattle.mdp_spec.specs.Tree.{is_marked}
@@ -83,9 +84,9 @@ module _ (dir : Dir) (m : Mdp) (goals marks : List Bool) where
       pub is_open : open_at s ≡ true
 
     active_by : (s : ℕ) (g o : Bool) → s < states_of m → is_marked goals s ≡ g → open_at s ≡ o → is_active (active_of p policy) s ≡ true → IsOpen s
-    active_by s true o l eg eo a = let e = sym a ∙ active-at p policy s (is_node s l) ∙ ap goes_on (goal-move s l eg) in cc
+    active_by s true o l eg eo a = absurd (false≢true (sym (ap goes_on (goal-move s l eg)) ∙ sym (active-at p policy s (is_node s l)) ∙ a))
     active_by s false true l eg eo a = record { below = l; no_goal = eg; is_open = eo }
-    active_by s false false l eg eo a = let e = sym a ∙ active-at p policy s (is_node s l) ∙ ap goes_on (closed-move s l eg eo) in cc
+    active_by s false false l eg eo a = absurd (false≢true (sym (ap goes_on (closed-move s l eg eo)) ∙ sym (active-at p policy s (is_node s l)) ∙ a))
 
     pub active-open : (s : ℕ) → is_active (active_of p policy) s ≡ true → IsOpen s
     active-open s a = active_by s (is_marked goals s) (open_at s) (is_state s (active-below p policy s a)) refl refl a

@@ -1,6 +1,7 @@
 -- What a policy of the problem does at each state: a transient state goes on by its choice, and all others stop with 0.
 use Rattle.std.proofs.Common.{◌≡◌, ℕ, ◌<◌, Bool, true, false, List, length, refl, sym, ◌∙◌, ap, subst, arith, pos}
 use Rattle.std.specs.Prelude.{slice_index}
+use Rattle.std.proofs.lemmas.Bool.{false≢true}
 use Rattle.mdp_math.specs.Rational.{of_int}
 use Rattle.mdp_spec.specs.Mdp.{Mdp, states_of, row_at, choices_at}
 use Rattle.mdp_spec.specs.Tree as tree
@@ -79,7 +80,7 @@ module _ (dir : Dir) (m : Mdp) (r : ℕ) (goals finite : List Bool) where
 
     active_by : (s : ℕ) (b : Bool) → s < states_of m → transient s ≡ b → is_active (active_of p policy) s ≡ true → IsOpen s
     active_by s true l e a = record { below = l; is_open = e }
-    active_by s false l e a = let e = sym a ∙ active-at p policy s (is_node s l) ∙ ap goes_on (given-move s l e) in cc
+    active_by s false l e a = absurd (false≢true (sym (ap goes_on (given-move s l e)) ∙ sym (active-at p policy s (is_node s l)) ∙ a))
 
     pub active-open : (s : ℕ) → is_active (active_of p policy) s ≡ true → IsOpen s
     active-open s a = active_by s (transient s) (is_state s (active-below p policy s a)) refl a

@@ -1,14 +1,13 @@
 -- Sets of states that rows lead into or stay in, and the rows of a policy with the ranks along them.
-use Rattle.std.proofs.Common.{◌≡◌, ℕ, ◌<◌, Bool, true, false, ◌&&◌, nat_lt, List, [], ◌∷◌, length, refl, sym, ap, subst, zero-add, arith, if◌then◌else◌}
-use Rattle.std.specs.List.{All, Any, list_all}
+use Rattle.std.proofs.Common.{◌≡◌, ℕ, ◌<◌, Bool, true, false, ◌&&◌, nat_lt, List, [], ◌∷◌, length, refl, sym, subst, zero-add, arith, if◌then◌else◌}
+use Rattle.std.specs.List.{All, Any}
 use Rattle.std.specs.Prelude.{slice_index}
 use Rattle.std.proofs.lemmas.Bool.Decides.{nat_tests}
 use Rattle.std.proofs.lemmas.List.FromFn.{get_or-map-range_with_len}
 use Rattle.std.proofs.lemmas.List.Folds.{Any-from_list_any, list_any_at}
-use Rattle.mdp_math.specs.Rational.{ℚ}
 use Rattle.mdp_math.proofs.Booleans.{and-right, false_of_not}
 use Rattle.mdp_spec.specs.Mdp.{Mdp, Entry, Choice, no_choice, states_of, row_at, choices_at}
-use Rattle.mdp_spec.specs.Row.{IsMdp, entries}
+use Rattle.mdp_spec.specs.Row.{IsMdp}
 use Rattle.mdp_spec.specs.Tree.{IsPolicy, is_marked}
 use Rattle.mdp_rows.proofs.Queries.Policies.{rows-len, row-is, are_rows}
 use Rattle.mdp_graph.specs.Sets.{marked, can_enter, stays_in, each_choice}
@@ -25,12 +24,6 @@ pub lt_of_test : (i k : ℕ) → nat_lt i k ≡ true → i < k
 lt_of_test i k e = grind (arith, nat_tests)
 
 -- ---- tests of rows
-
--- a row stays in a set where its targets do
-pub stays_by_targets : (set : ℕ → Bool) (ts : List ℕ) (ps : List ℚ) → length ts ≡ length ps → stays_in set (entries ts ps) ≡ list_all set ts
-stays_by_targets set [] ps e = refl
-stays_by_targets set (t ∷ ts) [] e = absurd (omega (arith, e))
-stays_by_targets set (t ∷ ts) (p ∷ ps) e = ap (λ (b : Bool). set t && b) (stays_by_targets set ts ps (omega (arith, e)))
 
 pub none_in : (set : ℕ → Bool) (row : List Entry) → can_enter set row ≡ false → All (λ y. set y.target ≡ false) row
 none_in set row e = λ k d l. false_of_not (set _) (λ f. let h = list_any_at (λ (y : Entry). set y.target) row k d l f in cc)

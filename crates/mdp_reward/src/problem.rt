@@ -1,10 +1,9 @@
 ghost use Rattle.std.specs.Prelude.{◌≡◌, ◌<◌, length};
-ghost use Rattle.std.specs.List.{All, list_all};
-ghost use Rattle.mdp_spec.specs.Mdp.{states_of, choices_at, row_at};
+ghost use Rattle.mdp_spec.specs.Mdp.{states_of};
 ghost use Rattle.mdp_spec.specs.Tree.{is_marked};
-ghost use Rattle.mdp_graph.specs.Sets.{stays_in};
 ghost use Rattle.mdp_reward.specs.Problem.{is_transient, reward_problem};
 
+use mdp_farkas::{StateTest, each_target};
 use mdp_num::{Frac, Wide};
 use mdp_policy_iteration::ShortestPath;
 use mdp_rows::{Dir, Marks, Model, Row};
@@ -23,14 +22,6 @@ pub(crate) struct Reward<'m, 'g, 'f> {
     ghost finite_each: { length finite.now ≡ states_of model.now },
 }
 
-/// Whether all targets are marked.
-fn all_marked(targets: &[u32], marks: &Marks) -> bool
-    requires { All (λ t. t < length marks.now) targets.now }
-    ensures { result ≡ list_all (is_marked marks.now) targets.now }
-{
-    targets.iter().all(|t| marks.at(*t))
-}
-
 impl Reward<'_, '_, '_> {
     /// Whether state `s` goes on.
     fn decides(&self, s: u32) -> bool
@@ -39,14 +30,16 @@ impl Reward<'_, '_, '_> {
     {
         !self.goals.at(s) && self.finite.at(s)
     }
+}
 
-    /// Whether choice `c` of state `s` leads to states of finite value alone.
-    fn stays_finite(&self, s: u32, c: u32) -> bool
-        requires state { s < states_of self.now.model.now }
-        requires choice { c < length (choices_at self.now.model.now s) }
-        ensures { result ≡ stays_in (is_marked self.now.finite.now) (row_at self.now.model.now s c) }
-    {
-        all_marked(self.model.row(s, c).targets, self.finite)
+/// A state passes where its value is finite.
+impl StateTest for Reward<'_, '_, '_> {
+    ghost states = { λ p. states_of p.model.now };
+
+    ghost test = { λ p. is_marked p.finite.now };
+
+    fn passes(self, t: u32) -> bool {
+        self.finite.at(t)
     }
 }
 
@@ -76,7 +69,7 @@ impl ShortestPath for Reward<'_, '_, '_> {
     fn is_candidate(&self, s: u32, c: u32) -> bool {
         match self.dir {
             Dir::Max => true,
-            Dir::Min => self.stays_finite(s, c),
+            Dir::Min => each_target(self.model, s, c, *self),
         }
     }
 

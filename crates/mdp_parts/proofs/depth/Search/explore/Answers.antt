@@ -16,7 +16,9 @@ loop-self-init c =
     }
 
 pub loop-self-preserved : goal.loop-self-preserved
-loop-self-preserved c = record { search = c.in_ok-go_on.ensures.search; met = c.in_ok-go_on.ensures.kept c.args.root c.loop-self.invariant.met; kept = λ s e. c.in_ok-go_on.ensures.kept s (c.loop-self.invariant.kept s e) }
+loop-self-preserved c =
+    let more = c.in_ok-go_on.ensures in
+    record { search = more.search; met = more.kept c.args.root c.loop-self.invariant.met; kept = λ s e. more.kept s (c.loop-self.invariant.kept s e) }
 
 pub go_on-requires-clause-edges : goal.go_on-requires-clause-edges
 go_on-requires-clause-edges c = c.requires.edges

@@ -24,3 +24,7 @@ returns-else-decides c =
     ∙ sym (reward-amount c.args.self.now.dir c.args.self.now.model.now c.args.self.now.name c.args.self.now.goals.now c.args.self.now.finite.now c.args.s c.requires.node c.args.c c.requires.choice
     ∙ ap (λ (b : Bool). if b then earned c.args.self.now.dir c.args.self.now.model.now c.args.self.now.name c.args.self.now.finite.now c.args.s c.args.c else of_int (pos 0))
     (sym c.decides.ensures ∙ c.if-decides.false))
+
+pub reward-requires-clause-state : goal.reward-requires-clause-state
+reward-requires-clause-state c =
+    let n = reward-count c.args.self.now.dir c.args.self.now.model.now c.args.self.now.name c.args.self.now.goals.now c.args.self.now.finite.now in omega (arith, c.requires.node)

@@ -5,12 +5,12 @@ use Rattle.mdp_reward.specs.Problem.{may_take}
 use Rattle.mdp_reward.proofs.Nodes.{reward-count, reward-choice, reward-candidate}
 use Rattle.mdp_reward.proofs.problem.RewardShortestPath.is_candidate.Goals as goal
 
-pub stays_finite-requires-clause-state : goal.stays_finite-requires-clause-state
-stays_finite-requires-clause-state c =
+pub each_target-requires-clause-state : goal.each_target-requires-clause-state
+each_target-requires-clause-state c =
     let n = reward-count c.args.self.now.dir c.args.self.now.model.now c.args.self.now.name c.args.self.now.goals.now c.args.self.now.finite.now in omega (arith, c.requires.node)
 
-pub stays_finite-requires-clause-choice : goal.stays_finite-requires-clause-choice
-stays_finite-requires-clause-choice c =
+pub each_target-requires-clause-choice : goal.each_target-requires-clause-choice
+each_target-requires-clause-choice c =
     (reward-choice c.args.self.now.dir c.args.self.now.model.now c.args.self.now.name c.args.self.now.goals.now c.args.self.now.finite.now c.args.s c.args.c c.requires.node c.requires.choice).0
 
 pub returns-in-Max : goal.returns-in-Max
@@ -20,6 +20,6 @@ returns-in-Max c =
 
 pub returns-in-Min : goal.returns-in-Min
 returns-in-Min c =
-    c.stays_finite.ensures
+    c.each_target.ensures
     ∙ sym (reward-candidate c.args.self.now.dir c.args.self.now.model.now c.args.self.now.name c.args.self.now.goals.now c.args.self.now.finite.now c.args.s c.requires.node c.args.c c.requires.choice
     ∙ ap (λ (d : Dir). may_take d c.args.self.now.finite.now (row_at c.args.self.now.model.now c.args.s c.args.c)) c.in-Min.is)
