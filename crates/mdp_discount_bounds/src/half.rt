@@ -1,11 +1,10 @@
-ghost use Rattle.std.specs.Prelude.{◌≡◌, ◌<◌, [], ◌∷◌, length};
+ghost use Rattle.std.specs.Prelude.{◌≡◌, ◌<◌, length};
 ghost use Rattle.std.specs.Result.{result_ok};
 ghost use Rattle.mdp_spec.specs.Mdp.{states_of, choices_at};
-ghost use Rattle.mdp_farkas.specs.Verdict.{at_choices, objection_to};
-ghost use Rattle.mdp_discount_bounds.specs.Checks.{told_left, number_allows, allows, each_check, policy_check};
+ghost use Rattle.mdp_discount_bounds.specs.Checks.{told_left, number_allows, allows, each_check};
 
 use mdp_bounds::{finite_row_sum, plain_sum, value_stands};
-use mdp_farkas::{Objection, OneCheck, Rule, each_choice, judged, stays_finite_at};
+use mdp_farkas::{Objection, OneCheck, Rule, judged, stays_finite_at};
 use mdp_num::{Frac, Wide};
 use mdp_rows::{Dir, Model};
 
@@ -65,7 +64,7 @@ impl Half<'_> {
     }
 
     /// Whether the value of the state is as good as what choice `c` earns, as a missing one is.
-    fn allows(self, c: u32) -> Result<bool, Wide>
+    pub(crate) fn allows(self, c: u32) -> Result<bool, Wide>
         requires { c < length (choices_at self.model.now self.state) }
         ensures { result_ok result ≡ allows self.entry.dir self.entry.model.now self.entry.name self.entry.factor.now self.entry.values.now self.entry.state c }
     {
@@ -73,26 +72,5 @@ impl Half<'_> {
             Some(value) => self.number_allows(c, &value),
             None => Ok(true),
         }
-    }
-
-    /// The value against each choice.
-    pub(crate) fn on_each(self) -> Result<(), Objection>
-        ensures { result ≡ objection_to (at_choices self.entry.model.now self.entry.state
-            (each_check self.entry.dir self.entry.model.now self.entry.name self.entry.factor.now self.entry.values.now self.entry.state)) }
-    {
-        each_choice(self.model, self.state, self)
-    }
-
-    /// The value against the policy's choice `c`.
-    pub(crate) fn on_policy(self, c: u32) -> Result<(), Objection>
-        requires { c < length (choices_at self.model.now self.state) }
-        ensures { result ≡ objection_to (policy_check self.entry.dir self.entry.model.now self.entry.name self.entry.factor.now self.entry.values.now self.entry.state c ∷ []) }
-    {
-        judged(
-            self.allows(c),
-            Rule::DiscountedOnPolicy,
-            self.state,
-            Some(c),
-        )
     }
 }

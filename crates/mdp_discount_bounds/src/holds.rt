@@ -6,13 +6,14 @@ ghost use Rattle.mdp_rows.specs.declared.dir.Dir.TheVariants.{Max, Min};
 ghost use Rattle.mdp_bounds.specs.Says.{covering_rewards};
 ghost use Rattle.mdp_discount_rules.specs.Rules.{IsFactor};
 ghost use Rattle.mdp_discount_bounds.specs.Between.{DiscountMaxBetween, DiscountMinBetween};
-ghost use Rattle.mdp_discount_bounds.specs.Checks.{each_check, policy_check, remainder_check, bounds_at, state_checks, discount_bounds_checks, IsDiscountBounds, IsTrivialDiscount};
+ghost use Rattle.mdp_discount_bounds.specs.Checks.{each_check, policy_check, remainder_check, bounds_at, discount_bounds_checks, IsDiscountBounds, IsTrivialDiscount};
 
 use crate::bounds::DiscountBounds;
 use crate::half::Half;
 use crate::remainder::greatest_magnitude;
 use mdp_farkas::{
-    Checks, Objection, Rule, Verdict, choice_at, each_below, judged_at, reversed, verdict_after,
+    Checks, Objection, Rule, Verdict, choice_at, each_below, each_choice, judged, judged_at,
+    reversed, verdict_after,
 };
 use mdp_num::Frac;
 use mdp_rows::{Dir, Model};
@@ -76,7 +77,7 @@ impl<'a> Claimed<'a> {
             values: self.covering(self.dir),
             state: s,
         };
-        half.on_each()
+        each_choice(self.model, s, half)
     }
 
     /// The half on the policy's choice, at state `s`.
@@ -95,7 +96,12 @@ impl<'a> Claimed<'a> {
             values: self.covering(dir),
             state: s,
         };
-        half.on_policy(choice)
+        judged(
+            half.allows(choice),
+            Rule::DiscountedOnPolicy,
+            s,
+            Some(choice),
+        )
     }
 
     /// The rules at state `s`, where the policy takes this choice.
@@ -108,18 +114,6 @@ impl<'a> Claimed<'a> {
         self.follows(s, choice)
     }
 
-    /// The rules at each state, from 0 on.
-    fn states(self, choices: &[u32]) -> Result<(), Objection>
-        requires { length choices.now ≡ states_of self.model.now }
-        ensures { result ≡ objection_to (state_checks self.entry.dir self.entry.model.now self.entry.name self.entry.factor.now self.entry.lower.now self.entry.upper.now choices.now) }
-    {
-        let states = States {
-            claimed: self,
-            choices,
-        };
-        each_below(self.model.states(), states)
-    }
-
     /// The remainder is the greatest magnitude of the values.
     fn remainder(self, remainder: &Frac) -> Result<(), Objection>
         ensures { result ≡ objection_to (remainder_check self.entry.lower.now self.entry.upper.now remainder.now ∷ []) }
@@ -128,13 +122,17 @@ impl<'a> Claimed<'a> {
         judged_at(Ok(holds), Rule::RemainderIsGreatest, None, None)
     }
 
-    /// All rules: those at each state, and that of the remainder.
+    /// All rules: those at each state, from 0 on, and that of the remainder.
     fn walk(self, choices: &[u32], remainder: &Frac) -> Result<(), Objection>
         requires { length choices.now ≡ states_of self.model.now }
         ensures { result ≡ objection_to (discount_bounds_checks self.entry.dir self.entry.model.now self.entry.name self.entry.factor.now
             self.entry.lower.now self.entry.upper.now remainder.now choices.now) }
     {
-        self.states(choices)?;
+        let states = States {
+            claimed: self,
+            choices,
+        };
+        each_below(self.model.states(), states)?;
         self.remainder(remainder)
     }
 }

@@ -1,9 +1,9 @@
 ghost use Rattle.std.specs.Prelude.{◌≡◌, ◌<◌, ◌↔◌, [], ◌∷◌, length, slice_index};
 ghost use Rattle.std.specs.Result.{result_ok};
 ghost use Rattle.mdp_spec.specs.Mdp.{states_of, choices_at, value_at};
-ghost use Rattle.mdp_farkas.specs.Verdict.{at_choices, objection_to, verdict_of, IsYes, IfYes};
+ghost use Rattle.mdp_farkas.specs.Verdict.{objection_to, verdict_of, IsYes, IfYes};
 ghost use Rattle.mdp_discount_rules.specs.Bounds.{DiscountBound};
-ghost use Rattle.mdp_discount_rules.specs.Checks.{covers_check, reached_check, values_checks, checks_at, remainder_check, state_checks, discount_checks, IsDiscount};
+ghost use Rattle.mdp_discount_rules.specs.Checks.{covers_check, reached_check, checks_at, remainder_check, discount_checks, IsDiscount};
 
 use crate::cert::DiscountCert;
 use crate::earning::earned;
@@ -81,49 +81,30 @@ impl Claimed<'_> {
         equal(&self.values[s as usize], &sum)
     }
 
-    /// The value of state `s` against each of its choices.
-    fn choices_of(self, s: u32) -> Result<(), Objection>
-        requires { s < states_of self.model.now }
-        ensures { result ≡ objection_to (at_choices self.entry.model.now s (covers_check self.entry.dir self.entry.model.now self.entry.name self.entry.factor.now self.entry.values.now s)) }
-    {
-        let covers = Covers {
-            claimed: self,
-            state: s,
-        };
-        each_choice(self.model, s, covers)
-    }
-
-    /// The value of state `s` against the policy's choice `c`.
-    fn policy_at(self, s: u32, c: u32) -> Result<(), Objection>
-        requires state { s < states_of self.model.now }
-        requires choice { c < length (choices_at self.model.now s) }
-        ensures { result ≡ objection_to (reached_check self.entry.model.now self.entry.name self.entry.factor.now self.entry.values.now s c ∷ []) }
-    {
-        judged(self.is_reached(s, c), Rule::DiscountedOnPolicy, s, Some(c))
-    }
-
     /// The rules at state `s`, where the policy takes this choice.
     fn state_at(self, s: u32, choice: u32) -> Result<(), Objection>
         requires { s < states_of self.model.now }
         ensures { result ≡ objection_to (checks_at self.entry.dir self.entry.model.now self.entry.name self.entry.factor.now self.entry.values.now s choice) }
     {
         choice_at(self.model, s, choice)?;
-        self.choices_of(s)?;
-        self.policy_at(s, choice)
+        let covers = Covers {
+            claimed: self,
+            state: s,
+        };
+        each_choice(self.model, s, covers)?;
+        judged(
+            self.is_reached(s, choice),
+            Rule::DiscountedOnPolicy,
+            s,
+            Some(choice),
+        )
     }
 
-    /// The rules at each state, from 0 on.
-    fn states(self) -> Result<(), Objection>
-        ensures { result ≡ objection_to (state_checks self.entry.dir self.entry.model.now self.entry.name self.entry.factor.now self.entry.values.now self.entry.choices.now) }
-    {
-        each_below(self.model.states(), self)
-    }
-
-    /// All rules: those at each state, and that of the remainder.
+    /// All rules: those at each state, from 0 on, and that of the remainder.
     fn walk(self, remainder: &Frac) -> Result<(), Objection>
         ensures { result ≡ objection_to (discount_checks self.entry.dir self.entry.model.now self.entry.name self.entry.factor.now self.entry.values.now remainder.now self.entry.choices.now) }
     {
-        self.states()?;
+        each_below(self.model.states(), self)?;
         judged_at(
             is_greatest(remainder, self.values),
             Rule::RemainderIsGreatest,

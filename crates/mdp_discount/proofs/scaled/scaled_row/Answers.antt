@@ -1,9 +1,12 @@
-use Rattle.std.proofs.Common.{◌≡◌, ◌∙◌, ◌+◌, ◌++◌, ◌∷◌, [], ℕ, List, length, true, Option, Some, sym, ap, subst}
-use Rattle.std.specs.Option.{option_map, IfSome}
+use Rattle.std.proofs.Common.{◌≡◌, ◌∙◌, ◌+◌, ◌++◌, ◌∷◌, [], ℕ, List, length, Bool, true, false, cond, Option, Some, None, refl, sym, ap, subst}
+use Rattle.std.specs.Prelude.{◌&&◌}
+use Rattle.std.specs.Option.{option_map, is_some, IfSome}
 use Rattle.std.proofs.lemmas.List.{length-append}
+use Rattle.mdp_math.specs.Rational.{ℚ}
+use Rattle.mdp_num.specs.Written.{written_sub}
 use Rattle.mdp_spec.specs.Mdp.{Entry}
 use Rattle.mdp_spec.specs.Row.{entries, IsDistribution, IsRow}
-use Rattle.mdp_discount.specs.Problem.{scaled_entries, discounted_row, products_fit}
+use Rattle.mdp_discount.specs.Problem.{1ℚ, scaled_entries, discounted_row, products_fit}
 use Rattle.mdp_discount.specs.ScaledView.{entries_in}
 use Rattle.mdp_discount.specs.declared.scaled.Entries.{Entries}
 use Rattle.mdp_discount.proofs.ScaledRows.{discounted-row}
@@ -53,3 +56,26 @@ returns c =
     ∙ sym (scaled-some c.args.end c.args.factor.now (row b)
     (settled-fits c.args.end c.args.factor.now c.in-Some.made.targets.items c.in_ok-targets.targets.now c.in-Some.made.probs.items c.in_ok-probs.probs.now [] (row b) c.in-Ok.left c.whole.result
     (products_are b).1 (c.in-Ok.ensures {u = tt}) c.whole.ensures))
+
+-- there is no row where a product is past width, nor where what is left is
+no_products : (b o : Bool) (es r : List Entry) → None ≡ cond b (Some es) None → None ≡ cond (b && o) (Some r) None
+no_products true o es r e = cc
+no_products false o es r e = refl
+
+nothing_left : (b : Bool) (o : Option ℚ) (r : List Entry) → None ≡ o → None ≡ cond (b && is_some o) (Some r) None
+nothing_left true None r e = refl
+nothing_left false None r e = refl
+nothing_left b (Some x) r e = cc
+
+pub returns-in_default : goal.returns-in_default
+returns-in_default c =
+    let f = c.args.factor.now in
+    let es = entries c.args.row.targets.now c.args.row.probs.now in
+    no_products (products_fit f es) (is_some (written_sub 1ℚ f)) (scaled_entries f es) (discounted_row c.args.end f es)
+    (ap (option_map entries_in) (sym c.in_default.is) ∙ (c.in_ok-made.ensures {u = tt}).entries)
+
+pub returns-in_default-sub : goal.returns-in_default-sub
+returns-in_default-sub c =
+    let f = c.args.factor.now in
+    let es = entries c.args.row.targets.now c.args.row.probs.now in
+    nothing_left (products_fit f es) (written_sub 1ℚ f) (discounted_row c.args.end f es) (c.in_default-sub.ensures {u = tt} ∙ ap (λ (x : ℚ). written_sub x f) c.whole.ensures)

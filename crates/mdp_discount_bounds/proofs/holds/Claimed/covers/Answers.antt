@@ -7,5 +7,5 @@ use Rattle.mdp_discount_bounds.proofs.holds.Claimed.covers.Goals as goal
 pub returns : goal.returns
 returns c =
     let x = c.args.self in
-    c.on_each.ensures
+    c.each_choice.ensures
     ∙ ap (λ (v : List (Option ℚ)). objection_to (at_choices x.model.now c.args.s (each_check x.dir x.model.now x.name x.factor.now v c.args.s))) c.covering.ensures.values
