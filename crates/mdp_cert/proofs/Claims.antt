@@ -59,23 +59,26 @@ map-some : {A B : Type 0} (f : A → B) (o : Option A) (y : B) → option_map f 
 map-some f None y e = absurd cc
 map-some f (Some x) y e = (x, refl, cc)
 
-two-found : (text : List ℕ) (names : List ℕ × List ℕ) → two_names text ≡ Some names
+-- two names, where the text is cut at the first quote
+two-of : (text first rest : List ℕ) → text ≡ first ++ rest → (names : List ℕ × List ℕ)
+    → cond (is_name first) (option_map (λ label. (first, label)) (name_behind (codes "\" \"") rest)) None ≡ Some names
     → (text ≡ names.0 ++ (34 ∷ 32 ∷ 34 ∷ (names.1 ++ 34 ∷ []))) × (is_name names.0 ≡ true) × (is_name names.1 ≡ true)
-two-found text names e = by (is_name (before_first is_quote text)) refl e
+two-of text first rest split names e = by (is_name first) refl e
   where
-    by : (b : Bool) → is_name (before_first is_quote text) ≡ b
-        → cond b (option_map (λ label. (before_first is_quote text, label)) (name_behind (codes "\" \"") (drop (position_or_len is_quote text) text))) None ≡ Some names
+    by : (b : Bool) → is_name first ≡ b → cond b (option_map (λ label. (first, label)) (name_behind (codes "\" \"") rest)) None ≡ Some names
         → (text ≡ names.0 ++ (34 ∷ 32 ∷ 34 ∷ (names.1 ++ 34 ∷ []))) × (is_name names.0 ≡ true) × (is_name names.1 ≡ true)
     by false t e = absurd cc
     by true t e =
-        let rest = drop (position_or_len is_quote text) text in
-        let m = map-some (λ (label : List ℕ). let p : List ℕ × List ℕ = (before_first is_quote text, label) in p) (name_behind (codes "\" \"") rest) names e in
+        let m = map-some (λ (label : List ℕ). let p : List ℕ × List ℕ = (first, label) in p) (name_behind (codes "\" \"") rest) names e in
         let g = name-found (codes "\" \"") rest m.0 m.1 in
-        subst (λ (p : List ℕ × List ℕ). (text ≡ p.0 ++ (34 ∷ 32 ∷ 34 ∷ (p.1 ++ 34 ∷ []))) × (is_name p.0 ≡ true) × (is_name p.1 ≡ true)) m.2 (
-          sym (take-append-drop (position_or_len is_quote text) text) ∙ ap (λ (ys : List ℕ). before_first is_quote text ++ ys) g.0,
-          t,
-          g.1,
-        )
+        subst (λ (p : List ℕ × List ℕ). (text ≡ p.0 ++ (34 ∷ 32 ∷ 34 ∷ (p.1 ++ 34 ∷ []))) × (is_name p.0 ≡ true) × (is_name p.1 ≡ true)) m.2
+        (split ∙ ap (λ (ys : List ℕ). first ++ ys) g.0, t, g.1)
+
+two-found : (text : List ℕ) (names : List ℕ × List ℕ) → two_names text ≡ Some names
+    → (text ≡ names.0 ++ (34 ∷ 32 ∷ 34 ∷ (names.1 ++ 34 ∷ []))) × (is_name names.0 ≡ true) × (is_name names.1 ≡ true)
+two-found text names e =
+    let end = position_or_len is_quote text in
+    two-of text (before_first is_quote text) (drop end text) (sym (take-append-drop end text)) names e
 
 two-again : (name label : List ℕ) → is_name name ≡ true → is_name label ≡ true → two_names (name ++ (34 ∷ 32 ∷ 34 ∷ (label ++ 34 ∷ []))) ≡ Some (name, label)
 two-again name label h g =

@@ -11,7 +11,7 @@ use Rattle.mdp_text.proofs.Pieces.{Free}
 use Rattle.mdp_text.proofs.Joined.{AllFree, free-whole}
 use Rattle.mdp_cert.specs.Cert as cert
 use Rattle.mdp_cert.specs.Claims.{reward_text, reward_same}
-use Rattle.mdp_cert.proofs.Columns.{IsColumns, or-found, or-again, free-or, and_then-some, whole-of-found, whole-of-again, reward-found, reward-again, free-reward, reward-is_value, number-same, number-itself}
+use Rattle.mdp_cert.proofs.Columns.{IsColumns, is-columns, or-found, or-again, free-or, and_then-some, whole-of-found, whole-of-again, reward-found, reward-again, free-reward, reward-is_value, number-same, number-itself}
 use Rattle.mdp_discount_bounds.specs.Cert.{IsValueNarrow}
 use Rattle.mdp_discount_bounds_text.specs.declared.entry.BoundsEntry.{BoundsEntry}
 use Rattle.mdp_discount_bounds_text.specs.Entries.{lower_text, lower_parse, between_parse, between_columns, IsEntryInWidth}
@@ -110,13 +110,4 @@ entry-free : (c : ℕ) (x : BoundsEntry) → c < 45 → IsEntryInWidth x → All
 entry-free c x lt h = (free-lower c x.lower lt h.lower, (free-upper c x.upper lt h.upper, (free-whole c x.choice (omega arith) h.choice, tt)))
 
 pub between-is_columns : IsColumns between_columns IsEntryInWidth
-between-is_columns = record {
-  some = omega arith;
-  count = λ x. refl;
-  found = entry-found;
-  again = entry-again;
-  blanks = λ x h. entry-free 32 x (omega arith) h;
-  feeds = λ x h. entry-free 10 x (omega arith) h;
-  same = entry-same;
-  itself = entry-itself;
-}
+between-is_columns = is-columns between_columns IsEntryInWidth (omega arith) (λ x. refl) entry-found entry-again entry-free entry-same entry-itself

@@ -1,7 +1,6 @@
 -- The text of a certificate of bounds of the discounted reward is read exactly where it is the text of what is read.
-use Rattle.std.proofs.Common.{◌≡◌, ℕ, ◌+◌, ◌≤◌, ◌<◌, ◌^◌, true, List, [], ◌++◌, length, map, Option, Result, Ok, refl, sym, ap, subst, ◌∙◌, append_assoc}
+use Rattle.std.proofs.Common.{◌≡◌, ℕ, ◌+◌, ◌≤◌, ◌<◌, ◌^◌, true, List, [], ◌++◌, length, map, Result, Ok, refl, sym, ap, subst, ◌∙◌, append_assoc}
 use Rattle.std.proofs.lemmas.List.{append-nil}
-use Rattle.mdp_math.specs.Rational.{ℚ}
 use Rattle.mdp_text.specs.declared.error.CertKind.TheVariants.{Version}
 use Rattle.mdp_text.specs.declared.error.Refusal.{Refusal}
 use Rattle.mdp_text.specs.Lines.{◌>>=◌, is_line, Place, place, line_by, nothing_behind}

@@ -5,12 +5,13 @@ ghost use Rattle.mdp_discount_bounds_text.specs.Code.{plain_head};
 ghost use Rattle.mdp_discount_bounds_text.specs.Reading.{between_at, init_at, head_from, begins_so, is_discount_claim};
 
 use crate::lower::lower_of;
+use mdp_cert::three_words;
 use mdp_discount_bounds::InitialBounds;
 use mdp_discount_text::{ClaimLine, claim_at, remainder_at};
 use mdp_num::Frac;
 use mdp_text::{
-    CertError, CertKind, Refusal, cut_word, next_line, only_word, or_refused, refuse_if, reward_of,
-    states_from, whole_at, words_behind,
+    CertError, CertKind, Refusal, next_line, or_refused, refuse_if, reward_of, states_from,
+    whole_at, words_behind,
 };
 use std::alloc::Global;
 
@@ -47,11 +48,10 @@ fn between_at(states: u32, line: u64, text: &[u8]) -> Result<Option<InitialBound
     ensures { result ≡ between_at states line text.now }
 {
     let behind = words_behind(line, text, b"init", 3)?;
-    let (word, behind) = cut_word(behind);
-    let state = whole_at(line, word)?;
-    let (word, behind) = cut_word(behind);
-    let lower = or_refused(CertKind::Number, line, lower_of(word))?;
-    let upper = or_refused(CertKind::Number, line, reward_of(only_word(behind)))?;
+    let (state, lower, upper) = three_words(behind);
+    let state = whole_at(line, state)?;
+    let lower = or_refused(CertKind::Number, line, lower_of(lower))?;
+    let upper = or_refused(CertKind::Number, line, reward_of(upper))?;
     refuse_if(CertKind::Count, line, state >= states)?;
     Ok(Some(InitialBounds {
         state,

@@ -3,10 +3,10 @@ ghost use Rattle.mdp_discount_bounds_text.specs.Entries.{between_columns, entrie
 
 use crate::entry::BoundsEntry;
 use crate::lower::{lower_of, lower_part};
-use mdp_cert::{Column, Entry, Lists, Value, column_of, push_value};
+use mdp_cert::{Column, Entry, Lists, Value, column_of, push_value, three_words};
 use mdp_discount_bounds::DiscountBounds;
 use mdp_num::{Frac, Memory};
-use mdp_text::{cut_word, only_word, push_parts, push_word, reward_of, whole_of};
+use mdp_text::{push_parts, push_word, reward_of, whole_of};
 use std::alloc::{AllocError, Global};
 
 /// The line of a state: two values and a choice.
@@ -18,13 +18,15 @@ impl Entry for BoundsEntry {
     }
 
     fn read(text: &[u8]) -> Option<BoundsEntry> {
-        let (lower, others) = cut_word(text);
-        let (upper, choice) = cut_word(others);
-        Some(BoundsEntry {
-            lower: lower_of(lower)?,
-            upper: reward_of(upper)?,
-            choice: whole_of(only_word(choice))?,
-        })
+        let (lower, upper, choice) = three_words(text);
+        match (lower_of(lower), reward_of(upper), whole_of(choice)) {
+            (Some(lower), Some(upper), Some(choice)) => Some(BoundsEntry {
+                lower,
+                upper,
+                choice,
+            }),
+            _ => None,
+        }
     }
 
     fn push_words(&self, out: &mut Vec<u8>) -> Result<(), Memory> {

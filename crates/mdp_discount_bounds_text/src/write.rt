@@ -5,7 +5,7 @@ ghost use Rattle.mdp_cert.specs.declared.version.Version.TheVariants.{Two};
 ghost use Rattle.mdp_cert.specs.Spelling.{closed_lines};
 ghost use Rattle.mdp_discount_bounds.specs.Plain.{plain};
 ghost use Rattle.mdp_discount_bounds_text.specs.Entries.{lower_text, between_columns, entries_of};
-ghost use Rattle.mdp_discount_bounds_text.specs.Spelling.{version_text, init_text, head_text, text_of};
+ghost use Rattle.mdp_discount_bounds_text.specs.Spelling.{init_text, head_text, text_of};
 
 use crate::lower::lower_part;
 use crate::state_lines::LentBounds;
@@ -15,14 +15,6 @@ use mdp_discount_text::{push_claim, push_remainder};
 use mdp_num::Memory;
 use mdp_text::Part::Bytes;
 use mdp_text::{or_cut_back, push_number, push_parts, push_start};
-
-/// Appends the line of the version.
-fn push_version(out: &mut Vec<u8>) -> Result<(), Memory>
-    ensures text { OnOk result (out.new.items ≡ out.old.items ++ line version_text) }
-    ensures front { Keeps out.old.items out.new.items }
-{
-    push_parts(out, &[Bytes(b"mdp-bounds 1\n")])
-}
 
 /// Appends the line of a given initial state with its lower and its upper value.
 fn push_between(out: &mut Vec<u8>, init: &InitialBounds) -> Result<(), Memory>
@@ -51,7 +43,7 @@ fn push_head(out: &mut Vec<u8>, cert: &DiscountBoundsCert) -> Result<(), Memory>
     ensures text { OnOk result (out.new.items ≡ out.old.items ++ head_text (plain cert.now)) }
     ensures front { Keeps out.old.items out.new.items }
 {
-    push_version(out)?;
+    push_parts(out, &[Bytes(b"mdp-bounds 1\n")])?;
     push_claim(out, cert.dir, &cert.name, &cert.factor)?;
     push_number(out, cert.bounds.lower.len() as u64)?;
     push_init(out, &cert.init)?;

@@ -1,7 +1,9 @@
+use Rattle.std.proofs.Common.{refl}
 use Rattle.mdp_text.specs.Lines.{place}
 use Rattle.mdp_cert.specs.Cert.{plain_claim}
 use Rattle.mdp_bounds_text.specs.Cert.{plain_body}
 use Rattle.mdp_bounds_text.specs.Code.{plain_head}
+use Rattle.mdp_bounds_text.specs.Reading.{outcome}
 use Rattle.mdp_bounds_text.proofs.Heads.{head-found}
 use Rattle.mdp_bounds_text.proofs.Bodies.{body-found}
 use Rattle.mdp_bounds_text.proofs.read.read_bounds.Goals as goal
@@ -19,3 +21,16 @@ invariant_of-result c =
       inside = head.is.init.inside;
       entries = body.fits.entries;
     }
+
+pub returns-clause-read : goal.returns-clause-read
+unfolding outcome
+returns-clause-read c =
+    rw (
+      c.in_ok-text.ensures,
+      ← c.is_line.ensures,
+      c.in_ok-is_line.was,
+      c.in_ok-head.ensures,
+      c.in_ok-body.ensures,
+      ← c.nothing_behind.ensures,
+      c.in_ok-nothing_behind.was,
+    ) refl

@@ -1,7 +1,7 @@
-use Rattle.std.proofs.Common.{◌+◌, sym}
+use Rattle.std.proofs.Common.{◌+◌, refl, sym}
 use Rattle.mdp_text.specs.Lines.{place}
 use Rattle.mdp_discount_rules.specs.Cert.{Fits}
-use Rattle.mdp_discount_text.specs.Text.{certificate_of}
+use Rattle.mdp_discount_text.specs.Text.{certificate_of, outcome}
 use Rattle.mdp_discount_text.specs.Code.{plain_head, plain_columns}
 use Rattle.mdp_discount_text.proofs.Outcomes.{read-whole, read-fits}
 use Rattle.mdp_discount_text.proofs.read.read_discount.Goals as goal
@@ -25,3 +25,19 @@ invariant_of-result c =
       discount = fits.discount;
       inside = fits.inside;
     }
+
+pub returns-clause-read : goal.returns-clause-read
+unfolding outcome
+returns-clause-read c =
+    rw (
+      c.in_ok-text.ensures,
+      ← c.is_line.ensures,
+      c.in_ok-is_line.was,
+      c.in_ok-head.ensures,
+      (c.in_ok-columns.ensures {u = tt}).said,
+      c.in_ok-text-2.ensures,
+      ← c.is_line-2.ensures,
+      c.in_ok-is_line-2.was,
+      ← c.nothing_behind.ensures,
+      c.in_ok-nothing_behind.was,
+    ) refl
