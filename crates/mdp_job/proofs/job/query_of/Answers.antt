@@ -7,3 +7,6 @@ returns-then-eq-3 c = grind (arith, common_steps)
 
 pub returns : goal.returns
 returns c = grind (arith, common_steps)
+
+pub returns-then-eq-2 : goal.returns-then-eq-2
+returns-then-eq-2 c = grind (arith, common_steps)
