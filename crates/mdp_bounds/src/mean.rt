@@ -34,7 +34,12 @@ struct Gains<'a> {
 fn are_all(values: &[Frac], value: &Frac) -> bool
     ensures { result ≡ list_all (eq_ℚ value.now) values.now }
 {
-    values.iter().all(|other| *value == *other)
+    for other in values {
+        if *value != *other {
+            return false;
+        }
+    }
+    true
 }
 
 /// Whether all are one number.

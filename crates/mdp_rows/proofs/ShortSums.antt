@@ -47,14 +47,22 @@ sum-read a b n l h k p q e =
     let m : to_z w128 (of_z w128 n) ≡ a +ℤ b = narrow-bits _ n g ∙ r.0 in
     (written_add-ratios a b l h p q r.1 k ∙ ap (λ (z : ℤ). Some (ratio z l)) (sym m), subst (λ (z : ℤ). unsigned_abs z < 2 ^ 127) (sym m) r.1)
 
--- the written sum of a row takes its next entry
+-- the written sum of a row begins with its next entry
+pub written_sum-next : (z : List ℚ) (ts : List ℕ) (ps : List ℚ) (i : ℕ) (p v acc : ℚ) → i < length ts → length ts ≡ length ps → v ≡ value_at z (get_or ts i 0)
+    → written_sum z acc (entries (drop i ts) (drop i ps))
+    ≡ (written_mul (get_or ps i p) v >>= λ t. written_add acc t >>= λ s. written_sum z s (entries (drop (i + 1) ts) (drop (i + 1) ps)))
+written_sum-next z ts ps i p v acc h e f =
+    let row = entries (drop (i + 1) ts) (drop (i + 1) ps) in
+    ap₂ (λ (us : List ℕ) (qs : List ℚ). written_sum z acc (entries us qs)) (drop_more ts i 0 h) (drop_more ps i p (subst (λ (n : ℕ). i < n) e h))
+    ∙ ap (λ (x : ℚ). written_mul (get_or ps i p) x >>= λ t. written_add acc t >>= λ s. written_sum z s row) (sym f)
+
 pub written_sum-step : (z : List ℚ) (ts : List ℕ) (ps : List ℚ) (i : ℕ) (p v acc term next : ℚ) → i < length ts → length ts ≡ length ps
     → v ≡ value_at z (get_or ts i 0) → written_mul (get_or ps i p) v ≡ Some term → written_add acc term ≡ Some next
     → written_sum z acc (entries (drop i ts) (drop i ps)) ≡ written_sum z next (entries (drop (i + 1) ts) (drop (i + 1) ps))
 written_sum-step z ts ps i p v acc term next h e f m a =
     let row = entries (drop (i + 1) ts) (drop (i + 1) ps) in
-    ap₂ (λ (us : List ℕ) (qs : List ℚ). written_sum z acc (entries us qs)) (drop_more ts i 0 h) (drop_more ps i p (subst (λ (n : ℕ). i < n) e h))
-    ∙ ap (λ (o : Option ℚ). o >>= λ t. written_add acc t >>= λ s. written_sum z s row) (ap (λ (x : ℚ). written_mul (get_or ps i p) x) (sym f) ∙ m)
+    written_sum-next z ts ps i p v acc h e f
+    ∙ ap (λ (o : Option ℚ). o >>= λ t. written_add acc t >>= λ s. written_sum z s row) m
     ∙ ap (λ (o : Option ℚ). o >>= λ s. written_sum z s row) a
 
 pub written_sum-end : (z : List ℚ) (ts : List ℕ) (ps : List ℚ) (i : ℕ) (acc : ℚ) → length ts ≤ i → written_sum z acc (entries (drop i ts) (drop i ps)) ≡ Some acc

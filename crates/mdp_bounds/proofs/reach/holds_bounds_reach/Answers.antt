@@ -15,7 +15,8 @@ returns c =
     let policy = c.args.cert.now.choices.items in
     let ranks = c.args.cert.now.ranks.items in
     let e : c.verdict_after.result ≡ verdict_of (bounds_checks c.args.dir m goals low high policy ranks) =
-    rw (sym c.as_slice.ensures.value, sym c.as_slice-2.ensures.value, sym c.as_slice-3.ensures.value, sym c.as_slice-4.ensures.value) (c.verdict_after.ensures ∙ ap verdict (rw c.states.ensures at c.each_below.ensures)) in
+    rw (sym c.as_slice.ensures.value, sym c.as_slice-2.ensures.value, sym c.as_slice-3.ensures.value, sym c.as_slice-4.ensures.value)
+    (c.verdict_after.ensures ∙ ap verdict (rw c.states.ensures at c.each_below.ensures)) in
     record {
       verdict = e;
       rules = bounds_rules m c.known.ensures.mdp goals low high policy ranks c.args.dir c.verdict_after.result c.requires.choices e;

@@ -15,7 +15,8 @@ returns c =
     let policy = c.args.cert.now.choices.items in
     let ranks = c.args.cert.now.ranks.items in
     let e : c.verdict_after.result ≡ verdict_of (reward_bounds_checks c.args.dir m c.args.m goals low high policy ranks) =
-    rw (sym c.as_slice.ensures.value, sym c.as_slice-2.ensures.value, sym c.as_slice-3.ensures.value, sym c.as_slice-4.ensures.value) (c.verdict_after.ensures ∙ ap verdict (rw c.states.ensures at c.each_below.ensures)) in
+    rw (sym c.as_slice.ensures.value, sym c.as_slice-2.ensures.value, sym c.as_slice-3.ensures.value, sym c.as_slice-4.ensures.value)
+    (c.verdict_after.ensures ∙ ap verdict (rw c.states.ensures at c.each_below.ensures)) in
     let rules =
     reward_bounds_rules m c.known.ensures.mdp c.args.m goals low high policy ranks c.args.dir c.verdict_after.result
     c.requires.name c.requires.lower c.requires.upper c.requires.choices e in

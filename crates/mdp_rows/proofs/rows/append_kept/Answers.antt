@@ -25,7 +25,9 @@ loop-given-preserved c = elim c.if-num_of-ne0.branch [
 ]
 
 pub returns-clause-probs : goal.returns-clause-probs
-returns-clause-probs c = c.loop-given.invariant.probs ∙ ap (λ (row : List Given). c.args.probs.now.items ++ map (λ g. g.value) (kept_given row)) (take_all c.loop-given.given-index c.args.row.now c.loop-given-test.false)
+returns-clause-probs c =
+    c.loop-given.invariant.probs ∙ ap (λ (row : List Given). c.args.probs.now.items ++ map (λ g. g.value) (kept_given row)) (take_all c.loop-given.given-index c.args.row.now c.loop-given-test.false)
 
 pub returns-clause-targets : goal.returns-clause-targets
-returns-clause-targets c = c.loop-given.invariant.targets ∙ ap (λ (row : List Given). c.args.targets.now.items ++ map (λ g. g.target) (kept_given row)) (take_all c.loop-given.given-index c.args.row.now c.loop-given-test.false)
+returns-clause-targets c =
+    c.loop-given.invariant.targets ∙ ap (λ (row : List Given). c.args.targets.now.items ++ map (λ g. g.target) (kept_given row)) (take_all c.loop-given.given-index c.args.row.now c.loop-given-test.false)

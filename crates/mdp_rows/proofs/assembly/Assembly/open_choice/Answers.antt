@@ -27,11 +27,12 @@ returns-in_err-add_rewards c =
 
 pub invariant_of-self-2 : goal.invariant_of-self-2
 invariant_of-self-2 c =
-    let a = rw c.deref.ensures.value at (c.in_ok-add_rewards.ensures {u = tt}).added in
     let own = c.self.invariant.head.own (λ e. absurd (let x = sym c.in-InState.is ∙ e in cc)) in
     let n = ap length (names_in c.self.inside _ c.self.view_is) in
+    let a = rw c.deref.ensures.value at (c.in_ok-add_rewards.ensures {u = tt}).added in
+    let as_many = sums_len c.self.inside.rewards.items c.args.rewards.now c.add_rewards.new.sums.items (own ∙ n ∙ sym c.requires.one_each) a in
     is_with_choice c.self.inside _ c.args.rewards.now c.self.view_is c.self.invariant c.in-InState.is (omega (arith, c.len.ensures)) c.add_rewards.new.sums a
-    (sums_len c.self.inside.rewards.items c.args.rewards.now c.add_rewards.new.sums.items (own ∙ n ∙ sym c.requires.one_each) a ∙ c.requires.one_each ∙ sym n)
+    (as_many ∙ c.requires.one_each ∙ sym n)
 
 pub returns : goal.returns
 returns c =

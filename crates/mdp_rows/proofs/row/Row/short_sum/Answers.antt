@@ -30,4 +30,5 @@ of_terms-requires-clause-positive g c =
 pub loop-i-init : goal.loop-i-init
 loop-i-init g c =
     let start = c.in_ok-sum.ensures {u = tt} in
-    rw (to_z-of_z (fits_signed_from_abs w128 c.in_ok-sum.sum start.narrow)) (ap (λ (x : ℚ). written_sum (g.V.ValuesOf.values c.args.values.now) x (entries c.args.self.targets.now c.args.self.probs.now)) start.value, start.narrow)
+    rw (to_z-of_z (fits_signed_from_abs w128 c.in_ok-sum.sum start.narrow))
+    (ap (λ (x : ℚ). written_sum (g.V.ValuesOf.values c.args.values.now) x (entries c.args.self.targets.now c.args.self.probs.now)) start.value, start.narrow)
