@@ -190,32 +190,22 @@ impl<'a> Corrector<'a> {
             start,
         };
         let nodes = component.nodes.len();
-        let mut corrector = Corrector {
+        Ok(Corrector {
             setting,
             way: if nodes > FEW_NODES {
                 Way::FewSweeps
             } else {
                 Way::Policies
             },
-            policy: Vec::new(alloc),
-            values: Vec::new(alloc),
+            policy: start.to_vec(alloc)?,
+            values: vec![in alloc; 0.0; nodes]?,
             factors: None,
-            factors_policy: Vec::new(alloc),
+            factors_policy: start.to_vec(alloc)?,
             products_left: most_products(nodes),
             grouping: Grouping::new(alloc, nodes)?,
-            spare: Vec::new(alloc),
+            spare: vec![in alloc; 0.0; nodes]?,
             leaving: Leaving::new(alloc, component, leading, start)?,
-        };
-        corrector.begin(start)?;
-        Ok(corrector)
-    }
-
-    /// Takes a policy, and makes all values 0.
-    fn begin(&mut self, policy: &[usize]) -> Result<(), AllocError> {
-        self.policy.extend_from_slice(policy)?;
-        self.factors_policy.extend_from_slice(policy)?;
-        self.values.resize(policy.len(), 0.0)?;
-        self.spare.resize(policy.len(), 0.0)
+        })
     }
 
     /// Corrects the values by groups of nodes whose values change alike in a sweep along the policy's rows.

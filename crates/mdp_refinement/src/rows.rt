@@ -158,28 +158,17 @@ impl Rows {
         entries: usize,
         scale: Scale,
     ) -> Result<Rows, AllocError> {
-        let mut empty = Rows {
+        Ok(Rows {
             scale,
             one: power_of_ten(scale.digits),
             most: greatest_with_digits(scale.digits.saturating_add(scale.room)),
-            starts: Vec::new(alloc),
-            rows: Vec::new(alloc),
-            entries: Vec::new(alloc),
-            node_digits: Vec::new(alloc),
-            has_wide: Vec::new(alloc),
+            starts: Vec::with_capacity(alloc, nodes as usize)?,
+            rows: Vec::with_capacity(alloc, rows)?,
+            entries: Vec::with_capacity(alloc, entries)?,
+            node_digits: vec![in alloc; scale.digits; nodes as usize]?,
+            has_wide: vec![in alloc; false; nodes as usize]?,
             pending: Vec::new(alloc),
-        };
-        empty.reserve(nodes as usize, rows, entries)?;
-        Ok(empty)
-    }
-
-    /// Makes place for so many nodes, rows and entries.
-    fn reserve(&mut self, nodes: usize, rows: usize, entries: usize) -> Result<(), AllocError> {
-        self.starts.reserve_exact(nodes)?;
-        self.rows.reserve_exact(rows)?;
-        self.entries.reserve_exact(entries)?;
-        self.node_digits.resize(nodes, self.scale.digits)?;
-        self.has_wide.resize(nodes, false)
+        })
     }
 
     /// Goes on to the next node, whose rows are pushed from now on. The first call goes to node 0.
