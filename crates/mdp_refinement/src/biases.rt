@@ -39,7 +39,7 @@ impl Left {
     /// Nothing yet: a search begins with the first row of each node.
     pub(crate) fn none(alloc: Global, component: &Component) -> Result<Left, AllocError> {
         Ok(Left {
-            way: if component.len() > FEW_NODES {
+            way: if component.nodes.len() > FEW_NODES {
                 Way::FewSweeps
             } else {
                 Way::Policies
@@ -56,7 +56,7 @@ pub(crate) struct Biases<'a> {
     component: &'a Component,
     way: Way,
     sweeps: Relative<'a>,
-    policies: Option<Unichain<'a>>,
+    policies: Unichain<'a>,
 }
 
 impl<'a> Biases<'a> {
@@ -71,87 +71,65 @@ impl<'a> Biases<'a> {
             followed,
             evaluated,
         } = left;
-        let policies = match evaluated {
-            Some(evaluated) => Some(Unichain::known(alloc, component, evaluated)?),
-            None => None,
-        };
         Ok(Biases {
             component,
             way,
             sweeps: Relative::new(alloc, component, followed)?,
-            policies,
+            policies: Unichain::new(alloc, component, evaluated),
         })
     }
 
     /// What it leaves.
     pub(crate) fn into_left(self) -> Left {
+        let Biases {
+            way,
+            sweeps,
+            policies,
+            component: _,
+        } = self;
         Left {
-            way: self.way,
-            followed: self.sweeps.into_followed(),
-            evaluated: match self.policies {
-                Some(policies) => policies.into_evaluated(),
-                None => None,
-            },
+            way,
+            followed: sweeps.followed,
+            evaluated: policies.evaluated,
         }
     }
 
     /// The corrections.
     pub(crate) fn values(&self) -> &[f64] {
-        match (&self.policies, self.way) {
-            (Some(policies), Way::Policies) => policies.values(),
-            _ => self.sweeps.values(),
+        match self.way {
+            Way::Policies => &self.policies.values,
+            _ => &self.sweeps.values,
         }
     }
 
-    /// The gain that goes with corrections by many sweeps.
-    fn by_many_sweeps(&mut self, alloc: Global, gains: &[f64]) -> Result<f64, AllocError> {
-        self.sweeps
-            .run(alloc, gains, many_sweeps(self.component.size()))?;
-        Ok(self.sweeps.gain())
-    }
-
-    /// The gain that goes with corrections by policies, or by many sweeps where elimination fails. The first policy has the rows of the sweeps.
-    fn by_policies(&mut self, alloc: Global, gains: &[f64]) -> Result<f64, AllocError> {
-        if self.policies.is_none() {
-            let first = self.sweeps.best_rows();
-            self.policies = Some(Unichain::new(alloc, self.component, first)?);
+    /// Finds the corrections that rows which earn this come to: the first way that comes to an end is kept. Their gain. The first policy has the rows of the
+    /// sweeps.
+    pub(crate) fn correct(&mut self, alloc: Global, gains: &[f64]) -> Result<f64, AllocError> {
+        if matches!(self.way, Way::FewSweeps) {
+            if self.sweeps.run(alloc, gains, FEW_SWEEPS)? {
+                return Ok(self.sweeps.gain);
+            }
+            self.sweeps.followed.pace = SLOW;
+            self.way = Way::SlowSweeps;
         }
-        if let Some(policies) = &mut self.policies {
-            if let Some(gain) = policies.run(alloc, gains)? {
+        if matches!(self.way, Way::SlowSweeps) {
+            if self.sweeps.run(alloc, gains, FEW_SWEEPS)? {
+                return Ok(self.sweeps.gain);
+            }
+            self.way = Way::Policies;
+        }
+        if matches!(self.way, Way::Policies) {
+            if self.policies.policy.is_empty() {
+                self.policies.begin(alloc, &self.sweeps.followed.best_rows)?;
+            }
+            if let Some(gain) = self.policies.run(alloc, gains)? {
                 return Ok(gain);
             }
+            self.sweeps.followed.pace = SLOWEST;
+            self.way = Way::ManySweeps;
         }
-        self.way = Way::ManySweeps;
-        self.sweeps.slow_down(SLOWEST);
-        self.by_many_sweeps(alloc, gains)
-    }
-
-    /// The gain that goes with corrections by slow sweeps, or by policies where these don't come to an end.
-    fn by_slow_sweeps(&mut self, alloc: Global, gains: &[f64]) -> Result<f64, AllocError> {
-        if self.sweeps.run(alloc, gains, FEW_SWEEPS)? {
-            return Ok(self.sweeps.gain());
-        }
-        self.way = Way::Policies;
-        self.by_policies(alloc, gains)
-    }
-
-    /// The gain that goes with corrections by few sweeps, or by slow ones where these don't come to an end.
-    fn by_few_sweeps(&mut self, alloc: Global, gains: &[f64]) -> Result<f64, AllocError> {
-        if self.sweeps.run(alloc, gains, FEW_SWEEPS)? {
-            return Ok(self.sweeps.gain());
-        }
-        self.sweeps.slow_down(SLOW);
-        self.way = Way::SlowSweeps;
-        self.by_slow_sweeps(alloc, gains)
-    }
-
-    /// Finds the corrections that rows which earn this come to. Their gain.
-    pub(crate) fn correct(&mut self, alloc: Global, gains: &[f64]) -> Result<f64, AllocError> {
-        match self.way {
-            Way::FewSweeps => self.by_few_sweeps(alloc, gains),
-            Way::SlowSweeps => self.by_slow_sweeps(alloc, gains),
-            Way::Policies => self.by_policies(alloc, gains),
-            Way::ManySweeps => self.by_many_sweeps(alloc, gains),
-        }
+        let sweeps = many_sweeps(self.component.entries.len());
+        self.sweeps.run(alloc, gains, sweeps)?;
+        Ok(self.sweeps.gain)
     }
 }

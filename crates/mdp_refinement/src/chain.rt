@@ -3,7 +3,7 @@
 use crate::coarse::{Counted, Grouping};
 use crate::component::{Component, FloatRow};
 use crate::equations::Equations;
-use crate::lists::{add_at, append, earned_by, float_at, number, part_of, put, sum_over};
+use crate::lists::{add_at, append, float_at, item_at, number, part_of, put, sum_over};
 use crate::sweeps::Change;
 use std::alloc::{AllocError, Global};
 use std::mem;
@@ -115,16 +115,11 @@ impl Chain {
         for at in rows {
             if *at < component.rows.len() {
                 let row = component.rows[*at];
-                let earned = earned_by(gains, *at);
+                let earned = item_at(gains, *at, 0.0);
                 self.push(component, &row, earned, pace / row.total.max(least))?;
             }
         }
         Ok(())
-    }
-
-    /// The entries from a place on, up to the end of a row.
-    fn entries_from(&self, first: usize, link: Link) -> &[(u32, f64)] {
-        part_of(&self.entries, first, link.end)
     }
 
     /// Gives each node in turn the value that its row makes of the values, where the gain is this. The change, with that of each node counted by its share.
@@ -136,7 +131,8 @@ impl Chain {
             let link = self.links[place];
             let node = number(place);
             let old = float_at(values, node);
-            let more = lacking(link, self.entries_from(first, link), gain, old, values);
+            let entries = part_of(&self.entries, first, link.end);
+            let more = lacking(link, entries, gain, old, values);
             let value = old + more * link.repeats;
             change.take(old, value, float_at(shares, node));
             put(values, node, value);
@@ -167,13 +163,14 @@ impl Chain {
         values: &[f64],
         visits: &[f64],
     ) -> Result<Equations, AllocError> {
-        let mut equations = grouping.equations(alloc, gain.is_some())?;
+        let groups = grouping.count as usize;
+        let mut equations = Equations::empty(alloc, groups, gain.is_some())?;
         let spent = gain.unwrap_or(0.0);
         let mut first = 0usize;
         for place in 0..self.links.len() {
             let link = self.links[place];
             let node = number(place);
-            let entries = self.entries_from(first, link);
+            let entries = part_of(&self.entries, first, link.end);
             let counted = Counted {
                 weight: float_at(visits, node) * link.repeats,
                 lacking: lacking(link, entries, spent, float_at(values, node), values),
@@ -197,7 +194,8 @@ impl Chain {
     fn pass_on(&self, node: u32, link: Link, visits: &mut Visits) -> f64 {
         let own = float_at(&visits.visits, node);
         let steps = own * link.repeats;
-        for entry in self.entries_from(self.start_of(node as usize), link) {
+        let first = self.start_of(node as usize);
+        for entry in part_of(&self.entries, first, link.end) {
             if entry.0 < node {
                 add_at(&mut visits.visits, entry.0, steps * entry.1);
             } else {

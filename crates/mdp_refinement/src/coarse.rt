@@ -57,15 +57,6 @@ struct Numbering {
 }
 
 impl Numbering {
-    /// No number given out yet, where there are so many groups before.
-    fn new(alloc: Global, groups: u32) -> Result<Numbering, AllocError> {
-        let places = (groups as usize).saturating_mul(PARTS);
-        Ok(Numbering {
-            numbers: vec![in alloc; NO_NUMBER; places]?,
-            next: 0,
-        })
-    }
-
     /// The number of the nodes of a group that lie in a part.
     fn number_of(&mut self, group: u32, part: usize) -> u32 {
         let place = (group as usize).saturating_mul(PARTS).saturating_add(part);
@@ -100,7 +91,7 @@ pub(crate) struct Counted {
 #[derive(Drop)]
 pub(crate) struct Grouping {
     groups: Vec<u32>,
-    count: u32,
+    pub(crate) count: u32,
 }
 
 impl Grouping {
@@ -119,31 +110,25 @@ impl Grouping {
 
     /// Splits each group into those of its nodes whose changes lie in one part of the range.
     fn split_each(&mut self, alloc: Global, changes: &[f64]) -> Result<(), AllocError> {
-        let mut numbering = Numbering::new(alloc, self.count)?;
+        let places = (self.count as usize).saturating_mul(PARTS);
+        let mut numbering = Numbering {
+            numbers: vec![in alloc; NO_NUMBER; places]?,
+            next: 0,
+        };
         numbering.renumber(&mut self.groups, changes);
         self.count = numbering.next;
         Ok(())
-    }
-
-    /// Puts all nodes into one group.
-    fn join(&mut self) {
-        self.groups.fill(0);
-        self.count = 1;
     }
 
     /// Splits each group into those of its nodes whose values changed alike, by these changes. Where that makes too many, all nodes are one group before.
     pub(crate) fn split(&mut self, alloc: Global, changes: &[f64]) -> Result<(), AllocError> {
         self.split_each(alloc, changes)?;
         if self.count > MOST_GROUPS {
-            self.join();
+            self.groups.fill(0);
+            self.count = 1;
             self.split_each(alloc, changes)?;
         }
         Ok(())
-    }
-
-    /// The equations of the groups, all of whose numbers are 0.
-    pub(crate) fn equations(&self, alloc: Global, has_gain: bool) -> Result<Equations, AllocError> {
-        Equations::empty(alloc, self.count as usize, has_gain)
     }
 
     /// Adds a node's row with these entries to the equation of its group.

@@ -1,8 +1,6 @@
 use crate::convert::{nearest, to_float};
-use crate::lists::{
-    Groups, append, earned_by, end_at, float_at, item_at, number, number_at, part_of, put, sum_over,
-};
-use crate::outside::{Outside, Widening};
+use crate::lists::{Groups, append, float_at, item_at, number, number_at, part_of, put, sum_over};
+use crate::outside::Outside;
 use crate::rows::{Rows, WholeRow};
 use crate::strong::Components;
 use crate::value::{Value, value_at};
@@ -15,20 +13,13 @@ pub(crate) struct FloatRow {
     /// The place of the node in the component.
     pub(crate) node: u32,
     /// The place of the whole row.
-    place: u32,
+    pub(crate) place: u32,
     first: u32,
     end: u32,
     pub(crate) exit: f64,
     pub(crate) total: f64,
     /// What rounding of the values to their units may cost.
     pub(crate) slack: f64,
-}
-
-impl FloatRow {
-    /// The place of the whole row.
-    pub(crate) fn place(&self) -> usize {
-        self.place as usize
-    }
 }
 
 /// A row of nothing.
@@ -50,8 +41,8 @@ pub(crate) struct Component {
     pub(crate) units: Vec<f64>,
     pub(crate) rows: Vec<FloatRow>,
     starts: Vec<usize>,
-    entries: Vec<(u32, f64)>,
-    outside: Widening,
+    pub(crate) entries: Vec<(u32, f64)>,
+    pub(crate) outside: Outside,
 }
 
 /// What the rows of a component are gathered from.
@@ -79,36 +70,29 @@ impl Source<'_> {
         true
     }
 
-    /// The denominator of a row less what stays in the component.
-    fn leaving(self, row: &WholeRow) -> i128 {
+    /// Appends the entries of a row to other nodes of the component. The row's denominator less what stays in the component.
+    fn push_entries(
+        self,
+        row: &WholeRow,
+        entries: &mut Vec<(u32, f64)>,
+    ) -> Result<i128, AllocError> {
+        let denominator = to_float(row.denominator);
         let mut leaving = row.denominator;
         for entry in self.rows.entries_of(row) {
-            if self.has(entry.node) {
-                leaving = leaving.saturating_sub(entry.numerator());
+            if !self.has(entry.node) {
+                continue;
             }
-        }
-        leaving
-    }
-
-    /// Appends the entries of a row to other nodes of the component.
-    fn push_entries(self, row: &WholeRow, entries: &mut Vec<(u32, f64)>) -> Result<(), AllocError> {
-        let denominator = to_float(row.denominator);
-        for entry in self.rows.entries_of(row) {
-            if entry.node != row.node && self.has(entry.node) {
+            leaving = leaving.saturating_sub(entry.numerator());
+            if entry.node != row.node {
                 let prob = to_float(entry.numerator()) / denominator;
                 entries.push((self.components.place_of(entry.node), prob))?;
             }
         }
-        Ok(())
-    }
-
-    /// Whether the row stops with a value that needs no rounding.
-    fn is_exact(self, row: &WholeRow) -> bool {
-        row.is_stop() && row.reward.checked_rem(self.rows.unit_of(row.node)) == Some(0)
+        Ok(leaving)
     }
 
     /// What leads out of the component, also by a row of which so much of the denominator leads out.
-    fn widened(self, outside: Widening, row: &WholeRow, leaving: i128) -> Widening {
+    fn widened(self, outside: Outside, row: &WholeRow, leaving: i128) -> Outside {
         if row.is_stop() {
             return outside.with(row.reward);
         }
@@ -133,13 +117,6 @@ fn sizes_of(rows: &Rows, nodes: &[u32]) -> (usize, usize) {
         most_entries = most_entries.saturating_add(rows.edges_of(*node).len());
     }
     (most_rows, most_entries)
-}
-
-/// Puts the units of nodes, in floats.
-fn put_units(units: &mut [f64], rows: &Rows, nodes: &[u32]) {
-    for place in 0..units.len().min(nodes.len()) {
-        units[place] = to_float(rows.unit_of(nodes[place]));
-    }
 }
 
 /// The value that is so many units more, rounded to them. None past 128 bits, or where one isn't a number.
@@ -173,14 +150,15 @@ impl Component {
         row: &WholeRow,
     ) -> Result<(), AllocError> {
         let from = self.entries.len();
-        source.push_entries(row, &mut self.entries)?;
+        let leaving = source.push_entries(row, &mut self.entries)?;
         if let Some(entries) = self.entries.as_mut_slice().get_mut(from..) {
             entries.sort_unstable_by_key(|entry| entry.0);
         }
-        let leaving = source.leaving(row);
         self.outside = source.widened(self.outside, row, leaving);
         let exit = to_float(leaving) / to_float(row.denominator);
-        let (total, slack) = self.weigh(exit, from, node, source.is_exact(row));
+        let unit = source.rows.unit_of(row.node);
+        let is_exact = row.is_stop() && row.reward.checked_rem(unit) == Some(0);
+        let (total, slack) = self.weigh(exit, from, node, is_exact);
         let row = FloatRow {
             node,
             place: number(place),
@@ -223,7 +201,7 @@ impl Component {
             rows: Vec::with_capacity(alloc, most_rows)?,
             starts: Vec::new(alloc),
             entries: Vec::with_capacity(alloc, most_entries)?,
-            outside: Widening::empty(),
+            outside: Outside::empty(),
         })
     }
 
@@ -249,7 +227,9 @@ impl Component {
 
     /// Takes the units of its nodes from rows, which may be written for another scale. What rounding may cost stays that of the first scale.
     pub(crate) fn rescale(&mut self, rows: &Rows) {
-        put_units(&mut self.units, rows, &self.nodes);
+        for place in 0..self.units.len().min(self.nodes.len()) {
+            self.units[place] = to_float(rows.unit_of(self.nodes[place]));
+        }
     }
 
     /// Adds corrections to the values of its nodes, rounded to their units. Not where one is past 128 bits or not a number: whether none was.
@@ -265,25 +245,10 @@ impl Component {
         true
     }
 
-    /// What leads out of it, if anything does.
-    pub(crate) fn outside(&self) -> Option<Outside> {
-        self.outside.outside()
-    }
-
-    /// How many nodes there are.
-    pub(crate) fn len(&self) -> usize {
-        self.nodes.len()
-    }
-
-    /// How many entries there are.
-    pub(crate) fn size(&self) -> usize {
-        self.entries.len()
-    }
-
     /// Where the rows of the node at a place begin and end.
     pub(crate) fn range_of(&self, place: usize) -> (usize, usize) {
-        let to = end_at(&self.starts, place.saturating_add(1));
-        (end_at(&self.starts, place), to)
+        let to = item_at(&self.starts, place.saturating_add(1), 0);
+        (item_at(&self.starts, place, 0), to)
     }
 
     /// Which of the rows of the node at a place stands at this place of all rows.
@@ -312,15 +277,10 @@ impl Component {
         self.entries_of(&self.row_at(place))
     }
 
-    /// What the row at a place gives to nodes outside, 0 where there is no such row.
-    pub(crate) fn exit_at(&self, place: usize) -> f64 {
-        self.row_at(place).exit
-    }
-
     /// The place of the whole row of the row at a place, if there is such a row.
     pub(crate) fn pick_at(&self, place: usize) -> Option<usize> {
         if place < self.rows.len() {
-            Some(self.rows[place].place())
+            Some(self.rows[place].place as usize)
         } else {
             None
         }
@@ -353,19 +313,38 @@ impl Component {
         greatest
     }
 
-    /// What a row makes of a gain and of values within the component.
-    pub(crate) fn sum(&self, row: &FloatRow, gain: f64, values: &[f64]) -> f64 {
-        sum_over(gain, self.entries_of(row), values)
-    }
-
     /// What a row that earns so much over the gain has over the value of its node, from values within the component.
     pub(crate) fn over(&self, row: &FloatRow, earned: f64, values: &[f64]) -> f64 {
-        self.sum(row, earned, values) - row.total * float_at(values, row.node)
+        let made = sum_over(earned, self.entries_of(row), values);
+        made - row.total * float_at(values, row.node)
     }
 
     /// What the row at a place has over the value of its node, where the rows earn this, from values within the component.
     pub(crate) fn gained(&self, place: usize, gains: &[f64], values: &[f64]) -> f64 {
-        self.over(&self.row_at(place), earned_by(gains, place), values)
+        self.over(&self.row_at(place), item_at(gains, place, 0.0), values)
+    }
+
+    /// The row of the node at a place, but for this one, that has most over the value of its node, times `sense`, if that is more than `least`.
+    pub(crate) fn better_row(
+        &self,
+        place: usize,
+        chosen: usize,
+        gains: &[f64],
+        values: &[f64],
+        sense: f64,
+        least: f64,
+    ) -> Option<usize> {
+        let mut best = least;
+        let mut better = None;
+        let (from, to) = self.range_of(place);
+        for at in from..to {
+            let more = self.gained(at, gains, values) * sense;
+            if at != chosen && more > best {
+                best = more;
+                better = Some(at);
+            }
+        }
+        better
     }
 
     /// Adds to the gain of each row what it has over the value of its node, where it earns this.

@@ -5,7 +5,7 @@ use crate::coarse::Grouping;
 use crate::component::Component;
 use crate::eliminate::{Elimination, Factors, eliminated, most_products};
 use crate::leaving::Leaving;
-use crate::lists::{Groups, copy_over, earned_by, item_at, put_earned, set_at};
+use crate::lists::{Groups, copy_over, item_at, put_earned, set_at, sum_over};
 use crate::sweeps::{Change, FEW_SWEEPS, Forecast, Outlook, Progress, WINDOW, many_sweeps};
 use std::alloc::{AllocError, Global};
 
@@ -39,8 +39,8 @@ enum Way {
     FewSweeps,
     /// By policies.
     Policies,
-    /// By so many sweeps, where elimination takes too long.
-    ManySweeps(usize),
+    /// By many sweeps, where elimination takes too long.
+    ManySweeps,
 }
 
 /// The rows of which corrections are sought, whether greater values are better or less, the least unit of a node, and a policy from which each node leaves.
@@ -59,7 +59,8 @@ impl Setting<'_> {
         let mut best = None;
         for at in from..to {
             let row = self.component.row_at(at);
-            let value = self.component.sum(&row, earned_by(gains, at), values) / row.total;
+            let entries = self.component.entries_of(&row);
+            let value = sum_over(item_at(gains, at, 0.0), entries, values) / row.total;
             match best {
                 Some((old, _)) if !((value - old) * self.sense > 0.0) => {}
                 _ => best = Some((value, at)),
@@ -90,10 +91,8 @@ impl Setting<'_> {
         greedy: &mut [usize],
     ) -> bool {
         for _ in 0..sweeps {
-            if self
-                .sweep(gains, values, greedy)
-                .is_small(self.unit, SWEEP_LOSS)
-            {
+            let change = self.sweep(gains, values, greedy);
+            if change.most <= change.enough(self.unit, SWEEP_LOSS) {
                 return true;
             }
         }
@@ -135,27 +134,16 @@ impl Setting<'_> {
         self.sweep_some(gains, EVEN_SWEEPS, values, greedy);
     }
 
-    /// The row of the node at a place that gains most over the policy's, where it gains enough.
-    fn improved(self, gains: &[f64], place: usize, chosen: usize, values: &[f64]) -> Option<usize> {
-        let value = item_at(values, place, 0.0);
-        let mut best = (self.unit * SMALL_GAIN).max(value.abs() * GAIN_LOSS);
-        let mut better = None;
-        let (from, to) = self.component.range_of(place);
-        for at in from..to {
-            let more = self.component.gained(at, gains, values) * self.sense;
-            if at != chosen && more > best {
-                best = more;
-                better = Some(at);
-            }
-        }
-        better
-    }
-
-    /// Improves a policy by its values. Whether it changed.
+    /// Improves a policy by its values: each node takes the row that gains most over the policy's, where it gains enough. Whether it changed.
     fn improve(self, gains: &[f64], values: &[f64], policy: &mut [usize]) -> bool {
         let mut is_changed = false;
         for place in 0..policy.len() {
-            if let Some(row) = self.improved(gains, place, policy[place], values) {
+            let value = item_at(values, place, 0.0);
+            let least = (self.unit * SMALL_GAIN).max(value.abs() * GAIN_LOSS);
+            let chosen = policy[place];
+            let component = self.component;
+            let better = component.better_row(place, chosen, gains, values, self.sense, least);
+            if let Some(row) = better {
                 set_at(policy, place, row);
                 is_changed = true;
             }
@@ -171,13 +159,13 @@ fn go_on(values: &mut [f64], more: f64, before: &[f64]) {
     }
 }
 
-/// The search for corrections, with the policy that it has come to. Between calls `spare` and `leaving` have nothing that is needed.
+/// The search for corrections, with these and the policy that it has come to. Between calls `spare` and `leaving` have nothing that is needed.
 #[derive(Drop)]
 pub(crate) struct Corrector<'a> {
     setting: Setting<'a>,
     way: Way,
-    policy: Vec<usize>,
-    values: Vec<f64>,
+    pub(crate) policy: Vec<usize>,
+    pub(crate) values: Vec<f64>,
     factors: Option<Factors>,
     factors_policy: Vec<usize>,
     products_left: usize,
@@ -201,7 +189,7 @@ impl<'a> Corrector<'a> {
             unit: component.least_unit(),
             start,
         };
-        let nodes = component.len();
+        let nodes = component.nodes.len();
         Ok(Corrector {
             setting,
             way: if nodes > FEW_NODES {
@@ -218,16 +206,6 @@ impl<'a> Corrector<'a> {
             spare: vec![in alloc; 0.0; nodes]?,
             leaving: Leaving::new(alloc, component, leading, start)?,
         })
-    }
-
-    /// The row of each node.
-    pub(crate) fn policy(&self) -> &[usize] {
-        &self.policy
-    }
-
-    /// The corrections.
-    pub(crate) fn values(&self) -> &[f64] {
-        &self.values
     }
 
     /// Corrects the values by groups of nodes whose values change alike in a sweep along the policy's rows.
@@ -259,7 +237,7 @@ impl<'a> Corrector<'a> {
                 Outlook::Settled => return Ok(true),
                 Outlook::Hopeless if progress.goes_on(change.most) => {
                     self.correct_groups(alloc, gains)?;
-                    forecast.begin_anew();
+                    forecast.last = f64::INFINITY;
                 }
                 Outlook::Hopeless => return Ok(false),
                 Outlook::Open => {}
@@ -278,8 +256,9 @@ impl<'a> Corrector<'a> {
     }
 
     /// Corrections by many sweeps. The policy has the best rows, but those to begin with at the nodes from which they don't leave.
-    fn by_many_sweeps(&mut self, gains: &[f64], sweeps: usize) {
+    fn by_many_sweeps(&mut self, gains: &[f64]) {
         let setting = self.setting;
+        let sweeps = many_sweeps(setting.component.entries.len());
         let policy = self.policy.as_mut_slice();
         copy_over(policy, setting.start);
         setting.sweep_far(gains, sweeps, &mut self.values, policy, &mut self.spare);
@@ -294,39 +273,18 @@ impl<'a> Corrector<'a> {
         }
     }
 
-    /// Improves the policy by the values. Whether it changed.
-    fn improve(&mut self, gains: &[f64]) -> bool {
-        self.setting.improve(gains, &self.values, &mut self.policy)
-    }
-
-    /// Corrections by sweeps alone from now on, since elimination takes too long.
-    fn give_up_policies(&mut self, gains: &[f64]) {
-        let sweeps = many_sweeps(self.setting.component.size());
-        self.way = Way::ManySweeps(sweeps);
-        self.by_many_sweeps(gains, sweeps);
-    }
-
-    /// Keeps the factors of the policy.
-    fn keep(&mut self, factors: Factors) {
-        self.products_left = self.products_left.saturating_sub(factors.products);
-        self.factors = Some(factors);
-        copy_over(&mut self.factors_policy, &self.policy);
-    }
-
     /// Has the factors of the policy at hand. An improper policy gives way to the last one that was proper.
     fn factor(&mut self, alloc: Global) -> Result<Factored, AllocError> {
         if self.factors.is_some() && self.factors_policy == self.policy {
-            return Ok(Factored::Same);
+            return Ok(Factored::Ready);
         }
-        match eliminated(
-            alloc,
-            self.setting.component,
-            &self.policy,
-            self.products_left,
-        )? {
+        let component = self.setting.component;
+        match eliminated(alloc, component, &self.policy, &[], self.products_left)? {
             Elimination::Done(factors) => {
-                self.keep(factors);
-                Ok(Factored::New)
+                self.products_left = self.products_left.saturating_sub(factors.products);
+                self.factors = Some(factors);
+                copy_over(&mut self.factors_policy, &self.policy);
+                Ok(Factored::Ready)
             }
             Elimination::Improper if self.factors.is_some() => {
                 copy_over(&mut self.policy, &self.factors_policy);
@@ -337,19 +295,21 @@ impl<'a> Corrector<'a> {
         }
     }
 
-    /// Corrections by policies, each better than the one before.
+    /// Corrections by policies, each better than the one before, or by many sweeps from now on, where elimination takes too long. Whether there are any.
     fn by_policies(&mut self, alloc: Global, gains: &[f64]) -> Result<bool, AllocError> {
         for _ in 0..MOST_POLICIES {
             let factored = self.factor(alloc)?;
             match factored {
                 Factored::Failed => return Ok(false),
                 Factored::Dense => {
-                    self.give_up_policies(gains);
+                    self.way = Way::ManySweeps;
+                    self.by_many_sweeps(gains);
                     return Ok(true);
                 }
-                _ => self.evaluate(gains),
+                Factored::Ready | Factored::Back => self.evaluate(gains),
             }
-            if matches!(factored, Factored::Back) || !self.improve(gains) {
+            let is_back = matches!(factored, Factored::Back);
+            if is_back || !self.setting.improve(gains, &self.values, &mut self.policy) {
                 break;
             }
         }
@@ -358,28 +318,24 @@ impl<'a> Corrector<'a> {
 
     /// Finds the corrections that gains, one for each row, come to. Whether there are any.
     pub(crate) fn correct(&mut self, alloc: Global, gains: &[f64]) -> Result<bool, AllocError> {
-        match self.way {
-            Way::FewSweeps => {
-                if self.by_few_sweeps(alloc, gains)? {
-                    return Ok(true);
-                }
-                self.way = Way::Policies;
-                self.by_policies(alloc, gains)
-            }
-            Way::Policies => self.by_policies(alloc, gains),
-            Way::ManySweeps(sweeps) => {
-                self.by_many_sweeps(gains, sweeps);
-                Ok(true)
-            }
+        if matches!(self.way, Way::ManySweeps) {
+            self.by_many_sweeps(gains);
+            return Ok(true);
         }
+        if matches!(self.way, Way::FewSweeps) {
+            if self.by_few_sweeps(alloc, gains)? {
+                return Ok(true);
+            }
+            self.way = Way::Policies;
+        }
+        self.by_policies(alloc, gains)
     }
 }
 
-/// How the factors of a policy came to be at hand.
+/// Whether the factors of a policy are at hand: of this one, or of the last one that was proper.
 #[derive(Clone, Copy)]
 enum Factored {
-    Same,
-    New,
+    Ready,
     Back,
     Failed,
     Dense,

@@ -2,7 +2,7 @@
 //! fraction of the time that one of two lists of entries takes.
 
 use crate::eliminate::{Entries, Step, take_list};
-use crate::lists::{add_at, float_at, item_at, number, number_at, part_of, put};
+use crate::lists::{add_at, append, float_at, item_at, number, number_at, part_of, put};
 use std::alloc::{AllocError, Global};
 
 /// The nodes that are left; for each the probabilities that it gives to them, in their order, and what it gives to nodes outside.
@@ -52,19 +52,13 @@ fn sum_of(numbers: &[f64]) -> f64 {
     sum
 }
 
-/// Puts what each of some nodes gives to nodes outside, of all exits.
-fn put_exits(own: &mut [f64], nodes: &[u32], exits: &[f64]) {
-    for place in 0..own.len().min(nodes.len()) {
-        own[place] = float_at(exits, nodes[place]);
-    }
-}
-
 impl Matrix {
-    /// Appends the row of each node, of all those with rows.
+    /// Appends what each node gives to the nodes and to those outside, of all those with rows and exits.
     fn push_rows(
         &mut self,
         alloc: Global,
         rows: &[Entries],
+        exits: &[f64],
         places: &[u32],
     ) -> Result<(), AllocError> {
         for node in &self.nodes {
@@ -72,6 +66,7 @@ impl Matrix {
             if place < rows.len() {
                 let probs = probs_of(alloc, &rows[place], places, self.nodes.len())?;
                 self.rows.push(probs)?;
+                append(&mut self.exits, float_at(exits, *node))?;
             }
         }
         Ok(())
@@ -86,12 +81,11 @@ impl Matrix {
     ) -> Result<Matrix, AllocError> {
         let places = places_of(alloc, &nodes, rows.len())?;
         let mut matrix = Matrix {
-            exits: vec![in alloc; 0.0; nodes.len()]?,
             nodes,
             rows: Vec::new(alloc),
+            exits: Vec::new(alloc),
         };
-        matrix.push_rows(alloc, rows, &places)?;
-        put_exits(&mut matrix.exits, &matrix.nodes, exits);
+        matrix.push_rows(alloc, rows, exits, &places)?;
         Ok(matrix)
     }
 

@@ -70,11 +70,8 @@ impl Rows {
         reward: &Frac,
         discount: Discount<'_>,
     ) -> Result<(), AllocError> {
-        let numbers = match discount.denominator_of(row, reward) {
-            Some(denominator) => self.numbers_over(denominator, reward),
-            None => None,
-        };
-        if let Some(numbers) = numbers {
+        let denominator = discount.denominator_of(row, reward);
+        if let Some(numbers) = self.numbers_over(denominator, reward) {
             if self.take_discounted(nodes, row, numbers, discount)? {
                 return self.push_pending(row, numbers);
             }

@@ -4,7 +4,7 @@
 use crate::component::Component;
 use crate::dense::Matrix;
 use crate::lists::{
-    add_at, add_over, count_at, flag_at, float_at, item_at, number, part_of, put, set_at, sum_over,
+    add_at, add_over, count_at, flag_at, float_at, item_at, number, part_of, put, sum_over,
 };
 use std::alloc::{AllocError, Global};
 use std::cmp::Reverse;
@@ -129,15 +129,6 @@ impl Preds {
         })
     }
 
-    /// Those of these rows.
-    fn of(alloc: Global, rows: &[Entries]) -> Result<Preds, AllocError> {
-        let mut preds = Preds::empty(alloc, rows.len())?;
-        for node in 0..rows.len() {
-            preds.count(number(node), &rows[node])?;
-        }
-        Ok(preds)
-    }
-
     /// Notes that a node's row has these entries more.
     fn count(&mut self, node: u32, entries: &[(u32, f64)]) -> Result<(), AllocError> {
         for entry in entries {
@@ -169,7 +160,8 @@ pub(crate) fn take_list<T>(alloc: Global, lists: &mut [Vec<T>], place: usize) ->
     }
 }
 
-/// A queue in which each node that is left waits with the number of products in `products`, and may stand with greater ones, which count no more.
+/// A queue in which each node that is left waits with the number of products in `products`, and may stand with greater ones, which count no more. That of a
+/// node which has gone is the greatest number.
 #[derive(Drop)]
 struct Waiting {
     queue: BinaryHeap<Reverse<(usize, u32)>>,
@@ -190,6 +182,11 @@ impl Waiting {
         item_at(&self.products, node as usize, 0)
     }
 
+    /// Whether a node has gone, or doesn't wait yet.
+    fn is_gone(&self, node: u32) -> bool {
+        self.products_of(node) == usize::MAX
+    }
+
     /// Has a node wait with so many products.
     fn push(&mut self, node: u32, products: usize) -> Result<(), AllocError> {
         put(&mut self.products, node, products);
@@ -204,7 +201,6 @@ struct System {
     rows: Vec<Entries>,
     preds: Preds,
     exits: Vec<f64>,
-    is_gone: Vec<bool>,
     waiting: Waiting,
     merged: Entries,
     missing: Entries,
@@ -269,51 +265,63 @@ fn merge(
     merged.extend_from_slice(part_of(own, next, own.len()))
 }
 
-/// The entries of a policy's row at each node.
-fn rows_of(
-    alloc: Global,
-    component: &Component,
-    policy: &[usize],
-) -> Result<Vec<Entries>, AllocError> {
-    let mut rows = Vec::new(alloc);
-    for place in policy {
-        rows.push(component.entries_at(*place).to_vec(alloc)?)?;
-    }
-    Ok(rows)
-}
-
-/// What a policy's row at each node gives to nodes outside.
-fn exits_of(
-    alloc: Global,
-    component: &Component,
-    policy: &[usize],
-) -> Result<Vec<f64>, AllocError> {
-    let mut exits = vec![in alloc; 0.0; policy.len()]?;
-    for node in 0..policy.len() {
-        set_at(&mut exits, node, component.exit_at(policy[node]));
-    }
-    Ok(exits)
-}
-
 impl System {
-    /// These rows and what each gives to nodes outside, with all nodes waiting.
-    fn new(alloc: Global, rows: Vec<Entries>, exits: Vec<f64>) -> Result<System, AllocError> {
-        let mut system = System {
-            preds: Preds::of(alloc, &rows)?,
-            is_gone: vec![in alloc; false; rows.len()]?,
-            waiting: Waiting::none(alloc, rows.len())?,
+    /// No row yet, of so many nodes.
+    fn empty(alloc: Global, nodes: usize) -> Result<System, AllocError> {
+        Ok(System {
+            rows: Vec::new(alloc),
+            preds: Preds::empty(alloc, nodes)?,
+            exits: vec![in alloc; 0.0; nodes]?,
+            waiting: Waiting::none(alloc, nodes)?,
             merged: Vec::new(alloc),
             missing: Vec::new(alloc),
             steps: Vec::new(alloc),
-            rows,
-            exits,
-        };
-        system.push_all()?;
-        Ok(system)
+        })
+    }
+
+    /// Appends the row of the next node, which gives so much to nodes outside. What it gives to ends goes outside too.
+    fn push(
+        &mut self,
+        entries: &[(u32, f64)],
+        exit: f64,
+        is_end: &[bool],
+    ) -> Result<(), AllocError> {
+        let node = number(self.rows.len());
+        let mut row = Vec::with_capacity(*self.rows.allocator(), entries.len())?;
+        let mut exit = exit;
+        for entry in entries {
+            if flag_at(is_end, entry.0) {
+                exit += entry.1;
+            } else {
+                row.push(*entry)?;
+            }
+        }
+        put(&mut self.exits, node, exit);
+        self.preds.count(node, &row)?;
+        self.rows.push(row)?;
+        Ok(())
+    }
+
+    /// Appends a policy's row at each node. An end gives all to nodes outside.
+    fn push_each(
+        &mut self,
+        component: &Component,
+        policy: &[usize],
+        is_end: &[bool],
+    ) -> Result<(), AllocError> {
+        for node in 0..policy.len() {
+            let row = component.row_at(policy[node]);
+            if item_at(is_end, node, false) {
+                self.push(&[], 1.0, is_end)?;
+            } else {
+                self.push(component.entries_of(&row), row.exit, is_end)?;
+            }
+        }
+        Ok(())
     }
 
     /// Has all nodes wait.
-    fn push_all(&mut self) -> Result<(), AllocError> {
+    fn wait_each(&mut self) -> Result<(), AllocError> {
         for node in 0..number(self.rows.len()) {
             self.push_fewer(node)?;
         }
@@ -381,7 +389,7 @@ impl System {
     ) -> Result<Entries, AllocError> {
         let mut column = Vec::new(*self.rows.allocator());
         for pred in preds {
-            if !flag_at(&self.is_gone, *pred) {
+            if !self.waiting.is_gone(*pred) {
                 let share = self.fold_into(*pred, node, row, pivot)?;
                 column.push((*pred, share))?;
             }
@@ -389,8 +397,8 @@ impl System {
         Ok(column)
     }
 
-    /// Has nodes wait with the products that they take now, if these are fewer.
-    fn push_each(&mut self, column: &[(u32, f64)]) -> Result<(), AllocError> {
+    /// Has the nodes of entries wait with the products that they take now, if these are fewer.
+    fn wait_at(&mut self, column: &[(u32, f64)]) -> Result<(), AllocError> {
         for entry in column {
             self.push_fewer(entry.0)?;
         }
@@ -405,11 +413,11 @@ impl System {
         if !(pivot > 0.0) {
             return Ok(None);
         }
-        put(&mut self.is_gone, node, true);
+        put(&mut self.waiting.products, node, usize::MAX);
         uncount(&mut self.preds.counts, &row);
         let preds = take_list(alloc, &mut self.preds.lists, node as usize);
         let column = self.fold_all(node, &row, &preds, pivot)?;
-        self.push_each(&column)?;
+        self.wait_at(&column)?;
         Ok(Some(Step {
             node,
             pivot,
@@ -418,18 +426,13 @@ impl System {
         }))
     }
 
-    /// Whether a node is left and waits with so many products.
-    fn is_waiting(&self, node: u32, products: usize) -> bool {
-        !flag_at(&self.is_gone, node) && products == self.waiting.products_of(node)
-    }
-
     /// The node to go next, and its products; none where all have gone. Nodes whose products have become more wait longer.
     fn next(&mut self) -> Result<Option<(u32, usize)>, AllocError> {
         for _ in 0..usize::MAX {
             let Some(Reverse((key, node))) = self.waiting.queue.pop() else {
                 break;
             };
-            if self.is_waiting(node, key) {
+            if key == self.waiting.products_of(node) {
                 let now = self.key(node);
                 if now <= key {
                     return Ok(Some((node, now)));
@@ -457,7 +460,7 @@ impl System {
     fn left(&self, alloc: Global) -> Result<Vec<u32>, AllocError> {
         let mut left = Vec::new(alloc);
         for node in 0..number(self.rows.len()) {
-            if !flag_at(&self.is_gone, node) {
+            if !self.waiting.is_gone(node) {
                 left.push(node)?;
             }
         }
@@ -488,6 +491,7 @@ impl System {
 
     /// Eliminates all nodes. It ends once it is seen that this takes more than so many products.
     fn eliminate_all(&mut self, most: usize) -> Result<End, AllocError> {
+        self.wait_each()?;
         let nodes = self.rows.len();
         let mut products = 0usize;
         for gone in 0..nodes {
@@ -511,14 +515,16 @@ impl System {
     }
 }
 
-/// Eliminates all nodes: of each its row, whose entries are ordered by target, and what it gives to nodes outside. It may take so many products.
-pub(crate) fn eliminated_rows(
+/// Eliminates all nodes of a component under a policy, as if it ended at the nodes that are flagged as ends. It may take so many products.
+pub(crate) fn eliminated(
     alloc: Global,
-    rows: Vec<Entries>,
-    exits: Vec<f64>,
+    component: &Component,
+    policy: &[usize],
+    is_end: &[bool],
     most: usize,
 ) -> Result<Elimination, AllocError> {
-    let mut system = System::new(alloc, rows, exits)?;
+    let mut system = System::empty(alloc, policy.len())?;
+    system.push_each(component, policy, is_end)?;
     match system.eliminate_all(most)? {
         End::Done(products) => Ok(Elimination::Done(Factors {
             steps: system.steps,
@@ -527,16 +533,4 @@ pub(crate) fn eliminated_rows(
         End::Improper => Ok(Elimination::Improper),
         End::Dense => Ok(Elimination::Dense),
     }
-}
-
-/// Eliminates all nodes of a component under a policy. It may take so many products.
-pub(crate) fn eliminated(
-    alloc: Global,
-    component: &Component,
-    policy: &[usize],
-    most: usize,
-) -> Result<Elimination, AllocError> {
-    let rows = rows_of(alloc, component, policy)?;
-    let exits = exits_of(alloc, component, policy)?;
-    eliminated_rows(alloc, rows, exits, most)
 }

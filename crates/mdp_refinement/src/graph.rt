@@ -7,7 +7,7 @@ use std::alloc::{AllocError, Global};
 #[derive(Drop)]
 pub struct Graph {
     starts: Vec<usize>,
-    targets: Vec<u32>,
+    pub(crate) targets: Vec<u32>,
 }
 
 impl Graph {
@@ -32,10 +32,5 @@ impl Graph {
     /// The targets of a node's edges.
     pub(crate) fn targets_of(&self, node: u32) -> &[u32] {
         group_of(&self.targets, &self.starts, node as usize)
-    }
-
-    /// How many edges there are in all.
-    pub(crate) fn size(&self) -> usize {
-        self.targets.len()
     }
 }

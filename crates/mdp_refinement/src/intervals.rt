@@ -1,6 +1,7 @@
 //! Interval iteration in whole numbers: from values that surely meet the bound, each step keeps the rows.
 
-use crate::bound::{Bound, Task};
+use crate::bound::Task;
+use crate::lists::put;
 use crate::rows::Rows;
 use crate::solving::Solution;
 use crate::value::{Value, value_at};
@@ -32,11 +33,6 @@ pub(crate) fn best_rounded(
         }
     }
     best
-}
-
-/// A value that is a bound, rounded to a multiple of a unit.
-fn rounded(value: i128, unit: i128, bound: Bound) -> Option<i128> {
-    quotient(value, unit, bound)?.checked_mul(unit)
 }
 
 /// The greatest unit of nodes.
@@ -80,9 +76,10 @@ pub(crate) fn sweep_exact(
     start: i128,
     solution: &mut Solution,
 ) -> Option<()> {
-    let first = rounded(start, greatest_unit(rows, nodes), task.bound)?;
+    let unit = greatest_unit(rows, nodes);
+    let first = quotient(start, unit, task.bound)?.checked_mul(unit)?;
     for node in nodes {
-        solution.set_value(*node, first);
+        put(&mut solution.values, *node, Value::known(first));
     }
     for _ in 0..count_sweeps(rows, nodes) {
         let mut is_changed = false;

@@ -18,7 +18,7 @@ fn is_of(policy: Option<&[usize]>, node: u32, row: usize) -> bool {
 pub(crate) struct Leaving<'a> {
     component: &'a Component,
     leading: &'a Groups,
-    policy: Vec<usize>,
+    pub(crate) policy: Vec<usize>,
     is_led: Vec<bool>,
     queue: Vec<u32>,
     queued: usize,
@@ -32,7 +32,7 @@ impl<'a> Leaving<'a> {
         leading: &'a Groups,
         policy: &[usize],
     ) -> Result<Leaving<'a>, AllocError> {
-        let nodes = component.len();
+        let nodes = component.nodes.len();
         let mut search = Leaving {
             component,
             leading,
@@ -82,7 +82,7 @@ impl<'a> Leaving<'a> {
     /// Leads the nodes whose row of a policy leaves.
     fn lead_out(&mut self, policy: &[usize]) {
         for node in 0..policy.len() {
-            if self.component.exit_at(policy[node]) > 0.0 {
+            if self.component.row_at(policy[node]).exit > 0.0 {
                 self.lead(number(node), policy[node]);
             }
         }
@@ -97,11 +97,6 @@ impl<'a> Leaving<'a> {
             let target = number_at(&self.queue, number(place));
             self.lead_to(target, policy);
         }
-    }
-
-    /// The row of each node.
-    pub(crate) fn into_policy(self) -> Vec<usize> {
-        self.policy
     }
 }
 
@@ -120,22 +115,8 @@ pub(crate) fn exit_policy(
         }
     }
     search.spread(None);
-    if search.queued < component.len() {
+    if search.queued < component.nodes.len() {
         return Ok(None);
     }
-    Ok(Some(search.into_policy()))
-}
-
-/// A policy, changed to another one at the nodes from which it doesn't leave the component.
-pub(crate) fn proper(
-    alloc: Global,
-    component: &Component,
-    leading: &Groups,
-    policy: &[usize],
-    other: &[usize],
-) -> Result<Vec<usize>, AllocError> {
-    let mut search = Leaving::new(alloc, component, leading, other)?;
-    search.lead_out(policy);
-    search.spread(Some(policy));
-    Ok(search.into_policy())
+    Ok(Some(search.policy))
 }

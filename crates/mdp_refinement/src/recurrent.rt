@@ -4,10 +4,10 @@ use crate::biases::{Biases, Left};
 use crate::bound::Bound;
 use crate::component::Component;
 use crate::convert::{nearest, to_float};
-use crate::graph::Graph;
 use crate::intervals::greatest_unit;
-use crate::lists::{float_at, greatest_size, item_at, number, part_of, put, put_each};
-use crate::rows::{Entry, Excess, Rows, Scale, WholeRow};
+use crate::lists::{greatest_size, item_at, number, part_of, put, put_each, set_at};
+use crate::rows::{Rows, Scale, WholeRow};
+use crate::solving::graph_of;
 use crate::strong::{Components, strong_components};
 use crate::value::{Value, value_at};
 use crate::whole::{divided, quotient};
@@ -46,11 +46,6 @@ struct Range {
 }
 
 impl Range {
-    /// How far they lie apart.
-    fn width(self) -> i128 {
-        self.upper.saturating_sub(self.lower)
-    }
-
     /// Takes in the range of another node: the gains of all lie between.
     fn widened(self, other: Range) -> Range {
         Range {
@@ -88,9 +83,10 @@ impl Nearest {
 
     /// Takes in bounds. Whether they are nearer than those before.
     fn take(&mut self, range: Range) -> bool {
-        let is_nearer = range.width() < self.width;
+        let width = range.upper.saturating_sub(range.lower);
+        let is_nearer = width < self.width;
         if is_nearer {
-            self.width = range.width();
+            self.width = width;
         }
         is_nearer
     }
@@ -163,42 +159,35 @@ impl SplitGain {
     }
 }
 
-/// What a row gains that has so much over the bias of its node. None past 128 bits.
-fn row_gained(row: &WholeRow, excess: Excess, gain: SplitGain) -> Option<Gained> {
-    let gain = gain.in_unit(row.unit())?;
-    let least = gain.over(row, excess.rounded(Bound::Lower)?)?;
-    let most = if excess.is_whole() {
-        least
-    } else {
-        gain.over(row, excess.rounded(Bound::Upper)?)?
-    };
-    let over = to_float(least) * to_float(row.unit()) / to_float(row.denominator);
-    Some(Gained {
-        range: gain.range(row, least, most)?,
-        over: over - to_float(gain.rest),
-    })
-}
-
-/// About how much each row of a component gains over a gain, in units, where corrections were followed in floats; and by how much that may be wrong.
+/// What rows of a component gain over a gain, in units: those that may be the best of their node, exactly, and the others about as much, as corrections
+/// were followed in floats; and by how much that may be wrong. Of each node the row whose lower gain is the greatest. `is_kept` in the end, where the bias that
+/// was measured last is the one to keep.
 #[derive(Drop)]
-struct Estimate {
+struct Measured {
     gains: Vec<f64>,
     blur: f64,
+    policy: Vec<usize>,
+    is_kept: bool,
 }
 
-impl Estimate {
-    /// Nothing known of so many rows.
-    fn none(alloc: Global, rows: usize) -> Result<Estimate, AllocError> {
-        Ok(Estimate {
-            gains: vec![in alloc; 0.0; rows]?,
+impl Measured {
+    /// Nothing of a component.
+    fn none(alloc: Global, component: &Component) -> Result<Measured, AllocError> {
+        Ok(Measured {
+            gains: vec![in alloc; 0.0; component.rows.len()]?,
             blur: 0.0,
+            policy: vec![in alloc; 0; component.nodes.len()]?,
+            is_kept: false,
         })
     }
 
-    /// Knows nothing any more.
-    fn clear(&mut self) {
-        self.gains.fill(0.0);
-        self.blur = 0.0;
+    /// Begins anew. What rows gain is known where the bias is the one that was kept.
+    fn begin(&mut self) {
+        if !self.is_kept {
+            self.gains.fill(0.0);
+            self.blur = 0.0;
+        }
+        self.is_kept = false;
     }
 
     /// What a row must gain, of those from a place to another, so that it may be the best of them.
@@ -208,11 +197,6 @@ impl Estimate {
             most = most.max(*gain);
         }
         most - self.blur
-    }
-
-    /// Whether a row may be the best of rows of which one must gain so much.
-    fn is_due(&self, at: usize, least: f64) -> bool {
-        !(float_at(&self.gains, number(at)) < least)
     }
 
     /// Follows corrections of the bias and of the gain. Biases were rounded to units of at most `unit`.
@@ -228,37 +212,6 @@ impl Estimate {
             *gain *= times;
         }
         self.blur = (self.blur + SCALED_UNITS * unit) * times;
-    }
-}
-
-/// What rows of a component gain over a gain: those that may be the best of their node, exactly. Of each node the row whose lower gain is the greatest. The bias
-/// is 0 at all nodes until it is corrected, or is another one from the start. `is_kept` in the end, where the bias that was measured last is the one to keep.
-#[derive(Drop)]
-struct Measured {
-    estimate: Estimate,
-    policy: Vec<usize>,
-    is_zero: bool,
-    is_kept: bool,
-}
-
-impl Measured {
-    /// Nothing of a component.
-    fn none(alloc: Global, component: &Component) -> Result<Measured, AllocError> {
-        Ok(Measured {
-            estimate: Estimate::none(alloc, component.rows.len())?,
-            policy: vec![in alloc; 0; component.len()]?,
-            is_zero: false,
-            is_kept: false,
-        })
-    }
-
-    /// Begins anew, over a bias that is 0 at all nodes or not. What rows gain is known where that is the one that was kept.
-    fn begin(&mut self, is_zero: bool) {
-        if !self.is_kept {
-            self.estimate.clear();
-        }
-        self.is_zero = is_zero;
-        self.is_kept = false;
     }
 }
 
@@ -280,19 +233,22 @@ fn raised_by(best: Option<(Range, usize)>, range: Range, at: usize) -> (Range, u
 }
 
 impl Refinement<'_> {
-    /// What a row has over the bias of its node. None past 128 bits.
-    fn excess(self, row: &WholeRow, bias: &[Value], is_zero: bool) -> Option<Excess> {
-        if is_zero {
-            Some(self.rows.excess_of_zero(row))
-        } else {
-            self.rows.exact_excess(row, bias)
-        }
-    }
-
-    /// What the row at a place gains over a bias that is 0 at all nodes or not. None past 128 bits.
-    fn gained(self, at: usize, bias: &[Value], is_zero: bool, gain: SplitGain) -> Option<Gained> {
+    /// What the row at a place gains over a bias. None past 128 bits.
+    fn gained(self, at: usize, bias: &[Value], gain: SplitGain) -> Option<Gained> {
         let row = self.rows.row(self.component.pick_at(at)?)?;
-        row_gained(row, self.excess(row, bias, is_zero)?, gain)
+        let excess = self.rows.exact_excess(row, bias)?;
+        let gain = gain.in_unit(row.unit())?;
+        let least = gain.over(row, excess.rounded(Bound::Lower)?)?;
+        let most = if excess.less == 0 {
+            least
+        } else {
+            gain.over(row, excess.rounded(Bound::Upper)?)?
+        };
+        let over = to_float(least) * to_float(row.unit()) / to_float(row.denominator);
+        Some(Gained {
+            range: gain.range(row, least, most)?,
+            over: over - to_float(gain.rest),
+        })
     }
 
     /// Measures the rows of a node over a bias that may be the best. The range of its gain. None past 128 bits, or where it has no row.
@@ -304,18 +260,18 @@ impl Refinement<'_> {
         measured: &mut Measured,
     ) -> Option<Range> {
         let (from, to) = self.component.range_of(place);
-        let least = measured.estimate.least_of(from, to);
+        let least = measured.least_of(from, to);
         let mut best: Option<(Range, usize)> = None;
         for at in from..to {
-            if !measured.estimate.is_due(at, least) {
+            if item_at(&measured.gains, at, 0.0) < least {
                 continue;
             }
-            let found = self.gained(at, bias, measured.is_zero, gain)?;
-            put(&mut measured.estimate.gains, number(at), found.over);
+            let found = self.gained(at, bias, gain)?;
+            set_at(&mut measured.gains, at, found.over);
             best = Some(raised_by(best, found.range, at));
         }
         let (range, chosen) = best?;
-        put(&mut measured.policy, number(place), chosen);
+        set_at(&mut measured.policy, place, chosen);
         Some(range)
     }
 
@@ -323,7 +279,7 @@ impl Refinement<'_> {
     fn measure(self, bias: &[Value], gain: i128, measured: &mut Measured) -> Option<Range> {
         let gain = SplitGain::new(gain, self.unit)?;
         let mut all: Option<Range> = None;
-        for place in 0..self.component.len() {
+        for place in 0..self.component.nodes.len() {
             let own = self.measure_node(place, bias, gain, measured)?;
             all = match all {
                 Some(old) => Some(old.widened(own)),
@@ -337,72 +293,20 @@ impl Refinement<'_> {
     fn correct(
         self,
         alloc: Global,
-        search: &mut Search<'_>,
+        biases: &mut Biases<'_>,
+        measured: &mut Measured,
         bias: &mut [Value],
         gain: i128,
     ) -> Result<Option<i128>, AllocError> {
-        let measured = &mut search.measured;
-        let more = search.biases.correct(alloc, &measured.estimate.gains)?;
-        let values = search.biases.values();
-        measured.is_zero = false;
-        measured
-            .estimate
-            .follow(self.component, values, more, to_float(self.unit));
+        let more = biases.correct(alloc, &measured.gains)?;
+        let values = biases.values();
+        measured.follow(self.component, values, more, to_float(self.unit));
         if !self.component.add(self.rows, values, bias) {
             return Ok(None);
         }
         match nearest(more) {
             Some(more) => Ok(gain.checked_add(more)),
             None => Ok(None),
-        }
-    }
-}
-
-/// What a search leaves to one that goes on in smaller units: what it measured, and what the search for corrections left.
-#[derive(Drop)]
-struct Known {
-    measured: Measured,
-    left: Left,
-}
-
-impl Known {
-    /// Nothing of a component.
-    fn none(alloc: Global, component: &Component) -> Result<Known, AllocError> {
-        Ok(Known {
-            measured: Measured::none(alloc, component)?,
-            left: Left::none(alloc, component)?,
-        })
-    }
-}
-
-/// The search for the gains of an end component.
-#[derive(Drop)]
-struct Search<'a> {
-    biases: Biases<'a>,
-    measured: Measured,
-}
-
-impl<'a> Search<'a> {
-    /// A search that goes on from what another one left, over a bias that is 0 at all nodes or not.
-    fn new(
-        alloc: Global,
-        component: &'a Component,
-        known: Known,
-        is_zero: bool,
-    ) -> Result<Search<'a>, AllocError> {
-        let Known { mut measured, left } = known;
-        measured.begin(is_zero);
-        Ok(Search {
-            biases: Biases::new(alloc, component, left)?,
-            measured,
-        })
-    }
-
-    /// What it leaves.
-    fn into_known(self) -> Known {
-        Known {
-            measured: self.measured,
-            left: self.biases.into_left(),
         }
     }
 }
@@ -437,13 +341,13 @@ impl EndGains {
         &mut self,
         alloc: Global,
         refinement: Refinement<'_>,
-        search: &mut Search<'_>,
+        biases: &mut Biases<'_>,
+        measured: &mut Measured,
         bias: &mut [Value],
         gain: i128,
     ) -> Result<(), AllocError> {
         let mut nearest = Nearest::none(refinement.unit, gain);
         for round in 0..MOST_ROUNDS {
-            let measured = &mut search.measured;
             let Some(range) = refinement.measure(bias, nearest.gain, measured) else {
                 break;
             };
@@ -456,7 +360,7 @@ impl EndGains {
                 measured.is_kept = is_nearer;
                 break;
             }
-            match refinement.correct(alloc, search, bias, nearest.gain)? {
+            match refinement.correct(alloc, biases, measured, bias, nearest.gain)? {
                 Some(next) => nearest.gain = next,
                 None => break,
             }
@@ -465,57 +369,15 @@ impl EndGains {
     }
 }
 
-/// The end component of a node, if it is in one.
-fn part_at(parts: &[Option<u32>], node: u32) -> Option<u32> {
-    item_at(parts, node as usize, None)
-}
-
 /// Which nodes are to be solved: those of end components that have rows, of which none was too wide.
 fn open_nodes(alloc: Global, rows: &Rows, parts: &[Option<u32>]) -> Result<Vec<bool>, AllocError> {
     let mut open = vec![in alloc; false; parts.len()]?;
     for node in 0..number(parts.len()) {
-        put(
-            &mut open,
-            node,
-            part_at(parts, node).is_some() && rows.has_narrow(node),
-        );
+        let is_inside = item_at(parts, node as usize, None).is_some();
+        let is_narrow = !rows.has_wide(node) && !rows.rows_of(node).is_empty();
+        put(&mut open, node, is_inside && is_narrow);
     }
     Ok(open)
-}
-
-/// Appends the edges of the last node to nodes of a part.
-fn push_edges(
-    graph: &mut Graph,
-    edges: &[Entry],
-    parts: &[Option<u32>],
-    part: Option<u32>,
-) -> Result<(), AllocError> {
-    for entry in edges {
-        if part_at(parts, entry.node) == part {
-            graph.push_edge(entry.node)?;
-        }
-    }
-    Ok(())
-}
-
-/// The graph of the edges within end components.
-fn graph_within(alloc: Global, rows: &Rows, parts: &[Option<u32>]) -> Result<Graph, AllocError> {
-    let mut graph = Graph::empty(alloc);
-    for node in 0..number(parts.len()) {
-        graph.push_node()?;
-        push_edges(&mut graph, rows.edges_of(node), parts, part_at(parts, node))?;
-    }
-    Ok(graph)
-}
-
-/// The components of the open nodes.
-fn open_components(
-    alloc: Global,
-    rows: &Rows,
-    parts: &[Option<u32>],
-) -> Result<Components, AllocError> {
-    let graph = graph_within(alloc, rows, parts)?;
-    strong_components(alloc, &graph, &open_nodes(alloc, rows, parts)?)
 }
 
 /// The components of the open nodes, which may be known, unless a row was too wide.
@@ -525,13 +387,13 @@ fn sought_components(
     parts: &[Option<u32>],
     known: Option<Components>,
 ) -> Result<Components, AllocError> {
-    if rows.has_any_wide() {
-        return open_components(alloc, rows, parts);
+    if !rows.has_any_wide() {
+        if let Some(components) = known {
+            return Ok(components);
+        }
     }
-    match known {
-        Some(components) => Ok(components),
-        None => open_components(alloc, rows, parts),
-    }
+    let graph = graph_of(alloc, rows, number(parts.len()), parts)?;
+    strong_components(alloc, &graph, &open_nodes(alloc, rows, parts)?)
 }
 
 /// What a search for gains begins with, for each node in units: biases, and gains, each to be taken so many times; 0 where there are no gains.
@@ -551,11 +413,12 @@ impl First<'_> {
     }
 }
 
-/// A component in floats, and what the last search for its gains left, if there was one.
+/// A component in floats, what was measured of its rows, and what the last search for its gains left, if there was one.
 #[derive(Drop)]
 struct Part {
     component: Component,
-    known: Option<Known>,
+    measured: Measured,
+    left: Option<Left>,
 }
 
 impl Part {
@@ -566,29 +429,20 @@ impl Part {
         components: &Components,
         component: usize,
     ) -> Result<Part, AllocError> {
+        let component = Component::new(alloc, rows, components, component, &[])?;
         Ok(Part {
-            component: Component::new(alloc, rows, components, component, &[])?,
-            known: None,
+            measured: Measured::none(alloc, &component)?,
+            component,
+            left: None,
         })
     }
 
     /// Goes on with values of which there are so many times more units.
     fn rescale(&mut self, rows: &Rows, times: f64) {
-        let unit = self.component.greatest_unit();
-        if let Some(known) = &mut self.known {
-            if known.measured.is_kept {
-                known.measured.estimate.scale(times, unit);
-            }
+        if self.measured.is_kept {
+            self.measured.scale(times, self.component.greatest_unit());
         }
         self.component.rescale(rows);
-    }
-
-    /// What a search begins with: what the last one left, or nothing.
-    fn take_known(&mut self, alloc: Global) -> Result<Known, AllocError> {
-        match self.known.take() {
-            Some(known) => Ok(known),
-            None => Known::none(alloc, &self.component),
-        }
     }
 
     /// Refines a bias of the component, from what another search left, if one did, and keeps that of the nearest gains that it comes to.
@@ -599,7 +453,6 @@ impl Part {
         found: &mut EndGains,
         first: &mut First<'_>,
     ) -> Result<(), AllocError> {
-        let known = self.take_known(alloc)?;
         let component = &self.component;
         let refinement = Refinement {
             rows,
@@ -607,9 +460,22 @@ impl Part {
             unit: greatest_unit(rows, &component.nodes),
         };
         let gain = first.gain_of(component);
-        let mut search = Search::new(alloc, component, known, first.gains.is_empty())?;
-        found.refine(alloc, refinement, &mut search, &mut first.bias, gain)?;
-        self.known = Some(search.into_known());
+        let left = match self.left.take() {
+            Some(left) => left,
+            None => Left::none(alloc, component)?,
+        };
+        let mut biases = Biases::new(alloc, component, left)?;
+        let measured = &mut self.measured;
+        measured.begin();
+        found.refine(
+            alloc,
+            refinement,
+            &mut biases,
+            measured,
+            &mut first.bias,
+            gain,
+        )?;
+        self.left = Some(biases.into_left());
         Ok(())
     }
 }

@@ -51,14 +51,6 @@ struct Lack {
     exit: f64,
 }
 
-/// The value of a node and so much more. None past 128 bits.
-fn moved(values: &[Value], node: u32, way: i128) -> Option<i128> {
-    match value_at(values, node) {
-        Some(value) => value.checked_add(way),
-        None => None,
-    }
-}
-
 /// What stays the same in all rounds.
 #[derive(Clone, Copy)]
 struct Setting<'a> {
@@ -109,15 +101,10 @@ impl Setting<'_> {
 
     /// How a row's value lies to that of its node. None past 128 bits.
     fn gap(self, row: &FloatRow, values: &[Value]) -> Option<Gap> {
-        match self.rows.row(row.place()) {
+        match self.rows.row(row.place as usize) {
             Some(whole) => self.rows.gap(whole, values),
             None => None,
         }
-    }
-
-    /// Whether the row at a place is to hold.
-    fn is_to_hold(self, policy: &[usize], node: u32, at: usize) -> bool {
-        self.task.is_each() || takes(policy, node, at)
     }
 
     /// What the rows that are to hold lack. None past 128 bits.
@@ -129,7 +116,7 @@ impl Setting<'_> {
         };
         for at in 0..self.component.rows.len() {
             let row = self.component.rows[at];
-            if self.is_to_hold(policy, row.node, at) {
+            if self.task.is_each() || takes(policy, row.node, at) {
                 let gap = self.gap(&row, values)?;
                 lack.is_there = lack.is_there || self.task.is_broken(gap.order);
                 lack.most = lack.most.max(gap.size * self.task.side());
@@ -152,7 +139,11 @@ impl Setting<'_> {
     /// Moves all values of the component so far. Not past 128 bits: whether none was.
     fn move_all(self, way: i128, values: &mut [Value]) -> bool {
         for node in &self.component.nodes {
-            match moved(values, *node, way) {
+            let moved = match value_at(values, *node) {
+                Some(value) => value.checked_add(way),
+                None => None,
+            };
+            match moved {
                 Some(value) => put(values, *node, Value::known(value)),
                 None => return false,
             }
@@ -214,7 +205,7 @@ impl Setting<'_> {
         if !corrector.correct(alloc, gains)? {
             return Ok(End::Failed);
         }
-        if self.component.add(self.rows, corrector.values(), values) {
+        if self.component.add(self.rows, &corrector.values, values) {
             Ok(End::Open)
         } else {
             Ok(End::Failed)
@@ -234,7 +225,7 @@ impl Setting<'_> {
             if round >= FIRST_ROOMY {
                 room *= GROWTH;
             }
-            let held = self.measure(corrector.policy(), values, room, gains);
+            let held = self.measure(&corrector.policy, values, room, gains);
             match End::of(held, round) {
                 End::Open => {}
                 end => return Ok(end),
@@ -269,6 +260,6 @@ pub(crate) fn refine(
     match setting.rounds(alloc, corrector, &mut gains, values)? {
         End::Held => Ok(true),
         End::Failed => Ok(false),
-        End::Open => Ok(setting.move_until(corrector.policy(), values)),
+        End::Open => Ok(setting.move_until(&corrector.policy, values)),
     }
 }

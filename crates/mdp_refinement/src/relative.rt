@@ -5,7 +5,7 @@
 use crate::chain::{Chain, FEW_STEPS, Visits};
 use crate::coarse::Grouping;
 use crate::component::Component;
-use crate::lists::{earned_by, float_at, item_at, number, put, set_at};
+use crate::lists::{float_at, item_at, number, put, set_at};
 use crate::sweeps::{Change, Forecast, Outlook, Progress, WINDOW};
 use std::alloc::{AllocError, Global};
 
@@ -21,26 +21,26 @@ const FAR: f64 = 64.0;
 /// How many sweeps follow the best rows before all are tried again, where the last such sweep changed some.
 const FEW_FOLLOWING: usize = 2;
 
-/// The rows that sweeps have come to, and which part of what they change is kept. Shares come near to how often the chain of these rows begins at each node
+/// The rows that sweeps have come to, and which part of what they change is kept, so that a chain with a period, or nearly one, settles too. Shares come near to how often the chain of these rows begins at each node
 /// in the long run, and rows are then taken so many times in a step, `steps`. By such shares the changes of a sweep add up to what the gain lacks in so many
 /// steps, as far as the values or the shares are right: the error is the product of both. The shares take a few steps once the best rows are steady, and
 /// before that one with each change of the rows.
 #[derive(Drop)]
 pub(crate) struct Followed {
-    pace: f64,
-    best_rows: Vec<usize>,
+    pub(crate) pace: f64,
+    pub(crate) best_rows: Vec<usize>,
     visits: Visits,
     steps: f64,
     steps_left: u32,
 }
 
-/// Sweeps over an end component, with the values and the rows that they have come to, and the chain of these. No value was greater than `size` in the last one.
+/// Sweeps over an end component, with the gain, the values, relative to that of the last node, and the rows that they have come to, and the chain of these. No value was greater than `size` in the last one.
 #[derive(Drop)]
 pub(crate) struct Relative<'a> {
     component: &'a Component,
-    followed: Followed,
-    gain: f64,
-    values: Vec<f64>,
+    pub(crate) followed: Followed,
+    pub(crate) gain: f64,
+    pub(crate) values: Vec<f64>,
     size: f64,
     is_steady: bool,
     is_taken: bool,
@@ -58,8 +58,8 @@ fn shift(values: &mut [f64]) {
 
 /// The first row of each node.
 fn first_rows(alloc: Global, component: &Component) -> Result<Vec<usize>, AllocError> {
-    let mut first = vec![in alloc; 0usize; component.len()]?;
-    for place in 0..component.len() {
+    let mut first = vec![in alloc; 0usize; component.nodes.len()]?;
+    for place in 0..component.nodes.len() {
         set_at(&mut first, place, component.range_of(place).0);
     }
     Ok(first)
@@ -71,7 +71,7 @@ impl Followed {
         Ok(Followed {
             pace: 1.0,
             best_rows: first_rows(alloc, component)?,
-            visits: Visits::each_once(alloc, component.len())?,
+            visits: Visits::each_once(alloc, component.nodes.len())?,
             steps: 1.0,
             steps_left: FEW_STEPS,
         })
@@ -85,7 +85,7 @@ impl<'a> Relative<'a> {
         component: &'a Component,
         followed: Followed,
     ) -> Result<Relative<'a>, AllocError> {
-        let nodes = component.len();
+        let nodes = component.nodes.len();
         Ok(Relative {
             component,
             followed,
@@ -99,31 +99,6 @@ impl<'a> Relative<'a> {
         })
     }
 
-    /// The rows that they have come to, to keep.
-    pub(crate) fn into_followed(self) -> Followed {
-        self.followed
-    }
-
-    /// This part of what a sweep changes is kept from now on, so that a chain with a period, or nearly one, settles too.
-    pub(crate) fn slow_down(&mut self, pace: f64) {
-        self.followed.pace = pace;
-    }
-
-    /// The values, relative to that of the last node.
-    pub(crate) fn values(&self) -> &[f64] {
-        &self.values
-    }
-
-    /// The gain.
-    pub(crate) fn gain(&self) -> f64 {
-        self.gain
-    }
-
-    /// The row of each node.
-    pub(crate) fn best_rows(&self) -> &[usize] {
-        &self.followed.best_rows
-    }
-
     /// What the row at a place, which earns so much over the gain, makes of its node's value. It is taken until it leaves its node, but for slow ones.
     fn value_of(&self, at: usize, earned: f64, old: f64) -> f64 {
         let row = self.component.row_at(at);
@@ -134,7 +109,7 @@ impl<'a> Relative<'a> {
     /// What a row of the node at a place is to earn so that it may be better than the one that was best, where values are no greater than in the last sweep.
     fn least_due(&self, gains: &[f64], place: usize) -> f64 {
         let row = item_at(&self.followed.best_rows, place, 0);
-        earned_by(gains, row) - FAR * self.size
+        item_at(gains, row, 0.0) - FAR * self.size
     }
 
     /// The best value of the node at a place, and the row that gives it.
@@ -143,7 +118,7 @@ impl<'a> Relative<'a> {
         let least = self.least_due(gains, place);
         let mut best = None;
         for at in from..to {
-            let earned = earned_by(gains, at);
+            let earned = item_at(gains, at, 0.0);
             if !(earned < least) {
                 let value = self.value_of(at, earned - self.gain, old);
                 match best {
@@ -264,7 +239,7 @@ impl<'a> Relative<'a> {
                 Outlook::Settled => 0,
                 Outlook::Hopeless if progress.goes_on(change.most) => {
                     self.correct_groups(alloc)?;
-                    forecast.begin_anew();
+                    forecast.last = f64::INFINITY;
                     0
                 }
                 Outlook::Hopeless => return Ok(false),

@@ -212,13 +212,9 @@ impl Rows {
         Ok(is_taken)
     }
 
-    /// The numbers of a row with this reward; none where it is too wide.
-    fn numbers_of(&self, row: ChoiceRow<'_>, reward: &Frac) -> Option<Numbers> {
-        self.numbers_over(common_denominator(reward.den(), row.probs)?, reward)
-    }
-
     /// The numbers of a row of this denominator, a multiple of that of its reward; none where it is too wide.
-    pub(crate) fn numbers_over(&self, denominator: i128, reward: &Frac) -> Option<Numbers> {
+    pub(crate) fn numbers_over(&self, denominator: Option<i128>, reward: &Frac) -> Option<Numbers> {
+        let denominator = denominator?;
         let earned = times_multiple(reward, denominator)?;
         if !is_narrow(earned) {
             return None;
@@ -300,7 +296,8 @@ impl Rows {
         row: ChoiceRow<'_>,
         reward: &Frac,
     ) -> Result<(), AllocError> {
-        if let Some(numbers) = self.numbers_of(row, reward) {
+        let denominator = common_denominator(reward.den(), row.probs);
+        if let Some(numbers) = self.numbers_over(denominator, reward) {
             if self.take_entries(nodes, row, numbers.denominator)? {
                 return self.push_pending(row, numbers);
             }
@@ -365,34 +362,12 @@ impl Rows {
         self.one = power_of_ten(scale.digits);
         self.most = greatest_with_digits(scale.digits.saturating_add(scale.room));
         self.node_digits.fill(scale.digits);
-        let times = power_of_ten(scale.digits.saturating_sub(digits));
-        let most = if scale.digits < digits {
-            -1
-        } else {
-            self.most.saturating_mul(power_of_ten(digits))
-        };
         for place in 0..self.rows.len() {
-            self.rescale_row(place, digits, times, most);
-        }
-    }
-
-    /// Writes the row at a place for the scale, which was written for values of so many digits. Where it kept all and keeps them, and its reward is at
-    /// most `most`, that is taken so many times.
-    fn rescale_row(&mut self, place: usize, digits: u32, times: i128, most: i128) {
-        if place >= self.rows.len() {
-            return;
-        }
-        let row = self.rows[place];
-        let is_short = row.lost == 0 && row.denominator <= self.most;
-        let row = if is_short && row.reward.saturating_abs() <= most {
-            WholeRow {
-                reward: row.reward.saturating_mul(times),
-                ..row
+            if let Some(row) = self.rows.get(place).copied() {
+                let row = self.rescaled(row, digits);
+                set_at(&mut self.rows, place, row);
             }
-        } else {
-            self.rescaled(row, digits)
-        };
-        set_at(&mut self.rows, place, row);
+        }
     }
 
     /// The value 1 in units.
@@ -416,11 +391,6 @@ impl Rows {
         flag_at(&self.has_wide, node)
     }
 
-    /// Whether the node has rows, of which none was too wide.
-    pub(crate) fn has_narrow(&self, node: u32) -> bool {
-        !self.has_wide(node) && !self.rows_of(node).is_empty()
-    }
-
     /// Where the rows of a node begin and end.
     pub fn range_of(&self, node: u32) -> (usize, usize) {
         let (place, all) = (node as usize, self.rows.len());
@@ -441,14 +411,6 @@ impl Rows {
         }
     }
 
-    /// The choice of a row that was picked; the first where none was.
-    fn choice_of(&self, pick: Option<usize>) -> u32 {
-        match self.picked(pick) {
-            Some(row) => row.choice,
-            None => 0,
-        }
-    }
-
     /// The choices of the rows that were picked, the first where none was.
     pub fn choices_of(
         &self,
@@ -457,7 +419,9 @@ impl Rows {
     ) -> Result<Vec<u32>, AllocError> {
         let mut choices = vec![in alloc; 0; picks.len()]?;
         for place in 0..picks.len() {
-            set_at(&mut choices, place, self.choice_of(picks[place]));
+            if let Some(row) = self.picked(picks[place]) {
+                set_at(&mut choices, place, row.choice);
+            }
         }
         Ok(choices)
     }
@@ -492,7 +456,7 @@ impl Rows {
             if entry.node == row.node {
                 own = entry.numerator();
             } else {
-                let value = value_in_unit(values, entry.node, unit)?;
+                let value = in_unit(value_at(values, entry.node)?, unit)?;
                 if value.unsigned_abs().leading_zeros().saturating_add(zeros) < ZEROS_OF_NARROW {
                     return self.wide_sum_of_others(row, values);
                 }
@@ -511,7 +475,8 @@ impl Rows {
             if entry.node == row.node {
                 own = entry.numerator();
             } else {
-                total = plus_product(total, *entry, value_in_unit(values, entry.node, unit)?)?;
+                let value = in_unit(value_at(values, entry.node)?, unit)?;
+                total = total.checked_add(entry.numerator().checked_mul(value)?)?;
             }
         }
         Some((total, own))
@@ -548,15 +513,6 @@ impl Rows {
             },
             unit: row.unit(),
         })
-    }
-
-    /// What the row has over the value of its node, where all values are 0.
-    pub(crate) fn excess_of_zero(&self, row: &WholeRow) -> Excess {
-        Excess {
-            above: row.reward,
-            less: 0,
-            unit: row.unit(),
-        }
     }
 
     /// How the row's value lies to that of its node. None past 128 bits, or where a value isn't known.
@@ -600,16 +556,11 @@ struct Over {
 #[derive(Clone, Copy)]
 pub(crate) struct Excess {
     above: i128,
-    less: i128,
+    pub(crate) less: i128,
     unit: i128,
 }
 
 impl Excess {
-    /// Whether it is a whole number.
-    pub(crate) fn is_whole(self) -> bool {
-        self.less == 0
-    }
-
     /// It is rounded so that it is a bound. None past 128 bits.
     pub(crate) fn rounded(self, bound: Bound) -> Option<i128> {
         if self.less == 0 {
@@ -647,7 +598,7 @@ fn rounded_finely(
             break;
         };
         let (digit, left) = divided(scaled, others)?;
-        value = with_digit(value, digit)?;
+        value = value.checked_mul(10)?.checked_add(digit)?;
         rest = left;
         reached /= 10;
     }
@@ -657,34 +608,10 @@ fn rounded_finely(
     value.checked_mul(reached)
 }
 
-/// A number with a digit more; none past 128 bits.
-fn with_digit(number: i128, digit: i128) -> Option<i128> {
-    match number.checked_mul(10) {
-        Some(scaled) => scaled.checked_add(digit),
-        None => None,
-    }
-}
-
 /// A value that is a multiple of a unit, in that unit.
 fn in_unit(value: i128, unit: i128) -> Option<i128> {
     if unit == 1 {
         return Some(value);
     }
     value.checked_div(unit)
-}
-
-/// The value of a node, in a unit of which it is a multiple; none where it isn't known.
-fn value_in_unit(values: &[Value], node: u32, unit: i128) -> Option<i128> {
-    match value_at(values, node) {
-        Some(value) => in_unit(value, unit),
-        None => None,
-    }
-}
-
-/// A sum with an entry's numerator times a value more; none past 128 bits.
-fn plus_product(total: i128, entry: Entry, value: i128) -> Option<i128> {
-    match entry.numerator().checked_mul(value) {
-        Some(product) => total.checked_add(product),
-        None => None,
-    }
 }

@@ -5,9 +5,8 @@ use crate::component::Component;
 use crate::correct::Corrector;
 use crate::graph::Graph;
 use crate::intervals::{best_rounded, sweep_exact};
-use crate::leaving::{exit_policy, proper};
+use crate::leaving::{Leaving, exit_policy};
 use crate::lists::{Groups, item_at, number, put};
-use crate::outside::Outside;
 use crate::refine::refine;
 use crate::rows::{Entry, Rows};
 use crate::strong::{Components, strong_components};
@@ -24,30 +23,21 @@ pub struct Solution {
 }
 
 impl Solution {
-    /// Gives a node a value.
-    pub(crate) fn set_value(&mut self, node: u32, value: i128) {
-        put(&mut self.values, node, Value::known(value));
-    }
-
     /// Gives a node a value and a row.
     pub(crate) fn settle(&mut self, node: u32, value: i128, pick: Option<usize>) {
         put(&mut self.values, node, Value::known(value));
         put(&mut self.picks, node, pick);
     }
 
-    /// The row of a component that was picked for its node at a place, if one was.
-    fn row_at(&self, component: &Component, place: usize, node: u32) -> Option<usize> {
-        match item_at(&self.picks, node as usize, None) {
-            Some(pick) => component.row_of(place, pick),
-            None => None,
-        }
-    }
-
     /// Puts the rows of a component's nodes that were picked. Whether each of them has one.
     fn put_policy(&self, component: &Component, policy: &mut [usize]) -> bool {
         let mut is_full = true;
         for place in 0..policy.len().min(component.nodes.len()) {
-            match self.row_at(component, place, component.nodes[place]) {
+            let row = match item_at(&self.picks, component.nodes[place] as usize, None) {
+                Some(pick) => component.row_of(place, pick),
+                None => None,
+            };
+            match row {
                 Some(row) => policy[place] = row,
                 None => is_full = false,
             }
@@ -73,10 +63,9 @@ impl Solver<'_> {
         put(&mut self.solution.picks, node, None);
     }
 
-    /// Gives the nodes of a component the bounds that hold anyway.
-    fn give_up_all(&mut self, component: usize) {
-        let components = self.components;
-        for node in components.nodes_of(component) {
+    /// Gives nodes the bounds that hold anyway.
+    fn give_up_all(&mut self, nodes: &[u32]) {
+        for node in nodes {
             self.give_up(*node);
         }
     }
@@ -94,9 +83,9 @@ impl Solver<'_> {
         false
     }
 
-    /// Whether a row of a component leads out of it to a value that isn't known.
-    fn leads_to_unknown(&self, component: usize) -> bool {
-        for node in self.components.nodes_of(component) {
+    /// Whether a row of a component's nodes leads out of it to a value that isn't known.
+    fn leads_to_unknown(&self, nodes: &[u32]) -> bool {
+        for node in nodes {
             if self.misses_value(*node) {
                 return true;
             }
@@ -115,32 +104,25 @@ impl Solver<'_> {
         }
     }
 
-    /// Gives the nodes of a component the rows of a policy.
-    fn pick(&mut self, component: &Component, policy: &[usize]) {
-        component.pick(policy, &mut self.solution.picks);
-    }
-
     /// A component all of whose ways out have one value.
     fn solve_same(&mut self, component: &Component, value: i128, start: &[usize]) {
         for node in &component.nodes {
-            self.solution.set_value(*node, value);
+            put(&mut self.solution.values, *node, Value::known(value));
         }
-        self.pick(component, start);
+        component.pick(start, &mut self.solution.picks);
     }
 
     /// A component by interval iteration, or by what holds anyway.
     fn solve_by_intervals(&mut self, component: &Component, first: Option<i128>, start: &[usize]) {
         self.solution.is_full = false;
-        self.pick(component, start);
+        component.pick(start, &mut self.solution.picks);
         let nodes = &component.nodes;
         let found = match first {
             Some(first) => sweep_exact(self.rows, self.task, nodes, first, &mut self.solution),
             None => None,
         };
         if found.is_none() {
-            for node in nodes {
-                self.give_up(*node);
-            }
+            self.give_up_all(nodes);
         }
     }
 
@@ -149,11 +131,11 @@ impl Solver<'_> {
         &mut self,
         alloc: Global,
         component: &Component,
-        outside: Outside,
         leading: &Groups,
         start: &[usize],
     ) -> Result<(), AllocError> {
-        if let Some(value) = outside.same_value(self.rows, component) {
+        let outside = component.outside;
+        if let Some(value) = outside.same_value(self.rows, &component.nodes) {
             self.solve_same(component, value, start);
             return Ok(());
         }
@@ -173,7 +155,7 @@ impl Solver<'_> {
             &mut corrector,
             values,
         )? {
-            self.pick(component, corrector.policy());
+            component.pick(&corrector.policy, &mut self.solution.picks);
         } else if task.to_end {
             self.solve_by_intervals(component, outside.start(task.bound), start);
         } else {
@@ -196,11 +178,13 @@ impl Solver<'_> {
         let Some(other) = self.other else {
             return Ok(Some(exit));
         };
-        let mut policy = vec![in alloc; 0usize; component.len()]?;
+        let mut policy = vec![in alloc; 0usize; component.nodes.len()]?;
         if !other.put_policy(component, &mut policy) {
             return Ok(Some(exit));
         }
-        Ok(Some(proper(alloc, component, leading, &policy, &exit)?))
+        let mut search = Leaving::new(alloc, component, leading, &exit)?;
+        search.make_proper(&mut policy, &exit);
+        Ok(Some(policy))
     }
 
     /// A component with several nodes.
@@ -208,31 +192,33 @@ impl Solver<'_> {
         let values = &self.solution.values;
         let component = Component::new(alloc, self.rows, self.components, number, values)?;
         if !self.leave(alloc, &component)? {
-            self.give_up_all(number);
+            self.give_up_all(&component.nodes);
         }
         Ok(())
     }
 
     /// A component with several nodes, if each node can leave it. Whether it can.
     fn leave(&mut self, alloc: Global, component: &Component) -> Result<bool, AllocError> {
-        let Some(outside) = component.outside() else {
+        if component.outside.range.is_none() {
             return Ok(false);
-        };
+        }
         let leading = component.leading(alloc)?;
         let Some(start) = self.start(alloc, component, &leading)? else {
             return Ok(false);
         };
-        self.solve_leaving(alloc, component, outside, &leading, &start)?;
+        self.solve_leaving(alloc, component, &leading, &start)?;
         Ok(true)
     }
 
     /// The component of this number, whose successors are solved.
     fn solve_component(&mut self, alloc: Global, number: usize) -> Result<(), AllocError> {
-        if self.task.is_each() && self.leads_to_unknown(number) {
-            self.give_up_all(number);
+        let components = self.components;
+        let nodes = components.nodes_of(number);
+        if self.task.is_each() && self.leads_to_unknown(nodes) {
+            self.give_up_all(nodes);
             return Ok(());
         }
-        match self.components.nodes_of(number) {
+        match nodes {
             [node] => {
                 self.solve_single(*node);
                 Ok(())
@@ -295,20 +281,33 @@ fn first_solution(
     })
 }
 
-/// Appends an edge of the last node for each entry.
-fn push_edges(graph: &mut Graph, edges: &[Entry]) -> Result<(), AllocError> {
+/// Appends the edges of the last node to nodes of its part.
+fn push_edges(
+    graph: &mut Graph,
+    edges: &[Entry],
+    parts: &[Option<u32>],
+    part: Option<u32>,
+) -> Result<(), AllocError> {
     for entry in edges {
-        graph.push_edge(entry.node)?;
+        if item_at(parts, entry.node as usize, None) == part {
+            graph.push_edge(entry.node)?;
+        }
     }
     Ok(())
 }
 
-/// The graph of the nodes: an edge for each entry.
-fn graph_of(alloc: Global, rows: &Rows, nodes: u32) -> Result<Graph, AllocError> {
+/// The graph of so many nodes: an edge for each entry within a part. Nodes behind the list of parts are in one part.
+pub(crate) fn graph_of(
+    alloc: Global,
+    rows: &Rows,
+    nodes: u32,
+    parts: &[Option<u32>],
+) -> Result<Graph, AllocError> {
     let mut graph = Graph::empty(alloc);
     for node in 0..nodes {
         graph.push_node()?;
-        push_edges(&mut graph, rows.edges_of(node))?;
+        let part = item_at(parts, node as usize, None);
+        push_edges(&mut graph, rows.edges_of(node), parts, part)?;
     }
     Ok(graph)
 }
@@ -321,7 +320,7 @@ fn open_components(
     task: Task,
 ) -> Result<Components, AllocError> {
     let open = open_nodes(alloc, rows, given, task)?;
-    let graph = graph_of(alloc, rows, number(given.len()))?;
+    let graph = graph_of(alloc, rows, number(given.len()), &[])?;
     strong_components(alloc, &graph, &open)
 }
 

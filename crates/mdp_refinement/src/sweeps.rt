@@ -51,13 +51,8 @@ impl Change {
         self.drift += share * more;
     }
 
-    /// Whether the greatest change is small enough.
-    pub(crate) fn is_small(self, unit: f64, loss: f64) -> bool {
-        self.most <= self.enough(unit, loss)
-    }
-
-    /// What is small enough, where sums of floats may lose this part of the greatest value.
-    fn enough(self, unit: f64, loss: f64) -> f64 {
+    /// The greatest change that is small enough, where sums of floats may lose this part of the greatest value.
+    pub(crate) fn enough(self, unit: f64, loss: f64) -> f64 {
         (unit * SMALL_CHANGE).max(self.size * loss)
     }
 }
@@ -86,13 +81,13 @@ pub(crate) enum Outlook {
     Hopeless,
 }
 
-/// Says whether to go on with sweeps, of which there are to be so many at most.
+/// Says whether to go on with sweeps, of which there are to be so many at most. The last window ended with the change `last`; it is infinite where there was none.
 #[derive(Clone, Copy)]
 pub(crate) struct Forecast {
     sweeps: usize,
     unit: f64,
     loss: f64,
-    last: f64,
+    pub(crate) last: f64,
 }
 
 impl Forecast {
@@ -104,11 +99,6 @@ impl Forecast {
             loss,
             last: f64::INFINITY,
         }
-    }
-
-    /// Forgets what changes were so far.
-    pub(crate) fn begin_anew(&mut self) {
-        self.last = f64::INFINITY;
     }
 
     /// Whether the sweep that ends a window forecasts no end.

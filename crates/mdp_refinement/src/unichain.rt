@@ -1,12 +1,11 @@
 //! Policies of an end component with one recurrent class, improved in floats until none has a greater gain (Howard 1960).
 
 use crate::component::Component;
-use crate::eliminate::{Elimination, Entries, Factors, eliminated_rows, most_products};
+use crate::eliminate::{Elimination, Factors, eliminated, most_products};
 use crate::graph::Graph;
 use crate::leaving::Leaving;
 use crate::lists::{
-    Groups, earned_by, flag_at, greatest_size, item_at, number, part_of, put, put_each, put_earned,
-    sum_over,
+    Groups, greatest_size, item_at, number, part_of, put, put_each, put_earned, sum_over,
 };
 use crate::strong::{Components, strong_components};
 use std::alloc::{AllocError, Global};
@@ -29,9 +28,9 @@ const MUCH_MORE: f64 = 1e3;
 pub(crate) struct Unichain<'a> {
     component: &'a Component,
     leading: Groups,
-    policy: Vec<usize>,
-    values: Vec<f64>,
-    evaluated: Option<Evaluated>,
+    pub(crate) policy: Vec<usize>,
+    pub(crate) values: Vec<f64>,
+    pub(crate) evaluated: Option<Evaluated>,
     products_left: usize,
     totals: Totals,
 }
@@ -44,17 +43,6 @@ struct Totals {
     earned: Vec<f64>,
 }
 
-impl Totals {
-    /// All 0, for so many nodes.
-    fn none(alloc: Global, nodes: usize) -> Result<Totals, AllocError> {
-        Ok(Totals {
-            constants: vec![in alloc; 0.0; nodes]?,
-            steps: vec![in alloc; 0.0; nodes]?,
-            earned: vec![in alloc; 0.0; nodes]?,
-        })
-    }
-}
-
 /// A policy with one recurrent class, and its factors as if it ended at a reference node of that.
 #[derive(Drop)]
 pub(crate) struct Evaluated {
@@ -63,50 +51,41 @@ pub(crate) struct Evaluated {
     reference: u32,
 }
 
-/// The nodes of a policy's recurrent classes: the strong components of its graph, and a node of each that it doesn't leave.
-#[derive(Drop)]
-struct Classes {
-    parts: Components,
-    references: Vec<u32>,
-}
-
 impl<'a> Unichain<'a> {
-    /// A policy to begin with.
+    /// No policy yet, but the one that was evaluated last, if one was.
     pub(crate) fn new(
         alloc: Global,
         component: &'a Component,
-        first: &[usize],
-    ) -> Result<Unichain<'a>, AllocError> {
-        Ok(Unichain {
+        evaluated: Option<Evaluated>,
+    ) -> Unichain<'a> {
+        Unichain {
             component,
-            leading: component.leading(alloc)?,
-            policy: first.to_vec(alloc)?,
-            values: vec![in alloc; 0.0; component.len()]?,
-            evaluated: None,
-            products_left: most_products(component.len()),
-            totals: Totals::none(alloc, component.len())?,
-        })
+            leading: Groups::empty(alloc),
+            policy: Vec::new(alloc),
+            values: Vec::new(alloc),
+            evaluated,
+            products_left: most_products(component.nodes.len()),
+            totals: Totals {
+                constants: Vec::new(alloc),
+                steps: Vec::new(alloc),
+                earned: Vec::new(alloc),
+            },
+        }
     }
 
-    /// Begins with a policy that was evaluated.
-    pub(crate) fn known(
-        alloc: Global,
-        component: &'a Component,
-        evaluated: Evaluated,
-    ) -> Result<Unichain<'a>, AllocError> {
-        let mut found = Unichain::new(alloc, component, &evaluated.policy)?;
-        found.evaluated = Some(evaluated);
-        Ok(found)
-    }
-
-    /// The policy that was evaluated last, to keep.
-    pub(crate) fn into_evaluated(self) -> Option<Evaluated> {
-        self.evaluated
-    }
-
-    /// The relative values.
-    pub(crate) fn values(&self) -> &[f64] {
-        &self.values
+    /// Begins with the policy that was evaluated last, or else with this one.
+    pub(crate) fn begin(&mut self, alloc: Global, first: &[usize]) -> Result<(), AllocError> {
+        let nodes = self.component.nodes.len();
+        match &self.evaluated {
+            Some(evaluated) => self.policy.extend_from_slice(&evaluated.policy)?,
+            None => self.policy.extend_from_slice(first)?,
+        }
+        self.values.resize(nodes, 0.0)?;
+        self.totals.constants.resize(nodes, 0.0)?;
+        self.totals.steps.resize(nodes, 0.0)?;
+        self.totals.earned.resize(nodes, 0.0)?;
+        self.leading = self.component.leading(alloc)?;
+        Ok(())
     }
 
     /// The policy's row at a node, the first of all where there is no such node.
@@ -169,96 +148,22 @@ impl<'a> Unichain<'a> {
         Ok(references)
     }
 
-    /// The recurrent classes.
-    fn classes(&self, alloc: Global) -> Result<Classes, AllocError> {
-        let parts = self.parts(alloc)?;
-        let references = self.references(alloc, &parts)?;
-        Ok(Classes { parts, references })
-    }
-
-    /// Which nodes are reference nodes.
-    fn flagged(&self, alloc: Global, references: &[u32]) -> Result<Vec<bool>, AllocError> {
-        let mut is_reference = vec![in alloc; false; self.policy.len()]?;
-        put_each(&mut is_reference, references, true);
-        Ok(is_reference)
-    }
-
-    /// The policy's row at a node without its entries to reference nodes; none at a reference node.
-    fn row_without(
-        &self,
-        alloc: Global,
-        is_reference: &[bool],
-        node: u32,
-    ) -> Result<Entries, AllocError> {
-        let mut row = Vec::new(alloc);
-        if flag_at(is_reference, node) {
-            return Ok(row);
-        }
-        for entry in self.entries_at(node) {
-            if !flag_at(is_reference, entry.0) {
-                row.push(*entry)?;
-            }
-        }
-        Ok(row)
-    }
-
-    /// The policy's rows without their entries to reference nodes.
-    fn rows_without(
-        &self,
-        alloc: Global,
-        is_reference: &[bool],
-    ) -> Result<Vec<Entries>, AllocError> {
-        let mut rows = Vec::new(alloc);
-        for node in 0..number(self.policy.len()) {
-            rows.push(self.row_without(alloc, is_reference, node)?)?;
-        }
-        Ok(rows)
-    }
-
-    /// The probability of the entries to reference nodes of the policy's row at a node; 1 at a reference node.
-    fn exit_at(&self, is_reference: &[bool], node: u32) -> f64 {
-        if flag_at(is_reference, node) {
-            return 1.0;
-        }
-        let mut exit = 0.0;
-        for entry in self.entries_at(node) {
-            if flag_at(is_reference, entry.0) {
-                exit += entry.1;
-            }
-        }
-        exit
-    }
-
-    /// The probability of the entries to reference nodes of each of the policy's rows.
-    fn exits(&self, alloc: Global, is_reference: &[bool]) -> Result<Vec<f64>, AllocError> {
-        let mut exits = vec![in alloc; 0.0; self.policy.len()]?;
-        for node in 0..number(self.policy.len()) {
-            put(&mut exits, node, self.exit_at(is_reference, node));
-        }
-        Ok(exits)
-    }
-
     /// Eliminates the nodes under the policy, as if it ended at the reference nodes.
     fn eliminated(
         &mut self,
         alloc: Global,
         references: &[u32],
     ) -> Result<Option<Factors>, AllocError> {
-        let is_reference = self.flagged(alloc, references)?;
-        let rows = self.rows_without(alloc, &is_reference)?;
-        let exits = self.exits(alloc, &is_reference)?;
-        match eliminated_rows(alloc, rows, exits, self.products_left)? {
+        let mut is_end = vec![in alloc; false; self.policy.len()]?;
+        put_each(&mut is_end, references, true);
+        let most = self.products_left;
+        match eliminated(alloc, self.component, &self.policy, &is_end, most)? {
             Elimination::Done(factors) => {
-                self.products_left = self.products_left.saturating_sub(factors.products);
+                self.products_left = most.saturating_sub(factors.products);
                 Ok(Some(factors))
             }
             Elimination::Improper | Elimination::Dense => Ok(None),
         }
-    }
-
-    /// The sum of values over the policy's row at a node.
-    fn follow(&self, node: u32, values: &[f64]) -> f64 {
-        sum_over(0.0, self.entries_at(node), values)
     }
 
     /// Finds how many steps are made from each node until a reference node, and what is earned in these.
@@ -274,9 +179,10 @@ impl<'a> Unichain<'a> {
 
     /// The gain of a reference node's class: what is earned between two visits, over the steps that it takes. The totals are at hand.
     fn gain_at(&self, gains: &[f64], node: u32) -> f64 {
-        let own = earned_by(gains, self.row_at(node));
-        let earned = own + self.follow(node, &self.totals.earned);
-        earned / (1.0 + self.follow(node, &self.totals.steps))
+        let own = item_at(gains, self.row_at(node), 0.0);
+        let entries = self.entries_at(node);
+        let earned = own + sum_over(0.0, entries, &self.totals.earned);
+        earned / (1.0 + sum_over(0.0, entries, &self.totals.steps))
     }
 
     /// The node of the greatest gain, the first of equal ones. The totals are at hand.
@@ -306,7 +212,7 @@ impl<'a> Unichain<'a> {
         }
         search.spread(Some(&self.policy));
         search.spread(None);
-        Ok(search.into_policy())
+        Ok(search.policy)
     }
 
     /// The reference node of the policy that was evaluated last, where it is in the component of a node; else that node.
@@ -337,13 +243,14 @@ impl<'a> Unichain<'a> {
 
     /// A node of the recurrent class of greatest gain, to which all nodes are led. None where elimination fails.
     fn joined(&mut self, alloc: Global, gains: &[f64]) -> Result<Option<u32>, AllocError> {
-        let classes = self.classes(alloc)?;
-        if let [only] = classes.references.as_slice() {
-            return Ok(Some(self.reference_in(&classes.parts, *only)));
+        let parts = self.parts(alloc)?;
+        let references = self.references(alloc, &parts)?;
+        if let [only] = references.as_slice() {
+            return Ok(Some(self.reference_in(&parts, *only)));
         }
-        let best = self.best_class(alloc, gains, &classes.references)?;
+        let best = self.best_class(alloc, gains, &references)?;
         if let Some(reference) = best {
-            self.policy = self.led_to_class(alloc, &classes.parts, reference)?;
+            self.policy = self.led_to_class(alloc, &parts, reference)?;
         }
         Ok(best)
     }
@@ -429,29 +336,17 @@ impl<'a> Unichain<'a> {
         Ok(Some(gain))
     }
 
-    /// The row of the node at a place that has more advantage than the policy's, and most of all.
-    fn improved(&self, gains: &[f64], place: usize, least: f64) -> Option<usize> {
-        let chosen = item_at(&self.policy, place, 0);
-        let mut best = self.component.gained(chosen, gains, &self.values) + least;
-        let mut better = None;
-        let (from, to) = self.component.range_of(place);
-        for at in from..to {
-            let more = self.component.gained(at, gains, &self.values);
-            if more > best {
-                best = more;
-                better = Some(at);
-            }
-        }
-        better
-    }
-
-    /// Improves the policy by the values. Whether it changed.
+    /// Improves the policy by the values: each node takes the row that has more advantage than the policy's, and most of all. Whether it changed.
     fn improve(&mut self, gains: &[f64], gain: f64) -> bool {
-        let least = LOSS * (greatest_size(&self.values) + gain.abs()) + LEAST_ADVANTAGE;
+        let component = self.component;
+        let loss = LOSS * (greatest_size(&self.values) + gain.abs()) + LEAST_ADVANTAGE;
         let mut is_changed = false;
         for place in 0..self.policy.len() {
-            if let Some(row) = self.improved(gains, place, least) {
-                put(&mut self.policy, number(place), row);
+            let chosen = self.policy[place];
+            let least = component.gained(chosen, gains, &self.values) + loss;
+            let better = component.better_row(place, chosen, gains, &self.values, 1.0, least);
+            if let Some(row) = better {
+                self.policy[place] = row;
                 is_changed = true;
             }
         }
