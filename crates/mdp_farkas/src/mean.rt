@@ -142,7 +142,8 @@ impl Claimed<'_> {
     fn policy_at(self, s: u32, choice: u32) -> Result<(), Objection>
         requires state { s < states_of self.model.now }
         requires choice { choice < length (choices_at self.model.now s) }
-        ensures { result ≡ objection_to (policy_gain_check self.entry.model.now self.entry.gains.now s choice ∷ policy_bias_check self.entry.model.now self.entry.name self.entry.gains.now self.entry.bias.now s choice ∷ []) }
+        ensures { result ≡ objection_to (policy_gain_check self.entry.model.now self.entry.gains.now s choice
+            ∷ policy_bias_check self.entry.model.now self.entry.name self.entry.gains.now self.entry.bias.now s choice ∷ []) }
     {
         judged(
             self.keeps_gain(s, choice),

@@ -157,7 +157,8 @@ impl Claimed<'_> {
     fn policy_at(self, s: u32, choice: u32) -> Result<(), Objection>
         requires state { s < states_of self.model.now }
         requires choice { choice < length (choices_at self.model.now s) }
-        ensures { result ≡ objection_to (policy_earning_check self.entry.dir self.entry.model.now self.entry.name self.entry.values.now s choice ∷ rank_fall_checks self.entry.dir self.entry.model.now self.entry.ranks.now s choice) }
+        ensures { result ≡ objection_to (policy_earning_check self.entry.dir self.entry.model.now self.entry.name self.entry.values.now s choice
+            ∷ rank_fall_checks self.entry.dir self.entry.model.now self.entry.ranks.now s choice) }
     {
         let stands = self.earning_stands(reversed(self.dir), s, choice);
         judged(stands, Rule::RewardOnPolicy, s, Some(choice))?;
@@ -208,7 +209,8 @@ impl Claimed<'_> {
     fn rules_at(self, s: u32, choice: u32) -> Result<(), Objection>
         requires state { s < states_of self.model.now }
         requires choice { choice < length (choices_at self.model.now s) }
-        ensures { result ≡ objection_to (place_checks self.entry.dir self.entry.model.now self.entry.name self.entry.goals.now self.entry.values.now self.entry.ranks.now s choice ++ sign_checks self.entry.model.now self.entry.name s) }
+        ensures { result ≡ objection_to (place_checks self.entry.dir self.entry.model.now self.entry.name self.entry.goals.now self.entry.values.now self.entry.ranks.now s choice
+            ++ sign_checks self.entry.model.now self.entry.name s) }
     {
         self.place_at(s, choice)?;
         self.signs_at(s)

@@ -136,7 +136,8 @@ impl Claimed<'_> {
     /// All rules: those at the kept states, at the flows and on their sums.
     fn walk(self, threshold: &Frac, sums: &mut Sums) -> Result<(), Objection>
         requires sums { AreSums (states_of self.model.now) sums.old }
-        ensures { result ≡ objection_to (map (kept_check self.entry.goals.now) self.entry.cert.now.kept.items ++ checks_from self.entry.model.now self.entry.goals.now threshold.now self.entry.cert.now.kept.items self.entry.cert.now.flows.items sums.old) }
+        ensures { result ≡ objection_to (map (kept_check self.entry.goals.now) self.entry.cert.now.kept.items
+            ++ checks_from self.entry.model.now self.entry.goals.now threshold.now self.entry.cert.now.kept.items self.entry.cert.now.flows.items sums.old) }
     {
         let goals = Goals { goals: self.goals };
         each_kept(self.cert.kept.as_slice(), goals)?;
