@@ -9,7 +9,7 @@ ghost use Rattle.mdp_checking.specs.Shown.{IsCheckRead};
 use crate::kind::{CertificateKind, chosen};
 use crate::laws::check_law;
 use mdp_bounds_text::read_bounds;
-use mdp_cert::{CertError, read_cert};
+use mdp_cert::read_cert;
 use mdp_check::{Answer, check, check_bounds};
 use mdp_command::{answered, read_model, read_second};
 use mdp_discount_bounds::check_discount_bounds;
@@ -39,11 +39,8 @@ fn of_exact(alloc: Global, model: &Model, bytes: &[u8]) -> Result<Vec<u8>, Refus
     ensures due { (said result ≡ Err no_memory) ⊎ (said result ≡ said_to_text exact model.now bytes.now) }
     ensures not_of_model { is_of_model (said result) ≡ false }
 {
-    match read_cert(alloc, bytes) {
-        Ok(cert) => answered(alloc, check(alloc, model, &cert)),
-        Err(CertError::At { line, kind }) => Err(Refusal::CertText { line, kind }),
-        Err(CertError::Memory) => Err(Refusal::Memory),
-    }
+    let cert = read_cert(alloc, bytes)?;
+    answered(alloc, check(alloc, model, &cert))
 }
 
 /// The same of a certificate of discounted rewards.
@@ -51,11 +48,8 @@ fn of_discounted(alloc: Global, model: &Model, bytes: &[u8]) -> Result<Vec<u8>, 
     ensures due { (said result ≡ Err no_memory) ⊎ (said result ≡ said_to_text discounted model.now bytes.now) }
     ensures not_of_model { is_of_model (said result) ≡ false }
 {
-    match read_discount(alloc, bytes) {
-        Ok(cert) => answered(alloc, as_answer(check_discount(model, &cert))),
-        Err(CertError::At { line, kind }) => Err(Refusal::CertText { line, kind }),
-        Err(CertError::Memory) => Err(Refusal::Memory),
-    }
+    let cert = read_discount(alloc, bytes)?;
+    answered(alloc, as_answer(check_discount(model, &cert)))
 }
 
 /// The same of a certificate of bounds.
@@ -63,11 +57,8 @@ fn of_bounds(alloc: Global, model: &Model, bytes: &[u8]) -> Result<Vec<u8>, Refu
     ensures due { (said result ≡ Err no_memory) ⊎ (said result ≡ said_to_text between model.now bytes.now) }
     ensures not_of_model { is_of_model (said result) ≡ false }
 {
-    match read_bounds(alloc, bytes) {
-        Ok(cert) => answered(alloc, check_bounds(alloc, model, &cert)),
-        Err(CertError::At { line, kind }) => Err(Refusal::CertText { line, kind }),
-        Err(CertError::Memory) => Err(Refusal::Memory),
-    }
+    let cert = read_bounds(alloc, bytes)?;
+    answered(alloc, check_bounds(alloc, model, &cert))
 }
 
 /// The same of a certificate of bounds of discounted rewards.
@@ -75,11 +66,8 @@ fn of_discounted_bounds(alloc: Global, model: &Model, bytes: &[u8]) -> Result<Ve
     ensures due { (said result ≡ Err no_memory) ⊎ (said result ≡ said_to_text discounted_between model.now bytes.now) }
     ensures not_of_model { is_of_model (said result) ≡ false }
 {
-    match read_discount_bounds(alloc, bytes) {
-        Ok(cert) => answered(alloc, as_answer(check_discount_bounds(model, &cert))),
-        Err(CertError::At { line, kind }) => Err(Refusal::CertText { line, kind }),
-        Err(CertError::Memory) => Err(Refusal::Memory),
-    }
+    let cert = read_discount_bounds(alloc, bytes)?;
+    answered(alloc, as_answer(check_discount_bounds(model, &cert)))
 }
 
 /// The same of a certificate of the wanted kind, or of that which its first line names.
@@ -111,10 +99,8 @@ fn of_source<C: Source>(
     ensures not_of_model { is_of_model (said result) ≡ false }
     ensures end { OnOk (said result) (IsAtEnd (C.left second.new)) }
 {
-    match read_second(alloc, second) {
-        Ok(bytes) => of_text(alloc, wanted, model, &bytes),
-        Err(refusal) => Err(refusal),
-    }
+    let bytes = read_second(alloc, second)?;
+    of_text(alloc, wanted, model, &bytes)
 }
 
 /// Reads the model to its end and judges its text, then the certificate, then holds the one against the other. The certificate is of the wanted kind, or
@@ -132,8 +118,6 @@ pub fn check_files<S: Source, C: Source>(
     ensures second_end { OnOk (said result) (IsAtEnd (C.left second.new)) }
 {
     check_law();
-    match read_model(alloc, model, rule) {
-        Ok(model) => of_source(alloc, wanted, &model, second),
-        Err(refusal) => Err(refusal),
-    }
+    let model = read_model(alloc, model, rule)?;
+    of_source(alloc, wanted, &model, second)
 }

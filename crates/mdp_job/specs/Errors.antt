@@ -1,15 +1,8 @@
 -- The refusals that answer the errors of what a command calls.
 use Rattle.mdp_text.specs.declared.error.CertError.{CertError}
 use Rattle.mdp_text.specs.declared.error.CertError.TheVariants as text
-use Rattle.mdp_wide.specs.Errors.{SolveError}
-use Rattle.mdp_wide.specs.declared.unfinished.Unfinished.TheVariants as solve
 use Rattle.mdp_job.specs.declared.refusal.Refusal.{Refusal}
 use Rattle.mdp_job.specs.declared.refusal.Refusal.TheVariants as refused
-
--- of a search: the place of a term past width, or out of memory
-abbrev pub of_solve : SolveError → Refusal
-of_solve (solve.TooWide w) = refused.TooWide w
-of_solve solve.Memory = refused.Memory
 
 -- of a certificate's text: its first line that breaks a rule, and the rule, or out of memory
 abbrev pub of_certificate : CertError → Refusal

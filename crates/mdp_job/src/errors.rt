@@ -3,7 +3,6 @@
 use crate::refusal::Refusal;
 use mdp_num::Memory;
 use mdp_text::CertError;
-use mdp_wide::SolveError;
 use std::alloc::AllocError;
 
 impl From<AllocError> for Refusal {
@@ -25,20 +24,6 @@ impl From<Memory> for Refusal {
 
     fn from(_error: Memory) -> Refusal {
         Refusal::Memory
-    }
-}
-
-impl From<SolveError> for Refusal {
-    ghost use Rattle.std.specs.Prelude.{◌≡◌};
-    ghost use Rattle.mdp_job.specs.Errors.{of_solve};
-
-    ghost from_gives = { λ error refusal. refusal ≡ of_solve error };
-
-    fn from(error: SolveError) -> Refusal {
-        match error {
-            SolveError::TooWide(wide) => Refusal::TooWide(wide),
-            SolveError::Memory => Refusal::Memory,
-        }
     }
 }
 
