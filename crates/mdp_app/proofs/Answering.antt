@@ -1,43 +1,28 @@
 -- What a run answers, from what was decided and what was written.
 use Rattle.std.proofs.Common.{◌≡◌, ℕ, inl, inr, Bool, true, false, List, Option, Some, None, Result, Ok, Err, IfOk, IsOk, refl, sym, ap, subst, ◌∙◌}
 use Rattle.mdp_math.specs.Rational.{ℚ}
-use Rattle.mdp_spec.specs.Labels.{place_of}
-use Rattle.mdp_spec.specs.Mdp.{Mdp}
+use Rattle.mdp_spec.specs.{Labels.{place_of}, Mdp.{Mdp}}
 use Rattle.mdp_rows.specs.declared.dir.Dir.{Dir}
 use Rattle.mdp_drn.specs.FromSource.{HadLeft}
 use Rattle.mdp_job.specs.Job.{PlainQuery, solve, witness, check, drill, horizon, horizon_reward, policy, chain, discount, discount_check, bounds, bounds_until}
 use Rattle.mdp_job.specs.Job.{bounds_total, bounds_discount, bounds_check, Asked, reads_model, reads_second}
-use Rattle.mdp_job.specs.Refusal.{PlainRefusal, read_model, read_certificate, no_memory}
-use Rattle.mdp_job.specs.declared.status.Status.{Status}
+use Rattle.mdp_job.specs.{Refusal.{PlainRefusal, read_model, read_certificate, no_memory}, declared.status.Status.{Status}}
 use Rattle.mdp_job.specs.declared.status.Status.TheVariants as status
 use Rattle.mdp_command.proofs.Statuses.{refusal_status}
-use Rattle.mdp_command.specs.Files.{model_due, IsDueToModel}
-use Rattle.mdp_command.specs.Said.{Said, said_status}
-use Rattle.mdp_command.specs.Streams.{Input, Told, Output}
-use Rattle.mdp_command.specs.Written.{Wrote, EndsWith}
-use Rattle.mdp_checking.specs.Due.{IsCheckDue}
-use Rattle.mdp_checking.specs.declared.kind.CertificateKind.{CertificateKind}
-use Rattle.mdp_checking.specs.declared.kind.CertificateKind.TheVariants.{Exact, Discounted, Bounds}
-use Rattle.mdp_command_solve.specs.Due.{IsSolveDue}
-use Rattle.mdp_command_solve.specs.Laws.{IsDueOnce}
-use Rattle.mdp_command_witness.specs.Due.{IsWitnessDue}
-use Rattle.mdp_command_witness.specs.Laws as witnessed
-use Rattle.mdp_command_drill.proofs.Drilled.{due-once}
-use Rattle.mdp_command_horizon.specs.Due.{IsHorizonDue, IsHorizonRewardDue}
-use Rattle.mdp_command_horizon.specs.BoundsDue.{IsUntilBoundsDue, IsTotalBoundsDue}
-use Rattle.mdp_command_policy.specs.Due.{IsPolicyDue}
-use Rattle.mdp_command_policy.proofs.Due.{policy_once}
-use Rattle.mdp_command_chain.specs.Due.{IsChainDue}
-use Rattle.mdp_command_chain.proofs.Due.{chain_once}
+use Rattle.mdp_command.specs.{Files.{model_due, IsDueToModel}, Said.{Said, said_status}, Streams.{Input, Told, Output}, Written.{Wrote, EndsWith}}
+use Rattle.mdp_command.specs.{CheckDue.{IsCheckDue}, declared.kind.CertificateKind.{CertificateKind}}
+use Rattle.mdp_command.specs.declared.kind.CertificateKind.TheVariants.{Exact, Discounted, Bounds}
+use Rattle.mdp_command_solve.specs.{Due.{IsSolveDue}, Laws.{IsDueOnce}, WitnessDue.{IsWitnessDue}, DiscountDue.{IsDiscountDue}}
+use Rattle.mdp_command_solve.specs.WitnessLaws as witnessed
+use Rattle.mdp_command_solve.proofs.{Drilled.{due-once}, DiscountSolved.{discount_once}}
+use Rattle.mdp_command_horizon.specs.{Due.{IsHorizonDue, IsHorizonRewardDue}, BoundsDue.{IsUntilBoundsDue, IsTotalBoundsDue}}
+use Rattle.mdp_command_policy.specs.{Due.{IsPolicyDue}, ChainDue.{IsChainDue}}
+use Rattle.mdp_command_policy.proofs.{Due.{policy_once}, ChainDue.{chain_once}}
 use Rattle.mdp_discount.proofs.OneEnd.{one_query_end}
-use Rattle.mdp_command_discount.specs.Due.{IsDiscountDue}
-use Rattle.mdp_command_discount.proofs.Solved.{discount_once}
-use Rattle.mdp_command_bounds_search.specs.DiscountDue.{IsNamedDue, IsDiscountBoundsDue}
+use Rattle.mdp_command_bounds_search.specs.{DiscountDue.{IsNamedDue, IsDiscountBoundsDue}, Due.{claim_of, fault_of, IsDueBy, IsBoundsDue}}
 use Rattle.mdp_command_bounds_search.proofs.DiscountSolved as discounting
-use Rattle.mdp_command_bounds_search.specs.Due.{claim_of, fault_of, IsDueBy, IsBoundsDue}
 use Rattle.mdp_command_bounds_search.proofs.Solved.{never_too_wide}
-use Rattle.mdp_app.specs.Due.{IsDue}
-use Rattle.mdp_app.specs.Decided.{IsTextDecided, IsDecided}
+use Rattle.mdp_app.specs.{Due.{IsDue}, Decided.{IsTextDecided, IsDecided}}
 use Rattle.mdp_app.specs.Run.{IsFromBytes, HasCause, LeavesUnread, IsAnswered, IsWorkDone, IsDoneUnless, IsComplete}
 
 -- what is due doesn't depend on bytes that the job doesn't read

@@ -3,18 +3,11 @@ use Rattle.std.proofs.Common.{◌≡◌, ◌⊎◌, ℕ, inl, inr, true, false, 
 use Rattle.std.specs.Io.KnownBytes.{IsAtEnd}
 use Rattle.mdp_spec.specs.Mdp.{Mdp}
 use Rattle.mdp_rows.specs.declared.rule.RowRule.{RowRule}
-use Rattle.mdp_job.specs.Job.{Asked, reads_model, reads_second}
-use Rattle.mdp_job.specs.Refusal.{no_job, no_memory}
-use Rattle.mdp_job.specs.declared.words_error.WordsError.{WordsError}
+use Rattle.mdp_job.specs.{Job.{Asked, reads_model, reads_second}, Refusal.{no_job, no_memory}, declared.words_error.WordsError.{WordsError}}
 use Rattle.mdp_command.proofs.FileBytes.{or_nothing, had_nothing}
-use Rattle.mdp_command.specs.Files.{model_due, IsDueToModel}
-use Rattle.mdp_command.specs.Read.{IsModelWorked, IsWorkOnModel, IsPairWorked, IsWorkOnPair, is_of_model}
-use Rattle.mdp_command.specs.Said.{Said}
+use Rattle.mdp_command.specs.{Files.{model_due, IsDueToModel}, Read.{IsModelWorked, IsWorkOnModel, IsPairWorked, IsWorkOnPair, is_of_model}, Said.{Said}}
 use Rattle.mdp_command.specs.Streams.{Input, IsStill}
-use Rattle.mdp_app.specs.Decided.{IsTextDecided, IsDecided}
-use Rattle.mdp_app.specs.Due.{IsDue, IsModelRead}
-use Rattle.mdp_app.specs.Run.{IsFromBytes, HasCause}
-use Rattle.mdp_app.specs.Shown.{IsShown}
+use Rattle.mdp_app.specs.{Decided.{IsTextDecided, IsDecided}, Due.{IsDue, IsModelRead}, Run.{IsFromBytes, HasCause}, Shown.{IsShown}}
 
 -- ---- words that are no job
 

@@ -1,22 +1,13 @@
 -- What words that ask for a drill say of its numbers, those that ask for discounted rewards of their factor, those that ask for a witness of their
 -- threshold, and those that ask for bounds of their digits.
 use Rattle.std.proofs.Common.{◌≡◌, ℕ, zero, suc, ◌*◌, ◌-◌, ◌^◌, ◌≤◌, Bool, true, false, cond, not, nat_lt, List, [], ◌∷◌, length, map, Option, Some, None, Result, Ok, Err}
-use Rattle.std.proofs.Common.{refl, subst, T, sym, ltb→lt, arith, pos}
-use Rattle.std.specs.Prelude.{◌==◌, codes}
-use Rattle.std.specs.Global.{Global}
-use Rattle.std.specs.Str.{bytes_eq}
-use Rattle.std.specs.String.{string_bytes}
-use Rattle.std.specs.declared.string.String.{String}
-use Rattle.std.proofs.lemmas.Bool.{and_parts, ltb-false}
-use Rattle.mdp_math.specs.Rational.{ℚ, ratio, lt_ℚ, ◌≤ℚ◌}
-use Rattle.mdp_math.specs.Result.{◌>>=◌}
-use Rattle.mdp_math.proofs.Extremes.{lt_of_test}
-use Rattle.mdp_math.proofs.Order.{0ℚ, 1ℚ, ≤ℚ_refl, ratio-nonneg}
-use Rattle.mdp_num.specs.Numeral.{parts_of, terms_of, value_of, numeral_of}
-use Rattle.mdp_num.specs.declared.errors.NumeralError.{NumeralError}
+use Rattle.std.proofs.{Common.{refl, subst, T, sym, ltb→lt, arith, pos}, lemmas.Bool.{and_parts, ltb-false}}
+use Rattle.std.specs.{Prelude.{◌==◌, codes}, Global.{Global}, Str.{bytes_eq}, String.{string_bytes}, declared.string.String.{String}}
+use Rattle.mdp_math.specs.{Rational.{ℚ, ratio, lt_ℚ, ◌≤ℚ◌}, Result.{◌>>=◌}}
+use Rattle.mdp_math.proofs.{Extremes.{lt_of_test}, Order.{0ℚ, 1ℚ, ≤ℚ_refl, ratio-nonneg}}
+use Rattle.mdp_num.specs.{Numeral.{parts_of, terms_of, value_of, numeral_of}, declared.errors.NumeralError.{NumeralError}}
 use Rattle.mdp_discount_rules.specs.Rules.{IsFactor}
-use Rattle.mdp_rows.specs.declared.dir.Dir.{Dir}
-use Rattle.mdp_rows.specs.declared.rule.RowRule.{RowRule}
+use Rattle.mdp_rows.specs.{declared.dir.Dir.{Dir}, declared.rule.RowRule.{RowRule}}
 use Rattle.mdp_app.specs.InRange.{IsInRange, asked_for}
 use Rattle.mdp_job.specs.Job.{PlainJob, solve, witness, check, drill, horizon, policy, discount, Asked}
 use Rattle.mdp_job.specs.Words.{rows_of, word_at, rule_of, dir_of, check_of, query_of, solve_of, whole_word, can_draw, drill_by, drill_with, drill_of}

@@ -1,22 +1,13 @@
 -- What is due to the words, to the bytes of the model and to those of the second file. Each command is a case of `IsDue`.
 use Rattle.std.specs.Prelude.{◌≡◌, ℕ, List, Some, Ok, Err, IsOk}
 use Rattle.mdp_job.specs.Job.{solve, witness, check, drill, horizon, horizon_reward, policy, chain, discount, discount_check, bounds, bounds_until, bounds_total}
-use Rattle.mdp_job.specs.Job.{bounds_discount, bounds_check, Asked}
-use Rattle.mdp_job.specs.Refusal.{no_job}
-use Rattle.mdp_command.specs.Files.{model_due, IsDueToModel}
-use Rattle.mdp_command.specs.Said.{Said}
-use Rattle.mdp_checking.specs.Due.{IsCheckDue}
-use Rattle.mdp_checking.specs.declared.kind.CertificateKind.TheVariants.{Exact, Discounted, Bounds}
-use Rattle.mdp_command_solve.specs.Due.{IsSolveDue}
-use Rattle.mdp_command_witness.specs.Due.{IsWitnessDue}
-use Rattle.mdp_command_drill.specs.Due.{IsDrillDue}
-use Rattle.mdp_command_horizon.specs.BoundsDue.{IsUntilBoundsDue, IsTotalBoundsDue}
-use Rattle.mdp_command_horizon.specs.Due.{IsHorizonDue, IsHorizonRewardDue}
-use Rattle.mdp_command_policy.specs.Due.{IsPolicyDue}
-use Rattle.mdp_command_chain.specs.Due.{IsChainDue}
-use Rattle.mdp_command_discount.specs.Due.{IsDiscountDue}
-use Rattle.mdp_command_bounds_search.specs.DiscountDue.{IsDiscountBoundsDue}
-use Rattle.mdp_command_bounds_search.specs.Due.{IsBoundsDue}
+use Rattle.mdp_job.specs.{Job.{bounds_discount, bounds_check, Asked}, Refusal.{no_job}}
+use Rattle.mdp_command.specs.{Files.{model_due, IsDueToModel}, Said.{Said}, CheckDue.{IsCheckDue}}
+use Rattle.mdp_command.specs.declared.kind.CertificateKind.TheVariants.{Exact, Discounted, Bounds}
+use Rattle.mdp_command_solve.specs.{Due.{IsSolveDue}, DrillDue.{IsDrillDue}, WitnessDue.{IsWitnessDue}, DiscountDue.{IsDiscountDue}}
+use Rattle.mdp_command_horizon.specs.{BoundsDue.{IsUntilBoundsDue, IsTotalBoundsDue}, Due.{IsHorizonDue, IsHorizonRewardDue}}
+use Rattle.mdp_command_policy.specs.{Due.{IsPolicyDue}, ChainDue.{IsChainDue}}
+use Rattle.mdp_command_bounds_search.specs.{DiscountDue.{IsDiscountBoundsDue}, Due.{IsBoundsDue}}
 
 -- this is due to what the words ask for, to the model's bytes and to those of the second file
 abbrev pub IsDue : Asked → List ℕ → List ℕ → Said → Type 0

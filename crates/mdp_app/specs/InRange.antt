@@ -3,8 +3,7 @@ use Rattle.std.specs.Prelude.{◌≡◌, ◌≤◌, true, Ok, Err, pos}
 use Rattle.mdp_math.specs.Rational.{of_int, ◌≤ℚ◌}
 use Rattle.mdp_discount_rules.specs.Rules.{IsFactor}
 use Rattle.mdp_job.specs.Job.{PlainJob, solve, witness, check, drill, horizon, horizon_reward, policy, chain, discount, discount_check, bounds}
-use Rattle.mdp_job.specs.Job.{bounds_until, bounds_total, bounds_discount, bounds_check, Asked}
-use Rattle.mdp_job.specs.Words.{can_draw}
+use Rattle.mdp_job.specs.{Job.{bounds_until, bounds_total, bounds_discount, bounds_check, Asked}, Words.{can_draw}}
 
 -- the numbers of a drill can be drawn, the factor of discounted rewards is from 0 on and below 1, the threshold of a witness is at least 0, and the digits
 -- of bounds within a deadline are 30 at most

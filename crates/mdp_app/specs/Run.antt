@@ -1,18 +1,11 @@
 -- What a run answers and why, which sources it leaves as they are, and when the work is done.
-use Rattle.std.specs.Prelude.{◌≡◌, ◌⊎◌, ℕ, List, Ok, Err, IsTrue, IsFalse}
-use Rattle.std.specs.Io.KnownBytes.{IsAtEnd}
+use Rattle.std.specs.{Prelude.{◌≡◌, ◌⊎◌, ℕ, List, Ok, Err, IsTrue, IsFalse}, Io.KnownBytes.{IsAtEnd}}
 use Rattle.mdp_drn.specs.FromSource.{HadLeft}
 use Rattle.mdp_edge.specs.Faults.{FaultCounted}
-use Rattle.mdp_job.specs.Job.{Asked, reads_model, reads_second}
-use Rattle.mdp_job.specs.Refusal.{read_model, read_certificate, no_memory}
-use Rattle.mdp_job.specs.declared.status.Status.{Status}
+use Rattle.mdp_job.specs.{Job.{Asked, reads_model, reads_second}, Refusal.{read_model, read_certificate, no_memory}, declared.status.Status.{Status}}
 use Rattle.mdp_job.specs.declared.status.Status.TheVariants.{Done, ReadFault, WriteFault, Memory}
-use Rattle.mdp_command.specs.Read.{is_of_model}
-use Rattle.mdp_command.specs.Said.{Said}
-use Rattle.mdp_command.specs.Streams.{Input, HasFailed, IsStill, Told, Output}
-use Rattle.mdp_command.specs.Written.{WroteAll, Wrote}
-use Rattle.mdp_app.specs.Due.{IsDue, IsModelRead}
-use Rattle.mdp_app.specs.Shown.{IsShown}
+use Rattle.mdp_command.specs.{Read.{is_of_model}, Said.{Said}, Streams.{Input, HasFailed, IsStill, Told, Output}, Written.{WroteAll, Wrote}}
+use Rattle.mdp_app.specs.{Due.{IsDue, IsModelRead}, Shown.{IsShown}}
 
 -- ---- why an answer may come
 

@@ -2,20 +2,11 @@
 use Rattle.std.specs.Prelude.{ℕ, List, Some, Ok, Err}
 use Rattle.mdp_job.specs.Job.{solve, witness, check, drill, horizon, horizon_reward, policy, chain, discount, discount_check, bounds, bounds_until, bounds_total}
 use Rattle.mdp_job.specs.Job.{bounds_discount, bounds_check, Asked}
-use Rattle.mdp_command.specs.Accepted.{exact}
-use Rattle.mdp_checking.specs.Kinds.{discounted, checker_for}
-use Rattle.mdp_checking.specs.Shown.{IsYes}
-use Rattle.mdp_checking.specs.declared.kind.CertificateKind.TheVariants.{Bounds}
-use Rattle.mdp_command_solve.specs.Solved.{IsSolved}
-use Rattle.mdp_command_witness.specs.Shown.{IsWitnessShown}
-use Rattle.mdp_command_drill.specs.Drilled.{IsDrilled}
-use Rattle.mdp_command_horizon.specs.BoundsShown.{AreUntilBoundsShown, AreTotalBoundsShown}
-use Rattle.mdp_command_horizon.specs.Shown.{IsHorizonShown, IsHorizonRewardShown}
-use Rattle.mdp_command_policy.specs.Shown.{IsPolicyShown}
-use Rattle.mdp_command_chain.specs.Shown.{IsChainShown}
-use Rattle.mdp_command_discount.specs.Shown.{IsDiscountSolved}
-use Rattle.mdp_command_bounds_search.specs.DiscountShown.{IsDiscountBoundsSolved}
-use Rattle.mdp_command_bounds_search.specs.Shown.{IsBoundsSolved}
+use Rattle.mdp_command.specs.{Accepted.{exact}, Kinds.{discounted, checker_for}, CheckShown.{IsYes}, declared.kind.CertificateKind.TheVariants.{Bounds}}
+use Rattle.mdp_command_solve.specs.{Solved.{IsSolved}, Drilled.{IsDrilled}, WitnessShown.{IsWitnessShown}, DiscountShown.{IsDiscountSolved}}
+use Rattle.mdp_command_horizon.specs.{BoundsShown.{AreUntilBoundsShown, AreTotalBoundsShown}, Shown.{IsHorizonShown, IsHorizonRewardShown}}
+use Rattle.mdp_command_policy.specs.{Shown.{IsPolicyShown}, ChainShown.{IsChainShown}}
+use Rattle.mdp_command_bounds_search.specs.{DiscountShown.{IsDiscountBoundsSolved}, Shown.{IsBoundsSolved}}
 
 -- what is shown of the model's bytes, of those of the second file and of the text, where the work was done. Each command is a case
 abbrev pub IsShown : Asked → List ℕ → List ℕ → List ℕ → Type 0

@@ -1,23 +1,17 @@
-ghost use Rattle.std.specs.Fn.{FnReturnsAt};
-ghost use Rattle.std.specs.Prelude.{◌≡◌};
+ghost use Rattle.std.specs.{Fn.{FnReturnsAt}, Prelude.{◌≡◌}};
 ghost use Rattle.mdp_job.specs.Words.{job_of, model_path, second_path};
-ghost use Rattle.mdp_command.specs.Opened.{OnFiles};
-ghost use Rattle.mdp_command.specs.Prelude.{said, input, output};
-ghost use Rattle.mdp_app.specs.Run.{IsAnswered, IsWorkDone, IsComplete, HasRun};
-ghost use Rattle.mdp_app.specs.Decided.{IsDecided};
+ghost use Rattle.mdp_command.specs.{Opened.{OnFiles}, Prelude.{said, input, output}};
+ghost use Rattle.mdp_app.specs.{Run.{IsAnswered, IsWorkDone, IsComplete, HasRun}, Decided.{IsDecided}};
 
-use mdp_checking::{CertificateKind, check_files};
-use mdp_command::written;
+use mdp_command::{CertificateKind, check_files, written};
 use mdp_command_bounds_search::{bounds_discount_file, bounds_file};
-use mdp_command_chain::chain_file;
-use mdp_command_discount::discount_file;
-use mdp_command_drill::drill;
 use mdp_command_horizon::{
     horizon_file, horizon_reward_file, total_bounds_file, until_bounds_file,
 };
-use mdp_command_policy::policy_file;
-use mdp_command_solve::{solve_file, solve_law};
-use mdp_command_witness::{witness_file, witness_step_law};
+use mdp_command_policy::{chain_file, policy_file};
+use mdp_command_solve::{
+    discount_file, drill, solve_file, solve_law, witness_file, witness_step_law,
+};
 use mdp_edge::{Sink, Source};
 use mdp_job::{Job, Refusal, Status, job_of, paths_of};
 use std::alloc::Global;

@@ -1,17 +1,10 @@
 -- What an exact order says of the numbers.
 use Rattle.std.proofs.Common.{◌≡◌, true, not, sym}
-use Rattle.std.specs.Bool.{◌==◌}
-use Rattle.std.specs.Ordering.{ordering_index}
-use Rattle.std.specs.declared.cmp.Ordering.{Ordering}
-use Rattle.std.specs.declared.cmp.Ordering.TheVariants.{Less, Equal, Greater}
-use Rattle.mdp_math.specs.Rational.{ℚ, le_ℚ}
-use Rattle.mdp_math.specs.Written.{cmp_ℚ}
-use Rattle.mdp_math.proofs.Extremes.{le_of_test, test_of_le}
-use Rattle.mdp_math.proofs.Booleans.{false_of_not}
-use Rattle.mdp_math.proofs.Order.{≤ℚ_of_eq, ≤ℚ_of_lt, clash_ℚ, lt_of_cmp, eq_of_cmp, gt_of_cmp}
+use Rattle.std.specs.{Bool.{◌==◌}, Ordering.{ordering_index}, declared.cmp.Ordering.{Ordering}, declared.cmp.Ordering.TheVariants.{Less, Equal, Greater}}
+use Rattle.mdp_math.specs.{Rational.{ℚ, le_ℚ}, Written.{cmp_ℚ}}
+use Rattle.mdp_math.proofs.{Extremes.{le_of_test, test_of_le}, Booleans.{false_of_not}, Order.{≤ℚ_of_eq, ≤ℚ_of_lt, clash_ℚ, lt_of_cmp, eq_of_cmp, gt_of_cmp}}
 use Rattle.mdp_farkas.proofs.Inequalities.{Stands}
-use Rattle.mdp_rows.specs.declared.dir.Dir.{Dir}
-use Rattle.mdp_rows.specs.declared.dir.Dir.TheVariants.{Max, Min}
+use Rattle.mdp_rows.specs.{declared.dir.Dir.{Dir}, declared.dir.Dir.TheVariants.{Max, Min}}
 use Rattle.mdp_bounds.specs.Sum.{stands}
 
 pub le_test : (x y : ℚ) (o : Ordering) → o ≡ cmp_ℚ x y → not (ordering_index o == 2) ≡ le_ℚ x y

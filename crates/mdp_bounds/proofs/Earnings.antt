@@ -2,22 +2,15 @@
 use Rattle.std.proofs.Common.{◌≡◌, ℕ, ◌<◌, Bool, true, false, true≢false, List, Option, Some, None, length, refl, sym, ap, subst, ◌∙◌, option_map, if◌then◌else◌}
 use Rattle.std.specs.Option.{IsSome}
 use Rattle.mdp_math.specs.Rational.{ℚ, ◌≤ℚ◌}
-use Rattle.mdp_math.proofs.Extremes.{le_of_test, test_of_le}
-use Rattle.mdp_math.proofs.Order.{add-nonneg}
+use Rattle.mdp_math.proofs.{Extremes.{le_of_test, test_of_le}, Order.{add-nonneg}}
 use Rattle.mdp_num.specs.OrderView.{equal_decides}
-use Rattle.mdp_spec.specs.Mdp.{Mdp, states_of, choices_at, choice_at, row_at, value_at}
-use Rattle.mdp_spec.specs.Row.{IsMdp, row_sum}
-use Rattle.mdp_spec.specs.Unit.{reward_of}
-use Rattle.mdp_spec.specs.Bounds.{finite_part}
+use Rattle.mdp_spec.specs.{Mdp.{Mdp, states_of, choices_at, choice_at, row_at, value_at}, Row.{IsMdp, row_sum}, Unit.{reward_of}, Bounds.{finite_part}}
 use Rattle.mdp_spec.specs.RewardRules.{backup}
 use Rattle.mdp_farkas.specs.Compare.{0ℚ}
 use Rattle.mdp_farkas.proofs.Inequalities.{Stands}
-use Rattle.mdp_rows.specs.declared.dir.Dir.{Dir}
-use Rattle.mdp_rows.specs.declared.dir.Dir.TheVariants.{Max, Min}
-use Rattle.mdp_bounds.specs.Sum.{stands, told_sum}
-use Rattle.mdp_bounds.specs.Reward.{is_nonneg, is_zero, is_least, earning_stands}
-use Rattle.mdp_bounds.proofs.Comparing.{stands_of, of_stands}
-use Rattle.mdp_bounds.proofs.Sums.{told_sum-some, sum_at_least, mapped_holds, mapped_sound}
+use Rattle.mdp_rows.specs.{declared.dir.Dir.{Dir}, declared.dir.Dir.TheVariants.{Max, Min}}
+use Rattle.mdp_bounds.specs.{Sum.{stands, told_sum}, Reward.{is_nonneg, is_zero, is_least, earning_stands}}
+use Rattle.mdp_bounds.proofs.{Comparing.{stands_of, of_stands}, Sums.{told_sum-some, sum_at_least, mapped_holds, mapped_sound}}
 
 -- ---- values that may be infinite
 

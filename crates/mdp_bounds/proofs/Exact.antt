@@ -1,23 +1,19 @@
 -- Exact values that meet the rules by written terms meet those of bounds, as lower and as upper values.
 use Rattle.std.proofs.Common.{◌≡◌, ℕ, Bool, false, List, [], ◌∷◌, ◌++◌, length, slice_index, refl, sym, subst, if◌then◌else◌}
-use Rattle.std.specs.Option.{IsSome}
 use Rattle.std.proofs.lemmas.List.Elements.{All-from_recursion, recursion_from_All}
+use Rattle.std.specs.Option.{IsSome}
 use Rattle.mdp_math.specs.Rational.{ℚ}
 use Rattle.mdp_num.specs.Equal.{eq_ℚ}
-use Rattle.mdp_spec.specs.Mdp.{Mdp, states_of, choices_at, row_at, value_at}
-use Rattle.mdp_spec.specs.Tree.{is_marked}
-use Rattle.mdp_spec.specs.Written.{written_sum}
-use Rattle.mdp_farkas.specs.Verdict.{Check, InWidth, at_choices}
-use Rattle.mdp_farkas.specs.Compare.{0ℚ}
+use Rattle.mdp_spec.specs.{Mdp.{Mdp, states_of, choices_at, row_at, value_at}, Tree.{is_marked}, Written.{written_sum}}
+use Rattle.mdp_farkas.specs.{Verdict.{Check, InWidth, at_choices}, Compare.{0ℚ}}
+use Rattle.mdp_farkas.specs.Reach.{other, choice_exists, rank_checks, value_checks, reach_at, reach_checks, MeetsReach, IsReach}
 use Rattle.mdp_farkas.specs.Bellman as bellman
 use Rattle.mdp_farkas.specs.Upper as upper
 use Rattle.mdp_farkas.specs.Reach as reach
-use Rattle.mdp_farkas.specs.Reach.{other, choice_exists, rank_checks, value_checks, reach_at, reach_checks, MeetsReach, IsReach}
 use Rattle.mdp_bounds.specs.Reach.{MeetsReachBetween, outermost, stands_at, goal_check, bound_check, policy_check, cover_at, follow_at, bounds_at, bounds_checks, IsReachBounds}
-use Rattle.mdp_rows.specs.declared.dir.Dir.{Dir}
-use Rattle.mdp_rows.specs.declared.dir.Dir.TheVariants.{Max, Min}
-use Rattle.mdp_farkas.proofs.Holds.{Each, each_append, each_left, each_right, each_flat, each_flat_at, each_map, each_map_at, each_if, each_if_false}
 use Rattle.mdp_bounds.specs.Sum.{stands, targets_of, one_sum}
+use Rattle.mdp_rows.specs.{declared.dir.Dir.{Dir}, declared.dir.Dir.TheVariants.{Max, Min}}
+use Rattle.mdp_farkas.proofs.Holds.{Each, each_append, each_left, each_right, each_flat, each_flat_at, each_map, each_map_at, each_if, each_if_false}
 use Rattle.mdp_bounds.proofs.Width.{some_by}
 
 module _ (dir : Dir) (m : Mdp) (goals : List Bool) (z : List ℚ) (policy ranks : List ℕ) (s : ℕ) where

@@ -1,24 +1,15 @@
 -- Verdicts, computed.
 use Rattle.std.proofs.Common.{◌≡◌, ℕ, ◌+◌, ◌-◌, ◌*◌, ◌^◌, ◌∙◌, Bool, true, false, true≢false, List, [], ◌∷◌, refl, sym, pos, Option, Some, None, Less, arith}
-use Rattle.mdp_math.specs.Gcd.{gcd, gcd_with_fuel}
-use Rattle.mdp_math.specs.Rational.{ℚ, of_int, ratio, le_ℚ, lt_ℚ, neg_ℚ, ◌+ℚ◌, ◌*ℚ◌}
+use Rattle.mdp_math.specs.{Gcd.{gcd, gcd_with_fuel}, Rational.{ℚ, of_int, ratio, le_ℚ, lt_ℚ, neg_ℚ, ◌+ℚ◌, ◌*ℚ◌}}
 use Rattle.mdp_math.specs.Written.{narrow, narrow_ℚ, written_add, written_mul, written_compare, cmp_ℚ}
-use Rattle.mdp_math.proofs.Extremes.{le_of_test, test_of_le}
-use Rattle.mdp_math.proofs.Tables.{AreEqual}
-use Rattle.mdp_spec.specs.Mdp.{Entry, Mdp, row_at}
-use Rattle.mdp_spec.specs.Row.{row_sum}
-use Rattle.mdp_spec.specs.RewardRules.{backup}
+use Rattle.mdp_math.proofs.{Extremes.{le_of_test, test_of_le}, Tables.{AreEqual}}
+use Rattle.mdp_spec.specs.{Mdp.{Entry, Mdp, row_at}, Row.{row_sum}, RewardRules.{backup}}
 use Rattle.mdp_spec.proofs.Small.{entry, half, number, third, split, split_goals}
-use Rattle.mdp_farkas.specs.Verdict.{verdict_of}
-use Rattle.mdp_farkas.specs.Upper.{upper_checks}
-use Rattle.mdp_bounds.specs.Sum.{plain_add, told_sum}
-use Rattle.mdp_bounds.specs.Reach.{bounds_checks}
-use Rattle.mdp_bounds.specs.Says.{ReachSays, RewardSays, MeanSays}
-use Rattle.mdp_rows.specs.declared.dir.Dir.TheVariants.{Max}
-use Rattle.mdp_claims.specs.declared.verdict.Verdict.{Verdict}
-use Rattle.mdp_claims.specs.declared.verdict.Verdict.TheVariants.{Yes, No, Wide}
-use Rattle.mdp_bounds.specs.Reward.{reward_bounds_checks}
+use Rattle.mdp_farkas.specs.{Verdict.{verdict_of}, Upper.{upper_checks}}
+use Rattle.mdp_bounds.specs.{Sum.{plain_add, told_sum}, Reach.{bounds_checks}, Says.{ReachSays, RewardSays, MeanSays}, Reward.{reward_bounds_checks}}
 use Rattle.mdp_bounds.specs.Mean.{mean_bounds_checks}
+use Rattle.mdp_rows.specs.declared.dir.Dir.TheVariants.{Max}
+use Rattle.mdp_claims.specs.{declared.verdict.Verdict.{Verdict}, declared.verdict.Verdict.TheVariants.{Yes, No, Wide}}
 use Rattle.mdp_claims.specs.declared.rule.Rule.TheVariants.{BiasOnPolicy, BoundOnEachChoice, RewardOnPolicy, RewardValue, ValueOnEachChoice, ValueOnPolicy}
 use Rattle.mdp_claims.specs.declared.rule.Rule.{Rule}
 

@@ -3,18 +3,12 @@ use Rattle.std.proofs.Common.{◌≡◌, ℕ, ◌<◌, true, List, Some, length,
 use Rattle.std.specs.Option.{IsSome}
 use Rattle.mdp_math.specs.Rational.{ℚ, ◌+ℚ◌}
 use Rattle.mdp_math.proofs.Laws.{zero-+ℚ}
-use Rattle.mdp_spec.specs.Mdp.{Mdp, states_of, choices_at, choice_at, row_at, value_at}
-use Rattle.mdp_spec.specs.Row.{IsMdp, row_sum}
-use Rattle.mdp_spec.specs.Unit.{reward_of}
-use Rattle.mdp_spec.specs.RewardRules.{backup}
+use Rattle.mdp_spec.specs.{Mdp.{Mdp, states_of, choices_at, choice_at, row_at, value_at}, Row.{IsMdp, row_sum}, Unit.{reward_of}, RewardRules.{backup}}
 use Rattle.mdp_farkas.specs.Compare.{0ℚ}
-use Rattle.mdp_farkas.proofs.Asking.{asked_holds, asked_sound}
-use Rattle.mdp_farkas.proofs.Inequalities.{Stands}
+use Rattle.mdp_farkas.proofs.{Asking.{asked_holds, asked_sound}, Inequalities.{Stands}}
 use Rattle.mdp_rows.specs.declared.dir.Dir.{Dir}
-use Rattle.mdp_bounds.specs.Sum.{stands, told_sum}
-use Rattle.mdp_bounds.specs.Mean.{gain_stands, told_step, bound_stands}
-use Rattle.mdp_bounds.proofs.Comparing.{stands_of, of_stands}
-use Rattle.mdp_bounds.proofs.Sums.{plain_add-some, told_sum-some, mapped_holds, mapped_sound}
+use Rattle.mdp_bounds.specs.{Sum.{stands, told_sum}, Mean.{gain_stands, told_step, bound_stands}}
+use Rattle.mdp_bounds.proofs.{Comparing.{stands_of, of_stands}, Sums.{plain_add-some, told_sum-some, mapped_holds, mapped_sound}}
 
 module _ (m : Mdp) (known : IsMdp m) (s c : ℕ) (l : s < states_of m) (i : c < length (choices_at m s)) where
   told : (z : List ℚ) (start v : ℚ) → Some v ≡ told_sum z start (row_at m s c) → v ≡ start +ℚ row_sum (row_at m s c) z

@@ -1,19 +1,12 @@
 -- One half of the rules of reachability: probabilities that are 1 at a goal, and elsewhere the rest.
 use Rattle.std.proofs.Common.{◌≡◌, ℕ, ◌<◌, Bool, false, List, [], ◌∷◌, length, slice_index, Some, ap}
 use Rattle.mdp_math.specs.Rational.{ℚ}
-use Rattle.mdp_math.proofs.Options.{Some_same}
-use Rattle.mdp_math.proofs.Extremes.{le_of_test, test_of_le}
+use Rattle.mdp_math.proofs.{Options.{Some_same}, Extremes.{le_of_test, test_of_le}}
 use Rattle.mdp_num.specs.OrderView.{equal_decides}
-use Rattle.mdp_spec.specs.Mdp.{Mdp, states_of, choices_at, row_at, value_at}
-use Rattle.mdp_spec.specs.Row.{IsMdp, row_sum}
-use Rattle.mdp_spec.specs.Tree.{is_marked}
-use Rattle.mdp_spec.specs.Rules.{AreProbabilities}
-use Rattle.mdp_farkas.specs.Verdict.{Check, at_choices}
-use Rattle.mdp_farkas.specs.Compare.{0ℚ, 1ℚ}
-use Rattle.mdp_farkas.specs.Reach.{other}
+use Rattle.mdp_spec.specs.{Mdp.{Mdp, states_of, choices_at, row_at, value_at}, Row.{IsMdp, row_sum}, Tree.{is_marked}, Rules.{AreProbabilities}}
+use Rattle.mdp_farkas.specs.{Verdict.{Check, at_choices}, Compare.{0ℚ, 1ℚ}, Reach.{other}}
 use Rattle.mdp_rows.specs.declared.dir.Dir.{Dir}
-use Rattle.mdp_farkas.proofs.Holds.{Each, Holds, Sound, each_map, each_map_at, each_if, each_if_true, each_if_false}
-use Rattle.mdp_farkas.proofs.Inequalities.{Stands}
+use Rattle.mdp_farkas.proofs.{Holds.{Each, Holds, Sound, each_map, each_map_at, each_if, each_if_true, each_if_false}, Inequalities.{Stands}}
 use Rattle.mdp_bounds.specs.Reach.{goal_check, values_at, bound_check, policy_check, cover_at, follow_at}
 use Rattle.mdp_bounds.proofs.Values.{AreWithin, stands_at_of, of_stands_at}
 

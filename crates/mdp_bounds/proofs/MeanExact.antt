@@ -1,30 +1,20 @@
 -- Exact gains that meet the rules by written terms meet those of bounds, as lower and as upper gains.
 use Rattle.std.proofs.Common.{◌≡◌, ℕ, cond, List, [], ◌∷◌, ◌++◌, length, slice_index, Option, Some, None, refl, sym, ap, subst, ◌∙◌}
-use Rattle.std.specs.Option.{IsSome, option_and_then, option_map}
-use Rattle.std.specs.declared.cmp.Ordering.{Ordering}
 use Rattle.std.proofs.lemmas.List.Elements.{All-from_recursion, recursion_from_All}
-use Rattle.mdp_math.specs.Rational.{ℚ, neg_ℚ}
-use Rattle.mdp_math.specs.Written.{written_compare}
-use Rattle.mdp_math.proofs.Options.{Some_same, step_told}
-use Rattle.mdp_math.proofs.Written.{written_compare-some}
-use Rattle.mdp_num.specs.Equal.{eq_ℚ}
-use Rattle.mdp_num.specs.Written.{written_sub}
-use Rattle.mdp_spec.specs.Mdp.{Mdp, states_of, choices_at, choice_at, row_at, value_at}
-use Rattle.mdp_spec.specs.Unit.{reward_of}
+use Rattle.std.specs.{Option.{IsSome, option_and_then, option_map}, declared.cmp.Ordering.{Ordering}}
+use Rattle.mdp_math.specs.{Rational.{ℚ, neg_ℚ}, Written.{written_compare}}
+use Rattle.mdp_math.proofs.{Options.{Some_same, step_told}, Written.{written_compare-some}}
+use Rattle.mdp_num.specs.{Equal.{eq_ℚ}, Written.{written_sub}}
+use Rattle.mdp_spec.specs.{Mdp.{Mdp, states_of, choices_at, choice_at, row_at, value_at}, Unit.{reward_of}}
 use Rattle.mdp_spec.proofs.Mean.{mean_max_both, mean_min_both}
-use Rattle.mdp_farkas.specs.Verdict.{Check, InWidth, at_choices}
-use Rattle.mdp_farkas.specs.Compare.{is_equal}
-use Rattle.mdp_farkas.specs.Bellman as bellman
-use Rattle.mdp_farkas.specs.Reach.{other}
-use Rattle.mdp_rows.specs.Better.{is_better}
+use Rattle.mdp_farkas.specs.{Verdict.{Check, InWidth, at_choices}, Compare.{is_equal}, Reach.{other}}
 use Rattle.mdp_farkas.specs.Spread.{written_best, written_extreme, written_width, written_spread}
-use Rattle.mdp_farkas.specs.Mean as mean
 use Rattle.mdp_farkas.specs.Mean.{mean_checks_at, state_checks, mean_checks, MeetsMean, IsMean}
-use Rattle.mdp_rows.specs.declared.dir.Dir.{Dir}
-use Rattle.mdp_rows.specs.declared.dir.Dir.TheVariants.{Max, Min}
+use Rattle.mdp_farkas.specs.Bellman as bellman
+use Rattle.mdp_rows.specs.{Better.{is_better}, declared.dir.Dir.{Dir}, declared.dir.Dir.TheVariants.{Max, Min}}
+use Rattle.mdp_farkas.specs.Mean as mean
 use Rattle.mdp_farkas.proofs.Holds.{Each, each_append, each_left, each_right, each_flat, each_flat_at, each_map, each_map_at}
-use Rattle.mdp_bounds.specs.Sum.{stands}
-use Rattle.mdp_bounds.specs.Mean.{gain_check, relative_check, exact_best, exact_extreme, told_width, told_spread, spread_check}
+use Rattle.mdp_bounds.specs.{Sum.{stands}, Mean.{gain_check, relative_check, exact_best, exact_extreme, told_width, told_spread, spread_check}}
 use Rattle.mdp_bounds.specs.Mean.{gains_cover, gains_follow, mean_bounds_at, state_bounds_checks, mean_bounds_checks, MeetsMeanBetween, IsMeanBounds}
 use Rattle.mdp_bounds.proofs.Width.{plain_some, first_some, then_some, told_some, step_some}
 

@@ -4,31 +4,18 @@ use Rattle.std.proofs.Common.{◌≡◌, ℕ, ◌<◌, lt-ltb, ltb-true, List, [
 use Rattle.std.proofs.lemmas.List.Elements.{All-from_recursion, recursion_from_All}
 use Rattle.mdp_math.specs.Rational.{ℚ, ◌+ℚ◌}
 use Rattle.mdp_math.proofs.Options.{Some_same}
-use Rattle.mdp_spec.specs.Mdp.{Mdp, states_of, choices_at, row_at, value_at}
-use Rattle.mdp_spec.specs.Row.{IsMdp, row_sum}
-use Rattle.mdp_spec.specs.Tree.{IsPolicy}
-use Rattle.mdp_spec.specs.Between.{MeanMaxBetween, MeanMinBetween}
-use Rattle.mdp_spec.specs.RewardRules.{backup}
-use Rattle.mdp_spec.specs.MeanRules.{spread_of, HasSpread}
+use Rattle.mdp_spec.specs.{Mdp.{Mdp, states_of, choices_at, row_at, value_at}, Row.{IsMdp, row_sum}, Tree.{IsPolicy}, Between.{MeanMaxBetween, MeanMinBetween}}
+use Rattle.mdp_spec.specs.{RewardRules.{backup}, MeanRules.{spread_of, HasSpread}}
 use Rattle.mdp_spec.proofs.Mean.{mean_max_between_of_rules, mean_min_between_of_rules}
-use Rattle.mdp_farkas.specs.Verdict.{Check, verdict_of, InWidth, at_choices, IsYes, IfYes}
-use Rattle.mdp_num.specs.Equal.{eq_ℚ}
-use Rattle.mdp_num.specs.OrderView.{equal_decides}
-use Rattle.mdp_farkas.specs.Reach.{other}
-use Rattle.mdp_bounds.specs.Reach.{covering, followed}
-use Rattle.mdp_bounds.specs.Mean.{MeetsMeanBetween}
+use Rattle.mdp_farkas.specs.{Verdict.{Check, verdict_of, InWidth, at_choices, IsYes, IfYes}, Reach.{other}}
+use Rattle.mdp_num.specs.{Equal.{eq_ℚ}, OrderView.{equal_decides}}
+use Rattle.mdp_bounds.specs.{Reach.{covering, followed}, Mean.{MeetsMeanBetween}}
 use Rattle.mdp_bounds.specs.Mean.{gain_check, relative_check, told_spread, spread_check, gains_cover, gains_follow, mean_bounds_at, state_bounds_checks, mean_bounds_checks, IsMeanBounds}
-use Rattle.mdp_rows.specs.declared.dir.Dir.{Dir}
-use Rattle.mdp_rows.specs.declared.dir.Dir.TheVariants.{Max, Min}
-use Rattle.mdp_claims.specs.declared.verdict.Fault.{Fault}
-use Rattle.mdp_claims.specs.declared.verdict.Verdict.{Verdict}
-use Rattle.mdp_claims.specs.declared.verdict.Verdict.TheVariants.{No}
+use Rattle.mdp_rows.specs.{declared.dir.Dir.{Dir}, declared.dir.Dir.TheVariants.{Max, Min}}
+use Rattle.mdp_claims.specs.{declared.verdict.Fault.{Fault}, declared.verdict.Verdict.{Verdict}, declared.verdict.Verdict.TheVariants.{No}}
 use Rattle.mdp_farkas.proofs.Holds.{Each, Holds, Sound, each_of_yes, yes_of_each, told_of_each, if_yes, holds_of_sound, never_no}
-use Rattle.mdp_farkas.proofs.Holds.{each_append, each_left, each_right, each_flat, each_flat_at, each_map, each_map_at}
-use Rattle.mdp_bounds.proofs.Sums.{mapped_holds, mapped_sound}
-use Rattle.mdp_farkas.proofs.Inequalities.{Stands}
-use Rattle.mdp_bounds.proofs.Gains.{gain_of, of_gain, bound_of, of_bound}
-use Rattle.mdp_bounds.proofs.Spreading.{told_spread-some}
+use Rattle.mdp_farkas.proofs.{Holds.{each_append, each_left, each_right, each_flat, each_flat_at, each_map, each_map_at}, Inequalities.{Stands}}
+use Rattle.mdp_bounds.proofs.{Sums.{mapped_holds, mapped_sound}, Gains.{gain_of, of_gain, bound_of, of_bound}, Spreading.{told_spread-some}}
 
 -- what the two halves say of gains and a relative value, in exact numbers
 abbrev GainsCover : Dir → Mdp → List ℚ → Type 0

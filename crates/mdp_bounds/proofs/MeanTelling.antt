@@ -2,24 +2,15 @@
 use Rattle.std.proofs.Common.{◌≡◌, ℕ, ◌<◌, Some, lt-ltb, ltb-true, List, [], ◌∷◌, ◌++◌, length, slice_index, refl, ap}
 use Rattle.mdp_math.specs.Rational.{ℚ}
 use Rattle.mdp_math.proofs.Options.{Some_same}
-use Rattle.mdp_num.specs.Equal.{eq_ℚ}
-use Rattle.mdp_num.specs.OrderView.{equal_decides}
-use Rattle.mdp_spec.specs.Mdp.{Mdp, states_of, choices_at}
-use Rattle.mdp_spec.specs.Row.{IsMdp}
-use Rattle.mdp_spec.specs.MeanRules.{spread_of}
-use Rattle.mdp_farkas.specs.Verdict.{verdict_of, at_choices}
-use Rattle.mdp_farkas.specs.Reach.{other, choice_exists}
+use Rattle.mdp_num.specs.{Equal.{eq_ℚ}, OrderView.{equal_decides}}
+use Rattle.mdp_spec.specs.{Mdp.{Mdp, states_of, choices_at}, Row.{IsMdp}, MeanRules.{spread_of}}
+use Rattle.mdp_farkas.specs.{Verdict.{verdict_of, at_choices}, Reach.{other, choice_exists}}
 use Rattle.mdp_rows.specs.declared.dir.Dir.{Dir}
-use Rattle.mdp_claims.specs.declared.verdict.Fault.{Fault}
-use Rattle.mdp_claims.specs.declared.verdict.Verdict.TheVariants.{No}
+use Rattle.mdp_claims.specs.{declared.verdict.Fault.{Fault}, declared.verdict.Verdict.TheVariants.{No}}
 use Rattle.mdp_bounds.specs.Reach.{covering, followed}
 use Rattle.mdp_bounds.specs.Mean.{gain_check, relative_check, follow_gain_check, follow_bias_check, told_spread, spread_check, gains_cover, gains_follow}
-use Rattle.mdp_bounds.specs.Mean.{mean_bounds_at, state_bounds_checks, mean_bounds_checks}
-use Rattle.mdp_bounds.specs.Says.{IsChoice, IsRowBound, IsStepBound, MeanSays}
-use Rattle.mdp_bounds.proofs.Gains.{of_gain, of_bound}
-use Rattle.mdp_bounds.proofs.Spreading.{told_spread-some}
-use Rattle.mdp_bounds.proofs.Sums.{mapped_sound}
-use Rattle.mdp_bounds.proofs.ReachTelling.{stands_of_bound}
+use Rattle.mdp_bounds.specs.{Mean.{mean_bounds_at, state_bounds_checks, mean_bounds_checks}, Says.{IsChoice, IsRowBound, IsStepBound, MeanSays}}
+use Rattle.mdp_bounds.proofs.{Gains.{of_gain, of_bound}, Spreading.{told_spread-some}, Sums.{mapped_sound}, ReachTelling.{stands_of_bound}}
 use Rattle.mdp_farkas.proofs.Telling.{refuted, Tells, tells_first, tells_one, tells_append, tells_flat, tells_map}
 
 module _ (dir : Dir) (m : Mdp) (known : IsMdp m) (r : ℕ) (lower upper a b : List ℚ) (spread : ℚ) (policy : List ℕ) where

@@ -1,40 +1,22 @@
 -- The least and the greatest reward, with bound, bias and spread 0, get yes on every model: each of their checks holds, and none makes a sum of
 -- numbers that aren't 0.
 use Rattle.std.proofs.Common.{◌≡◌, ℕ, ◌<◌, Bool, true, false, List, [], ◌∷◌, length, slice_index, Option, Some, None, refl, sym}
-use Rattle.std.proofs.Common.{zero, suc, arith, ap, ap₂, subst, ◌∙◌, lt-ltb, pos, subst, if◌then◌else◌, option_map}
-use Rattle.std.specs.List.{All, AllByRecursion, list_all}
-use Rattle.std.specs.Option.{option_and_then}
-use Rattle.std.proofs.lemmas.List.Elements.{recursion_from_All}
-use Rattle.mdp_math.specs.Rational.{ℚ, neg_ℚ, ◌<ℚ◌}
-use Rattle.mdp_math.specs.Written.{written_add}
-use Rattle.mdp_math.proofs.Booleans.{and-both, and-left, and-right}
-use Rattle.mdp_math.proofs.Ring.{⊖, lit, ring}
-use Rattle.mdp_math.proofs.Laws.{rat_ring}
-use Rattle.mdp_math.proofs.Order.{≤ℚ_of_eq, <ℚ_irrefl}
-use Rattle.mdp_math.proofs.Whole.{one-pos}
+use Rattle.std.proofs.{Common.{zero, suc, arith, ap, ap₂, subst, ◌∙◌, lt-ltb, pos, subst, if◌then◌else◌, option_map}, lemmas.List.Elements.{recursion_from_All}}
+use Rattle.std.specs.{List.{All, AllByRecursion, list_all}, Option.{option_and_then}}
+use Rattle.mdp_math.specs.{Rational.{ℚ, neg_ℚ, ◌<ℚ◌}, Written.{written_add}}
+use Rattle.mdp_math.proofs.{Booleans.{and-both, and-left, and-right}, Ring.{⊖, lit, ring}, Laws.{rat_ring}, Order.{≤ℚ_of_eq, <ℚ_irrefl}, Whole.{one-pos}}
 use Rattle.mdp_math.proofs.Kernel.{All-head}
-use Rattle.mdp_num.specs.Equal.{eq_ℚ}
-use Rattle.mdp_num.specs.OrderView.{equal_decides}
-use Rattle.mdp_spec.specs.Mdp.{Entry, Mdp, states_of, choices_at, choice_at, row_at, value_at}
-use Rattle.mdp_spec.specs.Row.{IsRow, IsMdp}
-use Rattle.mdp_spec.specs.Unit.{reward_of}
-use Rattle.mdp_spec.specs.Tree.{IsPolicy}
+use Rattle.mdp_num.specs.{Equal.{eq_ℚ}, OrderView.{equal_decides}}
+use Rattle.mdp_spec.specs.{Mdp.{Entry, Mdp, states_of, choices_at, choice_at, row_at, value_at}, Row.{IsRow, IsMdp}, Unit.{reward_of}, Tree.{IsPolicy}}
 use Rattle.mdp_spec.specs.Written.{written_sum}
-use Rattle.mdp_farkas.specs.Verdict.{Check, verdict_of, at_choices}
+use Rattle.mdp_farkas.specs.{Verdict.{Check, verdict_of, at_choices}, Compare.{0ℚ}, Reach.{other}}
 use Rattle.mdp_claims.specs.declared.verdict.Verdict.TheVariants.{Yes}
-use Rattle.mdp_farkas.specs.Compare.{0ℚ}
-use Rattle.mdp_farkas.specs.Reach.{other}
-use Rattle.mdp_bounds.specs.Reach.{covering, followed}
-use Rattle.mdp_rows.specs.declared.dir.Dir.{Dir}
-use Rattle.mdp_rows.specs.declared.dir.Dir.TheVariants.{Max, Min}
-use Rattle.mdp_farkas.proofs.Holds.{Each, Holds, yes_of_each, each_append, each_map, each_flat}
-use Rattle.mdp_farkas.proofs.Inequalities.{Stands}
-use Rattle.mdp_bounds.specs.Sum.{stands, first_value, plain_add, targets_of, or_else, told_sum}
+use Rattle.mdp_bounds.specs.{Reach.{covering, followed}, Sum.{stands, first_value, plain_add, targets_of, or_else, told_sum}}
 use Rattle.mdp_bounds.specs.Mean.{gain_stands, bound_stands, gain_check, relative_check, exact_best, exact_extreme, told_width, told_spread, spread_check}
 use Rattle.mdp_bounds.specs.Mean.{gains_cover, gains_follow, mean_bounds_at, state_bounds_checks, mean_bounds_checks, IsTrivialMean}
-use Rattle.mdp_bounds.proofs.Comparing.{of_stands}
-use Rattle.mdp_bounds.proofs.Sums.{plain_zero_left}
-use Rattle.mdp_bounds.proofs.Spreading.{best_keeps}
+use Rattle.mdp_rows.specs.{declared.dir.Dir.{Dir}, declared.dir.Dir.TheVariants.{Max, Min}}
+use Rattle.mdp_farkas.proofs.{Holds.{Each, Holds, yes_of_each, each_append, each_map, each_flat}, Inequalities.{Stands}}
+use Rattle.mdp_bounds.proofs.{Comparing.{of_stands}, Sums.{plain_zero_left}, Spreading.{best_keeps}}
 
 -- ---- sums with 0, and over values that are all the same
 

@@ -1,7 +1,6 @@
 -- A walk over checks in parts: a call goes through each, and `?` ends the walk where something stands against one.
-use Rattle.std.proofs.Common.{◌≡◌, List, ◌++◌, sym, ap, ◌∙◌}
+use Rattle.std.proofs.{Common.{◌≡◌, List, ◌++◌, sym, ap, ◌∙◌}, lemmas.Result.{err_from_is_err_and}}
 use Rattle.std.specs.Prelude.{Result, Err, IsErrAnd}
-use Rattle.std.proofs.lemmas.Result.{err_from_is_err_and}
 use Rattle.mdp_math.specs.Result.{◌>>=◌}
 use Rattle.mdp_farkas.specs.Verdict.{Check, objection_to}
 use Rattle.mdp_claims.specs.declared.verdict.Objection.{Objection}

@@ -4,24 +4,15 @@ use Rattle.std.proofs.Common.{◌≡◌, ℕ, ◌<◌, Bool, false, lt-ltb, ltb-
 use Rattle.std.proofs.lemmas.List.Elements.{All-from_recursion, recursion_from_All}
 use Rattle.mdp_math.specs.Rational.{ℚ, ◌<ℚ◌}
 use Rattle.mdp_math.proofs.Options.{Some_same}
-use Rattle.mdp_spec.specs.Mdp.{Mdp, states_of, choices_at, row_at, value_at}
-use Rattle.mdp_spec.specs.Row.{IsMdp, row_sum}
-use Rattle.mdp_spec.specs.Rules.{AreProbabilities, RanksEnd}
-use Rattle.mdp_spec.specs.Between.{ReachMaxBetween, ReachMinBetween}
-use Rattle.mdp_spec.specs.Tree.{IsPolicy, is_marked}
+use Rattle.mdp_spec.specs.{Mdp.{Mdp, states_of, choices_at, row_at, value_at}, Row.{IsMdp, row_sum}, Rules.{AreProbabilities, RanksEnd}}
+use Rattle.mdp_spec.specs.{Between.{ReachMaxBetween, ReachMinBetween}, Tree.{IsPolicy, is_marked}}
 use Rattle.mdp_spec.proofs.Reach.{reach_max_between_of_rules, reach_min_between_of_rules}
-use Rattle.mdp_farkas.specs.Verdict.{Check, verdict_of, InWidth, IsYes, IfYes}
-use Rattle.mdp_farkas.specs.Compare.{0ℚ}
-use Rattle.mdp_farkas.specs.Reach.{other, fall_check, fall_checks, rank_checks}
+use Rattle.mdp_farkas.specs.{Verdict.{Check, verdict_of, InWidth, IsYes, IfYes}, Compare.{0ℚ}, Reach.{other, fall_check, fall_checks, rank_checks}}
 use Rattle.mdp_bounds.specs.Reach.{covering, followed, MeetsReachBetween, cover_at, follow_at, bounds_at, bounds_checks, IsReachBounds}
-use Rattle.mdp_rows.specs.declared.dir.Dir.{Dir}
-use Rattle.mdp_rows.specs.declared.dir.Dir.TheVariants.{Max, Min}
-use Rattle.mdp_claims.specs.declared.verdict.Fault.{Fault}
-use Rattle.mdp_claims.specs.declared.verdict.Verdict.{Verdict}
-use Rattle.mdp_claims.specs.declared.verdict.Verdict.TheVariants.{No}
+use Rattle.mdp_rows.specs.{declared.dir.Dir.{Dir}, declared.dir.Dir.TheVariants.{Max, Min}}
+use Rattle.mdp_claims.specs.{declared.verdict.Fault.{Fault}, declared.verdict.Verdict.{Verdict}, declared.verdict.Verdict.TheVariants.{No}}
 use Rattle.mdp_farkas.proofs.Holds.{Each, Holds, Sound, each_of_yes, yes_of_each, told_of_each, if_yes, sound_of_holds, holds_of_sound, never_no}
-use Rattle.mdp_farkas.proofs.Holds.{each_append, each_left, each_right, each_flat, each_flat_at, each_map, each_map_at}
-use Rattle.mdp_farkas.proofs.Inequalities.{Stands}
+use Rattle.mdp_farkas.proofs.{Holds.{each_append, each_left, each_right, each_flat, each_flat_at, each_map, each_map_at}, Inequalities.{Stands}}
 use Rattle.mdp_farkas.proofs.ReachRules.{ranks_end, ranks_fall, ranks_hold, max_falls, falls_max, min_falls, falls_min}
 use Rattle.mdp_bounds.proofs.Halves.{cover_probabilities, cover_bounds, cover_sound, follow_probabilities, follow_meets, follow_sound}
 

@@ -2,30 +2,19 @@
 use Rattle.std.proofs.Common.{◌≡◌, ℕ, ◌<◌, ◌⊎◌, inl, inr, ⊎_elim, Bool, true, false, true≢false, not, lt-ltb, ltb-true, eq-eqb, List}
 use Rattle.std.proofs.Common.{[], ◌∷◌, ◌++◌, cond, length, slice_index, Some, refl, ap}
 use Rattle.mdp_math.specs.Rational.{ℚ, le_ℚ, lt_ℚ, ◌≤ℚ◌, ◌<ℚ◌}
-use Rattle.mdp_math.proofs.Booleans.{not_true, or-left_false, or-right_false}
-use Rattle.mdp_math.proofs.Options.{Some_same}
-use Rattle.mdp_math.proofs.Extremes.{le_of_test, test_of_le, lt_of_test, le_of_no_test}
-use Rattle.mdp_math.proofs.Order.{≤ℚ_antisymm}
+use Rattle.mdp_math.proofs.{Booleans.{not_true, or-left_false, or-right_false}, Options.{Some_same}}
+use Rattle.mdp_math.proofs.{Extremes.{le_of_test, test_of_le, lt_of_test, le_of_no_test}, Order.{≤ℚ_antisymm}}
 use Rattle.mdp_num.specs.OrderView.{equal_decides}
-use Rattle.mdp_spec.specs.Mdp.{Mdp, states_of, choices_at, value_at}
-use Rattle.mdp_spec.specs.Row.{IsMdp}
-use Rattle.mdp_spec.specs.Tree.{is_marked}
-use Rattle.mdp_farkas.specs.Verdict.{Check, verdict_of, at_state, at_choices}
-use Rattle.mdp_farkas.specs.Compare.{0ℚ, 1ℚ}
+use Rattle.mdp_spec.specs.{Mdp.{Mdp, states_of, choices_at, value_at}, Row.{IsMdp}, Tree.{is_marked}}
+use Rattle.mdp_farkas.specs.{Verdict.{Check, verdict_of, at_state, at_choices}, Compare.{0ℚ, 1ℚ}}
 use Rattle.mdp_farkas.specs.Reach.{other, choice_exists, ends, rank_check, fall_check, fall_checks, rank_checks}
-use Rattle.mdp_rows.specs.declared.dir.Dir.{Dir}
-use Rattle.mdp_rows.specs.declared.dir.Dir.TheVariants.{Max, Min}
-use Rattle.mdp_claims.specs.declared.verdict.Fault.{Fault}
-use Rattle.mdp_claims.specs.declared.verdict.Verdict.TheVariants.{No}
-use Rattle.mdp_claims.specs.declared.rule.Rule.TheVariants.{Probability}
-use Rattle.mdp_farkas.proofs.Holds.{Each, Holds}
-use Rattle.mdp_farkas.proofs.Inequalities.{Stands}
-use Rattle.mdp_farkas.proofs.ReachRules.{falls_max, falls_min}
-use Rattle.mdp_farkas.proofs.Tests.{or-parts}
+use Rattle.mdp_rows.specs.{declared.dir.Dir.{Dir}, declared.dir.Dir.TheVariants.{Max, Min}}
+use Rattle.mdp_claims.specs.{declared.verdict.Fault.{Fault}, declared.verdict.Verdict.TheVariants.{No}, declared.rule.Rule.TheVariants.{Probability}}
+use Rattle.mdp_farkas.proofs.{Holds.{Each, Holds}, Inequalities.{Stands}, ReachRules.{falls_max, falls_min}, Tests.{or-parts}}
+use Rattle.mdp_farkas.proofs.Telling.{refuted, Tells, tells_first, tells_one, tells_append, tells_if, tells_flat, tells_map}
 use Rattle.mdp_bounds.specs.Reach.{covering, followed, goal_check, values_at, bound_check, policy_check, cover_at, follow_at, bounds_at, bounds_checks}
 use Rattle.mdp_bounds.specs.Says.{IsBound, IsChoice, LeadsOn, IsProbability, IsRowBound, ReachSays}
 use Rattle.mdp_bounds.proofs.Values.{of_stands_at}
-use Rattle.mdp_farkas.proofs.Telling.{refuted, Tells, tells_first, tells_one, tells_append, tells_if, tells_flat, tells_map}
 
 pub stands_of_bound : (dir : Dir) (x y : ℚ) → IsBound dir x y → Stands dir x y
 stands_of_bound Max x y h = h

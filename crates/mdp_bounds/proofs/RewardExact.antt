@@ -1,22 +1,17 @@
 -- Exact rewards that meet the rules by written terms meet those of bounds, as lower and as upper values.
 use Rattle.std.proofs.Common.{◌≡◌, ℕ, Bool, true, false, not, List, [], ◌∷◌, ◌++◌, cond, length, slice_index, Option, refl, sym, subst}
-use Rattle.std.specs.Option.{IsSome}
 use Rattle.std.proofs.lemmas.List.Elements.{All-from_recursion, recursion_from_All}
+use Rattle.std.specs.Option.{IsSome}
 use Rattle.mdp_math.specs.Rational.{ℚ}
-use Rattle.mdp_spec.specs.Mdp.{Mdp, states_of, choices_at, choice_at, row_at, value_at}
-use Rattle.mdp_spec.specs.Unit.{reward_of}
-use Rattle.mdp_spec.specs.Tree.{is_marked}
-use Rattle.mdp_spec.specs.Bounds.{finite_part, infinite}
+use Rattle.mdp_spec.specs.{Mdp.{Mdp, states_of, choices_at, choice_at, row_at, value_at}, Unit.{reward_of}, Tree.{is_marked}, Bounds.{finite_part, infinite}}
 use Rattle.mdp_spec.specs.Written.{written_sum}
 use Rattle.mdp_spec.proofs.Reward.{reward_max_both, reward_min_both}
-use Rattle.mdp_farkas.specs.Verdict.{Check, InWidth}
-use Rattle.mdp_farkas.specs.Bellman as bellman
-use Rattle.mdp_farkas.specs.Reach.{other}
-use Rattle.mdp_farkas.specs.Reward as reward
+use Rattle.mdp_farkas.specs.{Verdict.{Check, InWidth}, Reach.{other}}
 use Rattle.mdp_farkas.specs.Reward.{stay_check, stay_checks, is_looked_at, rank_fall_check, rank_fall_checks, all_miss_check, infinite_checks, transient_checks, place_checks}
 use Rattle.mdp_farkas.specs.Reward.{reward_checks_at, reward_checks, MeetsReward, IsReward}
-use Rattle.mdp_rows.specs.declared.dir.Dir.{Dir}
-use Rattle.mdp_rows.specs.declared.dir.Dir.TheVariants.{Max, Min}
+use Rattle.mdp_farkas.specs.Bellman as bellman
+use Rattle.mdp_farkas.specs.Reward as reward
+use Rattle.mdp_rows.specs.{declared.dir.Dir.{Dir}, declared.dir.Dir.TheVariants.{Max, Min}}
 use Rattle.mdp_farkas.proofs.Holds.{Each, each_append, each_left, each_right, each_flat, each_flat_at, each_map, each_if, each_if_true, each_if_false}
 use Rattle.mdp_bounds.specs.Sum.{stands, targets_of, one_sum}
 use Rattle.mdp_bounds.specs.Reward.{is_least, earning_stands, lower_on_each, nonneg_check, goal_checks, earning_check, earning_checks, sign_check, sign_checks}

@@ -1,37 +1,24 @@
 -- The verdict on a lower and an upper reward for each state, a policy and ranks is yes exactly where the rules hold in exact numbers and no sum is
 -- past width.
 use Rattle.std.proofs.Common.{◌≡◌, ℕ, ◌<◌, Bool, true, false, true≢false, not, ◌||◌, lt-ltb, ltb-true, eqb-true, eq-eqb, List, [], ◌∷◌, ◌++◌, cond, length, slice_index}
-use Rattle.std.proofs.Common.{Option, Some, ◌↔◌, refl, sym, ap, subst, ◌∙◌}
-use Rattle.std.proofs.lemmas.List.Elements.{All-from_recursion, recursion_from_All}
+use Rattle.std.proofs.{Common.{Option, Some, ◌↔◌, refl, sym, ap, subst, ◌∙◌}, lemmas.List.Elements.{All-from_recursion, recursion_from_All}}
 use Rattle.mdp_math.specs.Rational.{ℚ, ◌≤ℚ◌}
-use Rattle.mdp_math.proofs.Options.{Some_same}
-use Rattle.mdp_spec.specs.Mdp.{Mdp, states_of, choices_at, choice_at, value_at}
-use Rattle.mdp_spec.specs.Row.{IsMdp}
-use Rattle.mdp_spec.specs.Unit.{reward_of}
-use Rattle.mdp_spec.specs.Tree.{IsPolicy, is_marked}
-use Rattle.mdp_spec.specs.Bounds.{reward_at, finite_part, infinite}
-use Rattle.mdp_spec.specs.Between.{RewardMaxBetween, RewardMinBetween}
+use Rattle.mdp_math.proofs.{Options.{Some_same}, Extremes.{le_of_test, test_of_le}}
+use Rattle.mdp_spec.specs.{Mdp.{Mdp, states_of, choices_at, choice_at, value_at}, Row.{IsMdp}, Unit.{reward_of}, Tree.{IsPolicy, is_marked}}
+use Rattle.mdp_spec.specs.{Bounds.{reward_at, finite_part, infinite}, Between.{RewardMaxBetween, RewardMinBetween}}
 use Rattle.mdp_spec.specs.RewardRules.{backup, IsTransient, AreRewards}
-use Rattle.mdp_spec.proofs.Values.{part-nonneg, finite_of_some}
-use Rattle.mdp_spec.proofs.Reward.{reward_max_between_of_rules, reward_min_between_of_rules}
-use Rattle.mdp_farkas.specs.Verdict.{Check, verdict_of, InWidth, IsYes, IfYes}
-use Rattle.mdp_farkas.specs.Compare.{0ℚ}
-use Rattle.mdp_farkas.specs.Reach.{other}
-use Rattle.mdp_farkas.specs.Reward.{stay_check, stay_checks, is_looked_at}
-use Rattle.mdp_farkas.specs.Reward.{rank_fall_check, rank_fall_checks, all_miss_check, infinite_checks}
+use Rattle.mdp_spec.proofs.{Values.{part-nonneg, finite_of_some}, Reward.{reward_max_between_of_rules, reward_min_between_of_rules}}
+use Rattle.mdp_farkas.specs.{Verdict.{Check, verdict_of, InWidth, IsYes, IfYes}, Compare.{0ℚ}, Reach.{other}}
+use Rattle.mdp_farkas.specs.Reward.{stay_check, stay_checks, is_looked_at, rank_fall_check, rank_fall_checks, all_miss_check, infinite_checks}
 use Rattle.mdp_bounds.specs.Reward.{lower_on_each, MeetsRewardBetween, nonneg_check, goal_checks, earning_check, earning_checks, policy_earning_check, sign_check, sign_checks, NoneNegative}
 use Rattle.mdp_bounds.specs.Reward.{half_checks, finite_checks, kind_checks, lower_checks, upper_value_checks, reward_bounds_at, reward_bounds_checks, IsRewardBounds}
-use Rattle.mdp_rows.specs.declared.dir.Dir.{Dir}
-use Rattle.mdp_rows.specs.declared.dir.Dir.TheVariants.{Max, Min}
-use Rattle.mdp_claims.specs.declared.verdict.Fault.{Fault}
-use Rattle.mdp_claims.specs.declared.verdict.Verdict.{Verdict}
-use Rattle.mdp_claims.specs.declared.verdict.Verdict.TheVariants.{No}
+use Rattle.mdp_rows.specs.{declared.dir.Dir.{Dir}, declared.dir.Dir.TheVariants.{Max, Min}}
+use Rattle.mdp_claims.specs.{declared.verdict.Fault.{Fault}, declared.verdict.Verdict.{Verdict}, declared.verdict.Verdict.TheVariants.{No}}
 use Rattle.mdp_farkas.proofs.Holds.{Each, Holds, Sound, each_of_yes, yes_of_each, told_of_each, if_yes, holds_of_sound, never_no}
 use Rattle.mdp_farkas.proofs.Holds.{each_append, each_left, each_right, each_flat, each_flat_at, each_map, each_map_at, each_if, each_if_true, each_if_false}
-use Rattle.mdp_math.proofs.Extremes.{le_of_test, test_of_le}
 use Rattle.mdp_farkas.proofs.Inequalities.{Stands}
-use Rattle.mdp_bounds.proofs.Earnings.{some_nonneg, nonneg_true, zero_of_test, zero_true, earning_of, earning_sound}
 use Rattle.mdp_farkas.proofs.RewardRules.{stays_of_test, test_of_stays, falls_of_test, test_of_falls, misses_of_test, test_of_misses, all_misses_of_test, test_of_all_misses}
+use Rattle.mdp_bounds.proofs.Earnings.{some_nonneg, nonneg_true, zero_of_test, zero_true, earning_of, earning_sound}
 
 -- ---- the order of the two values
 

@@ -2,31 +2,20 @@
 use Rattle.std.proofs.Common.{◌≡◌, ℕ, ◌<◌, ◌⊎◌, Bool, true, false, not, ◌==◌, lt-ltb, ltb-true, eq-eqb, List, [], ◌∷◌, ◌++◌}
 use Rattle.std.proofs.Common.{cond, length, slice_index, Option, Some, None, refl, ap}
 use Rattle.mdp_math.specs.Rational.{ℚ, ◌≤ℚ◌}
-use Rattle.mdp_math.proofs.Options.{Some_same}
-use Rattle.mdp_math.proofs.Extremes.{test_of_le}
-use Rattle.mdp_spec.specs.Mdp.{Mdp, states_of, choices_at, choice_at}
-use Rattle.mdp_spec.specs.Row.{IsMdp}
-use Rattle.mdp_spec.specs.Unit.{reward_of}
-use Rattle.mdp_spec.specs.Tree.{is_marked}
-use Rattle.mdp_spec.specs.Bounds.{reward_at, infinite}
+use Rattle.mdp_math.proofs.{Options.{Some_same}, Extremes.{test_of_le}}
+use Rattle.mdp_spec.specs.{Mdp.{Mdp, states_of, choices_at, choice_at}, Row.{IsMdp}, Unit.{reward_of}, Tree.{is_marked}, Bounds.{reward_at, infinite}}
 use Rattle.mdp_spec.specs.RewardRules.{IsTransient, StaysFinite, Falls, FallsInfinite, StaysInfinite}
-use Rattle.mdp_farkas.specs.Verdict.{Check, verdict_of, at_state}
-use Rattle.mdp_farkas.specs.Compare.{0ℚ}
-use Rattle.mdp_farkas.specs.Reach.{other, choice_exists}
+use Rattle.mdp_farkas.specs.{Verdict.{Check, verdict_of, at_state}, Compare.{0ℚ}, Reach.{other, choice_exists}}
 use Rattle.mdp_farkas.specs.Reward.{stay_check, stay_checks, is_looked_at, rank_fall_check, rank_fall_checks, miss_check, all_miss_check, infinite_checks}
-use Rattle.mdp_rows.specs.declared.dir.Dir.{Dir}
-use Rattle.mdp_rows.specs.declared.dir.Dir.TheVariants.{Max, Min}
-use Rattle.mdp_claims.specs.declared.verdict.Fault.{Fault}
-use Rattle.mdp_claims.specs.declared.verdict.Verdict.TheVariants.{No}
+use Rattle.mdp_rows.specs.{declared.dir.Dir.{Dir}, declared.dir.Dir.TheVariants.{Max, Min}}
+use Rattle.mdp_claims.specs.{declared.verdict.Fault.{Fault}, declared.verdict.Verdict.TheVariants.{No}}
 use Rattle.mdp_claims.specs.declared.rule.Rule.TheVariants.{RewardValue, FiniteTargets, RewardOnEachChoice, RewardOnPolicy}
 use Rattle.mdp_farkas.proofs.RewardRules.{stays_of_test, test_of_stays, test_of_falls, test_of_misses, test_of_all_misses}
+use Rattle.mdp_farkas.proofs.Telling.{refuted, Tells, tells_none, tells_first, tells_one, tells_append, tells_if, tells_flat, tells_map}
 use Rattle.mdp_bounds.specs.Reward.{is_zero, lower_on_each, order_check, nonneg_check, goal_checks, earning_check, earning_checks, policy_earning_check, sign_check, sign_checks}
 use Rattle.mdp_bounds.specs.Reward.{half_checks, finite_checks, kind_checks, lower_checks, upper_value_checks, reward_bounds_at, reward_bounds_checks}
 use Rattle.mdp_bounds.specs.Says.{IsChoice, IsTaken, IsRewardValue, StaysAt, IsSeen, IsEarningBound, RewardSays}
-use Rattle.mdp_bounds.proofs.Earnings.{nonneg_true, zero_true, earning_sound}
-use Rattle.mdp_bounds.proofs.RewardRules.{implies}
-use Rattle.mdp_bounds.proofs.ReachTelling.{stands_of_bound}
-use Rattle.mdp_farkas.proofs.Telling.{refuted, Tells, tells_none, tells_first, tells_one, tells_append, tells_if, tells_flat, tells_map}
+use Rattle.mdp_bounds.proofs.{Earnings.{nonneg_true, zero_true, earning_sound}, RewardRules.{implies}, ReachTelling.{stands_of_bound}}
 
 -- ---- one value, whatever is shown of a fault
 

@@ -1,31 +1,21 @@
 -- The bounds 0 and infinite get yes wherever the ranks show where the reward is finite: each of their checks holds, and none makes a sum.
-use Rattle.std.proofs.Common.{◌≡◌, ℕ, zero, suc, ◌<◌, Bool, true, false, true≢false, List, [], ◌∷◌, ◌++◌, cond, length}
+use Rattle.std.proofs.Common.{◌≡◌, ℕ, zero, suc, ◌<◌, Bool, true, false, true≢false, List, [], ◌∷◌, ◌++◌, cond, length, lt-ltb, eq-eqb, not}
 use Rattle.std.proofs.Common.{slice_index, Option, Some, None, refl, sym, ap, ◌∙◌}
-use Rattle.std.proofs.Common.{lt-ltb, eq-eqb, not}
 use Rattle.std.specs.Prelude.{unwrap_or}
 use Rattle.mdp_math.specs.Rational.{ℚ, ◌≤ℚ◌}
-use Rattle.mdp_math.proofs.Extremes.{test_of_le}
-use Rattle.mdp_math.proofs.Order.{≤ℚ_of_eq}
-use Rattle.mdp_math.proofs.Options.{Some_same}
-use Rattle.mdp_spec.specs.Mdp.{Mdp, states_of, choices_at, choice_at, value_at}
-use Rattle.mdp_spec.specs.Row.{IsMdp}
-use Rattle.mdp_spec.specs.Unit.{reward_of}
-use Rattle.mdp_spec.specs.Tree.{IsPolicy, is_marked}
-use Rattle.mdp_spec.specs.Bounds.{reward_at, finite_part, infinite}
-use Rattle.mdp_spec.specs.RewardRules.{IsTransient}
+use Rattle.mdp_math.proofs.{Extremes.{test_of_le}, Order.{≤ℚ_of_eq}, Options.{Some_same}}
+use Rattle.mdp_spec.specs.{Mdp.{Mdp, states_of, choices_at, choice_at, value_at}, Row.{IsMdp}, Unit.{reward_of}, Tree.{IsPolicy, is_marked}}
+use Rattle.mdp_spec.specs.{Bounds.{reward_at, finite_part, infinite}, RewardRules.{IsTransient}}
 use Rattle.mdp_spec.proofs.Values.{finite_of_some, infinite_of_none}
-use Rattle.mdp_farkas.specs.Verdict.{Check, verdict_of}
-use Rattle.mdp_claims.specs.declared.verdict.Verdict.TheVariants.{Yes}
-use Rattle.mdp_farkas.specs.Compare.{0ℚ}
+use Rattle.mdp_farkas.specs.{Verdict.{Check, verdict_of}, Compare.{0ℚ}}
 use Rattle.mdp_farkas.specs.Reward.{stay_check, stay_checks, is_looked_at, rank_fall_check, rank_fall_checks, all_miss_check, infinite_checks}
+use Rattle.mdp_claims.specs.declared.verdict.Verdict.TheVariants.{Yes}
 use Rattle.mdp_bounds.specs.Reward.{lower_on_each, goal_checks, earning_check, sign_check, sign_checks, half_checks, finite_checks, kind_checks}
-use Rattle.mdp_rows.specs.declared.dir.Dir.{Dir}
-use Rattle.mdp_rows.specs.declared.dir.Dir.TheVariants.{Max, Min}
-use Rattle.mdp_farkas.proofs.Holds.{Each, Holds, yes_of_each, each_append, each_map, each_flat, each_if}
-use Rattle.mdp_bounds.proofs.RewardRules.{implies}
-use Rattle.mdp_farkas.proofs.RewardRules.{test_of_stays, test_of_falls, test_of_misses, test_of_all_misses}
 use Rattle.mdp_bounds.specs.Reward.{lower_checks, upper_value_checks, reward_bounds_at, reward_bounds_checks, Arrives, Misses, IsTrivialReward}
-use Rattle.mdp_bounds.proofs.Earnings.{nonneg_true, zero_true, zero_earns}
+use Rattle.mdp_rows.specs.{declared.dir.Dir.{Dir}, declared.dir.Dir.TheVariants.{Max, Min}}
+use Rattle.mdp_farkas.proofs.Holds.{Each, Holds, yes_of_each, each_append, each_map, each_flat, each_if}
+use Rattle.mdp_farkas.proofs.RewardRules.{test_of_stays, test_of_falls, test_of_misses, test_of_all_misses}
+use Rattle.mdp_bounds.proofs.{RewardRules.{implies}, Earnings.{nonneg_true, zero_true, zero_earns}}
 
 part_by : (v : List (Option ℚ)) (s : ℕ) → value_at (finite_part v) s ≡ unwrap_or (reward_at v s) 0ℚ
 part_by [] s = refl

@@ -1,18 +1,13 @@
 -- Bounds that meet their rules in exact numbers meet what each rule says of a place.
 use Rattle.std.proofs.Common.{◌≡◌, ℕ, ◌<◌, ◌⊎◌, Bool, List, length, slice_index, Option, Some, None, sym, subst}
 use Rattle.mdp_math.specs.Rational.{ℚ}
-use Rattle.mdp_spec.specs.Mdp.{Mdp, states_of, choices_at}
-use Rattle.mdp_spec.specs.Tree.{IsPolicy}
-use Rattle.mdp_spec.specs.RewardRules.{Falls, StaysFinite, FallsInfinite, StaysInfinite, AreRewards}
-use Rattle.mdp_rows.specs.declared.dir.Dir.{Dir}
-use Rattle.mdp_rows.specs.declared.dir.Dir.TheVariants.{Max, Min}
+use Rattle.mdp_spec.specs.{Mdp.{Mdp, states_of, choices_at}, Tree.{IsPolicy}, RewardRules.{Falls, StaysFinite, FallsInfinite, StaysInfinite, AreRewards}}
+use Rattle.mdp_rows.specs.{declared.dir.Dir.{Dir}, declared.dir.Dir.TheVariants.{Max, Min}}
 use Rattle.mdp_claims.specs.declared.rule.Rule.{Rule}
 use Rattle.mdp_claims.specs.declared.rule.Rule.TheVariants.{ChoiceExists, Probability, GoalValue, ValueOnEachChoice, ValueOnPolicy, RankZero, RankFalls}
 use Rattle.mdp_claims.specs.declared.rule.Rule.TheVariants.{RewardValue, FiniteTargets, RewardOnEachChoice, RewardOnPolicy, FiniteRankFalls, PolicyMisses, EachChoiceMisses}
 use Rattle.mdp_claims.specs.declared.rule.Rule.TheVariants.{RewardNotNegative, GainOnEachChoice, BoundOnEachChoice, GainOnPolicy, BiasOnPolicy, SpreadIsGreatest}
-use Rattle.mdp_bounds.specs.Reach.{MeetsReachBetween}
-use Rattle.mdp_bounds.specs.Reward.{NoneNegative, MeetsRewardBetween}
-use Rattle.mdp_bounds.specs.Mean.{MeetsMeanBetween}
+use Rattle.mdp_bounds.specs.{Reach.{MeetsReachBetween}, Reward.{NoneNegative, MeetsRewardBetween}, Mean.{MeetsMeanBetween}}
 use Rattle.mdp_bounds.specs.Says.{IsRowBound, LeadsOn, IsRewardValue, IsEarningBound, IsStepBound, ReachSays, RewardSays, MeanSays}
 
 -- what holds of the policy's choice holds of c, where the policy takes c

@@ -1,19 +1,11 @@
 -- The spread that is told of two lists is their spread.
-use Rattle.std.proofs.Common.{◌≡◌, cond, List, [], ◌∷◌, Some, refl, ap, ◌∙◌}
-use Rattle.std.specs.List.{AllByRecursion}
-use Rattle.std.specs.Option.{option_and_then}
-use Rattle.std.proofs.lemmas.List.Elements.{All-from_recursion, recursion_from_All}
-use Rattle.mdp_math.specs.Rational.{ℚ, neg_ℚ, ◌+ℚ◌, ◌≤ℚ◌}
-use Rattle.mdp_math.specs.Written.{cmp_ℚ}
-use Rattle.mdp_math.specs.Extremes.{least, greatest}
-use Rattle.mdp_math.proofs.Options.{Some_same, step_told}
-use Rattle.mdp_math.proofs.Order.{≤ℚ_antisymm}
-use Rattle.mdp_math.proofs.Extremes.{least-le, least-ge, greatest-ge, greatest-le}
+use Rattle.std.proofs.{Common.{◌≡◌, cond, List, [], ◌∷◌, Some, refl, ap, ◌∙◌}, lemmas.List.Elements.{All-from_recursion, recursion_from_All}}
+use Rattle.std.specs.{List.{AllByRecursion}, Option.{option_and_then}}
+use Rattle.mdp_math.specs.{Rational.{ℚ, neg_ℚ, ◌+ℚ◌, ◌≤ℚ◌}, Written.{cmp_ℚ}, Extremes.{least, greatest}}
+use Rattle.mdp_math.proofs.{Options.{Some_same, step_told}, Order.{≤ℚ_antisymm}, Extremes.{least-le, least-ge, greatest-ge, greatest-le}}
 use Rattle.mdp_spec.specs.MeanRules.{width_of, spread_of}
-use Rattle.mdp_rows.specs.Better.{is_better}
+use Rattle.mdp_rows.specs.{Better.{is_better}, declared.dir.Dir.{Dir}, declared.dir.Dir.TheVariants.{Max, Min}}
 use Rattle.mdp_farkas.proofs.Spreading.{AsGood, as_good_same, taken, either}
-use Rattle.mdp_rows.specs.declared.dir.Dir.{Dir}
-use Rattle.mdp_rows.specs.declared.dir.Dir.TheVariants.{Max, Min}
 use Rattle.mdp_bounds.specs.Mean.{exact_best, exact_extreme, told_width, told_spread}
 use Rattle.mdp_bounds.proofs.Sums.{plain_add-some}
 

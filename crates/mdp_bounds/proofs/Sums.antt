@@ -1,25 +1,14 @@
 -- A sum that is told is the sum; and the outermost values stand to the sum over any row.
 use Rattle.std.proofs.Common.{◌≡◌, ℕ, ◌<◌, Bool, true, false, List, [], ◌∷◌, Option, Some, None, refl, sym, ap}
 use Rattle.std.proofs.Common.{ap₂, subst, ◌∙◌, pos, if◌then◌else◌, get_or, length, arith}
-use Rattle.std.specs.List.{list_all}
-use Rattle.std.specs.Option.{IsSome, option_map}
-use Rattle.mdp_math.specs.Rational.{ℚ, ◌+ℚ◌, ◌*ℚ◌, ◌≤ℚ◌}
-use Rattle.mdp_math.specs.Written.{written_add}
-use Rattle.mdp_math.specs.Sum.{sum_of}
-use Rattle.mdp_math.proofs.Options.{Some_same}
-use Rattle.mdp_math.proofs.Booleans.{and-parts}
-use Rattle.mdp_math.proofs.Written.{written_add-some}
-use Rattle.mdp_math.proofs.Ring.{◌⊕◌, ◌⊗◌, lit, ring}
-use Rattle.mdp_math.proofs.Laws.{rat_ring, zero-+ℚ}
+use Rattle.std.specs.{List.{list_all}, Option.{IsSome, option_map}}
+use Rattle.mdp_math.specs.{Rational.{ℚ, ◌+ℚ◌, ◌*ℚ◌, ◌≤ℚ◌}, Written.{written_add}, Sum.{sum_of}}
+use Rattle.mdp_math.proofs.{Options.{Some_same}, Booleans.{and-parts}, Written.{written_add-some}, Ring.{◌⊕◌, ◌⊗◌, lit, ring}, Laws.{rat_ring, zero-+ℚ}}
 use Rattle.mdp_math.proofs.Kernel.{weigh-le_const, weigh-ge_const}
-use Rattle.mdp_num.specs.Equal.{eq_ℚ}
-use Rattle.mdp_num.specs.OrderView.{equal_decides}
-use Rattle.mdp_spec.specs.Mdp.{Entry, value_at}
-use Rattle.mdp_spec.specs.Row.{IsRow, entries, row_sum}
-use Rattle.mdp_spec.specs.Written.{written_sum}
-use Rattle.mdp_spec.proofs.Rows.{probs_nonneg, row_weigh-const}
+use Rattle.mdp_num.specs.{Equal.{eq_ℚ}, OrderView.{equal_decides}}
+use Rattle.mdp_spec.specs.{Mdp.{Entry, value_at}, Row.{IsRow, entries, row_sum}, Written.{written_sum}}
+use Rattle.mdp_spec.proofs.{Rows.{probs_nonneg, row_weigh-const}, Summed.{written_sum-some}}
 use Rattle.mdp_farkas.specs.Compare.{0ℚ}
-use Rattle.mdp_spec.proofs.Summed.{written_sum-some}
 use Rattle.mdp_bounds.specs.Sum.{first_value, have_one_value, plain_add, targets_of, one_sum, or_else, told_sum}
 
 pub plain_add-zero : (x : ℚ) → x +ℚ 0ℚ ≡ x

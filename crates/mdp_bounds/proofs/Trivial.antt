@@ -2,22 +2,15 @@
 use Rattle.std.proofs.Common.{◌≡◌, ℕ, ◌<◌, Bool, true, false, List, [], ◌∷◌, ◌++◌, length, slice_index, Some, sym, ap, subst, ◌∙◌, lt-ltb, if◌then◌else◌}
 use Rattle.std.specs.Option.{option_map}
 use Rattle.mdp_math.specs.Rational.{ℚ, ◌≤ℚ◌, ◌<ℚ◌}
-use Rattle.mdp_math.proofs.Order.{≤ℚ_of_lt, ≤ℚ_of_eq, <ℚ_irrefl}
-use Rattle.mdp_math.proofs.Whole.{one-pos}
+use Rattle.mdp_math.proofs.{Order.{≤ℚ_of_lt, ≤ℚ_of_eq, <ℚ_irrefl}, Whole.{one-pos}}
 use Rattle.mdp_num.specs.OrderView.{equal_decides}
-use Rattle.mdp_spec.specs.Mdp.{Mdp, states_of, choices_at, row_at, value_at}
-use Rattle.mdp_spec.specs.Tree.{IsPolicy, is_marked}
-use Rattle.mdp_spec.specs.Rules.{AreProbabilities}
-use Rattle.mdp_farkas.specs.Verdict.{Check, verdict_of, at_choices}
+use Rattle.mdp_spec.specs.{Mdp.{Mdp, states_of, choices_at, row_at, value_at}, Tree.{IsPolicy, is_marked}, Rules.{AreProbabilities}}
+use Rattle.mdp_farkas.specs.{Verdict.{Check, verdict_of, at_choices}, Compare.{0ℚ, 1ℚ}, Reach.{other, rank_checks}}
 use Rattle.mdp_claims.specs.declared.verdict.Verdict.TheVariants.{Yes}
-use Rattle.mdp_farkas.specs.Compare.{0ℚ, 1ℚ}
-use Rattle.mdp_farkas.specs.Reach.{other, rank_checks}
 use Rattle.mdp_bounds.specs.Reach.{covering, followed, outermost, stands_at, bound_check, policy_check, cover_at, follow_at, bounds_at, bounds_checks, IsTrivialReach}
-use Rattle.mdp_rows.specs.declared.dir.Dir.{Dir}
-use Rattle.mdp_rows.specs.declared.dir.Dir.TheVariants.{Max, Min}
-use Rattle.mdp_farkas.proofs.Holds.{Each, Holds, yes_of_each, each_append, each_map, each_flat}
-use Rattle.mdp_farkas.proofs.ReachRules.{ranks_hold}
 use Rattle.mdp_bounds.specs.Sum.{stands, told_sum}
+use Rattle.mdp_rows.specs.{declared.dir.Dir.{Dir}, declared.dir.Dir.TheVariants.{Max, Min}}
+use Rattle.mdp_farkas.proofs.{Holds.{Each, Holds, yes_of_each, each_append, each_map, each_flat}, ReachRules.{ranks_hold}}
 use Rattle.mdp_bounds.proofs.Halves.{values_hold}
 
 one_of : (b : Bool) (v : ℚ) → v ≡ (if b then 1ℚ else 0ℚ) → (0ℚ ≤ℚ v) × (v ≤ℚ 1ℚ)

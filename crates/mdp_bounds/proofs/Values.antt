@@ -3,18 +3,13 @@ use Rattle.std.proofs.Common.{◌≡◌, ℕ, ◌<◌, Bool, true, false, List, 
 use Rattle.std.specs.Option.{IsSome}
 use Rattle.mdp_math.specs.Rational.{ℚ, ◌+ℚ◌, ◌≤ℚ◌}
 use Rattle.mdp_math.proofs.Laws.{zero-+ℚ}
-use Rattle.mdp_num.specs.Equal.{eq_ℚ}
-use Rattle.mdp_num.specs.OrderView.{equal_decides}
-use Rattle.mdp_spec.specs.Mdp.{Entry, Mdp, states_of, choices_at, row_at, value_at}
-use Rattle.mdp_spec.specs.Row.{IsRow, IsMdp, row_sum}
+use Rattle.mdp_num.specs.{Equal.{eq_ℚ}, OrderView.{equal_decides}}
+use Rattle.mdp_spec.specs.{Mdp.{Entry, Mdp, states_of, choices_at, row_at, value_at}, Row.{IsRow, IsMdp, row_sum}}
 use Rattle.mdp_farkas.specs.Compare.{0ℚ, 1ℚ}
 use Rattle.mdp_farkas.proofs.Inequalities.{Stands}
-use Rattle.mdp_rows.specs.declared.dir.Dir.{Dir}
-use Rattle.mdp_rows.specs.declared.dir.Dir.TheVariants.{Max, Min}
-use Rattle.mdp_bounds.specs.Sum.{stands, told_sum}
-use Rattle.mdp_bounds.specs.Reach.{outermost, stands_to_row, stands_at}
-use Rattle.mdp_bounds.proofs.Comparing.{stands_of, of_stands}
-use Rattle.mdp_bounds.proofs.Sums.{told_sum-some, sum_at_most, sum_at_least, mapped_holds, mapped_sound}
+use Rattle.mdp_rows.specs.{declared.dir.Dir.{Dir}, declared.dir.Dir.TheVariants.{Max, Min}}
+use Rattle.mdp_bounds.specs.{Sum.{stands, told_sum}, Reach.{outermost, stands_to_row, stands_at}}
+use Rattle.mdp_bounds.proofs.{Comparing.{stands_of, of_stands}, Sums.{told_sum-some, sum_at_most, sum_at_least, mapped_holds, mapped_sound}}
 
 -- each value is from 0 to 1
 abbrev pub AreWithin : ℕ → List ℚ → Type 0

@@ -1,11 +1,9 @@
 -- Where a written sum is in width, the sum that is told is.
 use Rattle.std.proofs.Common.{Bool, true, false, true≢false, List, Option, Some, None, refl, sym, option_map, if◌then◌else◌}
 use Rattle.std.specs.Option.{IsSome, option_and_then}
-use Rattle.mdp_math.specs.Rational.{ℚ}
-use Rattle.mdp_math.specs.Written.{written_add}
+use Rattle.mdp_math.specs.{Rational.{ℚ}, Written.{written_add}}
 use Rattle.mdp_num.specs.Equal.{eq_ℚ}
-use Rattle.mdp_spec.specs.Mdp.{Entry}
-use Rattle.mdp_spec.specs.Written.{written_sum}
+use Rattle.mdp_spec.specs.{Mdp.{Entry}, Written.{written_sum}}
 use Rattle.mdp_farkas.specs.Compare.{0ℚ}
 use Rattle.mdp_bounds.specs.Sum.{plain_add, targets_of, one_sum, or_else, told_sum}
 

@@ -2,17 +2,12 @@
 -- answered no.
 use Rattle.std.specs.Prelude.{◌≡◌, ℕ, Bool, List, Option}
 use Rattle.mdp_math.specs.Rational.{ℚ}
-use Rattle.mdp_spec.specs.Mdp.{Mdp}
-use Rattle.mdp_spec.specs.Row.{IsMdp}
+use Rattle.mdp_spec.specs.{Mdp.{Mdp}, Row.{IsMdp}}
 use Rattle.mdp_farkas.specs.Verdict.{verdict_of}
-use Rattle.mdp_bounds.specs.Reach.{bounds_checks, MeetsReachBetween}
-use Rattle.mdp_bounds.specs.Reward.{reward_bounds_checks, NoneNegative, MeetsRewardBetween}
-use Rattle.mdp_bounds.specs.Mean.{mean_bounds_checks, MeetsMeanBetween}
-use Rattle.mdp_bounds.specs.Says.{ReachSays, RewardSays, MeanSays}
+use Rattle.mdp_bounds.specs.{Reach.{bounds_checks, MeetsReachBetween}, Reward.{reward_bounds_checks, NoneNegative, MeetsRewardBetween}}
+use Rattle.mdp_bounds.specs.{Mean.{mean_bounds_checks, MeetsMeanBetween}, Says.{ReachSays, RewardSays, MeanSays}}
 use Rattle.mdp_rows.specs.declared.dir.Dir.{Dir}
-use Rattle.mdp_claims.specs.declared.rule.Rule.{Rule}
-use Rattle.mdp_claims.specs.declared.verdict.Fault.{Fault}
-use Rattle.mdp_claims.specs.declared.verdict.Verdict.TheVariants.{No}
+use Rattle.mdp_claims.specs.{declared.rule.Rule.{Rule}, declared.verdict.Fault.{Fault}, declared.verdict.Verdict.TheVariants.{No}}
 
 -- ---- bounds that meet their rules are never answered no
 

@@ -11,21 +11,13 @@
 --     rule 20  the spread is the greater of two ranges, from the least to the greatest bound and from the least to the greatest bias
 use Rattle.std.specs.Prelude.{◌≡◌, ℕ, ◌<◌, Bool, List, [], ◌∷◌, ◌++◌, length, slice_index, Option, Some, None, option_map, if◌then◌else◌}
 use Rattle.std.specs.List.{All, flat_map, range_with_len}
-use Rattle.mdp_math.specs.Rational.{ℚ, neg_ℚ, ◌≤ℚ◌}
-use Rattle.mdp_math.specs.Written.{cmp_ℚ, ◌>>=◌}
+use Rattle.mdp_math.specs.{Rational.{ℚ, neg_ℚ, ◌≤ℚ◌}, Written.{cmp_ℚ, ◌>>=◌}}
 use Rattle.mdp_num.specs.Equal.{eq_ℚ}
-use Rattle.mdp_spec.specs.Mdp.{Mdp, states_of, choices_at, choice_at, row_at, value_at}
-use Rattle.mdp_spec.specs.Unit.{reward_of}
-use Rattle.mdp_spec.specs.Tree.{IsPolicy}
+use Rattle.mdp_spec.specs.{Mdp.{Mdp, states_of, choices_at, choice_at, row_at, value_at}, Unit.{reward_of}, Tree.{IsPolicy}}
 use Rattle.mdp_spec.specs.BetweenRules.{MeetsMeanMaxBetween, MeetsMeanMinBetween}
-use Rattle.mdp_farkas.specs.Compare.{0ℚ}
-use Rattle.mdp_farkas.specs.Verdict.{Check, InWidth, at_choice, at_choices}
-use Rattle.mdp_farkas.specs.Reach.{choice_exists, other}
-use Rattle.mdp_rows.specs.Better.{is_better}
-use Rattle.mdp_rows.specs.declared.dir.Dir.{Dir}
-use Rattle.mdp_rows.specs.declared.dir.Dir.TheVariants.{Max, Min}
-use Rattle.mdp_bounds.specs.Sum.{stands, plain_add, told_sum}
-use Rattle.mdp_bounds.specs.Reach.{covering, followed}
+use Rattle.mdp_farkas.specs.{Compare.{0ℚ}, Verdict.{Check, InWidth, at_choice, at_choices}, Reach.{choice_exists, other}}
+use Rattle.mdp_rows.specs.{Better.{is_better}, declared.dir.Dir.{Dir}, declared.dir.Dir.TheVariants.{Max, Min}}
+use Rattle.mdp_bounds.specs.{Sum.{stands, plain_add, told_sum}, Reach.{covering, followed}}
 use Rattle.mdp_claims.specs.declared.rule.Rule.TheVariants.{BiasOnPolicy, BoundOnEachChoice, GainOnEachChoice, GainOnPolicy, SpreadIsGreatest}
 
 -- ---- gains and what choices earn

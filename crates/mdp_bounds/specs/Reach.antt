@@ -16,14 +16,9 @@ use Rattle.std.specs.Prelude.{◌≡◌, ℕ, ◌<◌, Bool, List, [], ◌∷◌
 use Rattle.std.specs.List.{All, flat_map, range_with_len}
 use Rattle.mdp_math.specs.Rational.{ℚ, le_ℚ}
 use Rattle.mdp_num.specs.Equal.{eq_ℚ}
-use Rattle.mdp_spec.specs.Mdp.{Entry, Mdp, states_of, row_at, value_at}
-use Rattle.mdp_spec.specs.Tree.{IsPolicy, is_marked}
-use Rattle.mdp_farkas.specs.Compare.{0ℚ, 1ℚ}
-use Rattle.mdp_farkas.specs.Verdict.{Check, InWidth, at_state, at_choice, at_choices}
-use Rattle.mdp_farkas.specs.Reach.{other, choice_exists, rank_checks}
-use Rattle.mdp_spec.specs.BetweenRules.{MeetsReachMaxBetween, MeetsReachMinBetween}
-use Rattle.mdp_rows.specs.declared.dir.Dir.{Dir}
-use Rattle.mdp_rows.specs.declared.dir.Dir.TheVariants.{Max, Min}
+use Rattle.mdp_spec.specs.{Mdp.{Entry, Mdp, states_of, row_at, value_at}, Tree.{IsPolicy, is_marked}, BetweenRules.{MeetsReachMaxBetween, MeetsReachMinBetween}}
+use Rattle.mdp_farkas.specs.{Compare.{0ℚ, 1ℚ}, Verdict.{Check, InWidth, at_state, at_choice, at_choices}, Reach.{other, choice_exists, rank_checks}}
+use Rattle.mdp_rows.specs.{declared.dir.Dir.{Dir}, declared.dir.Dir.TheVariants.{Max, Min}}
 use Rattle.mdp_bounds.specs.Sum.{stands, told_sum}
 use Rattle.mdp_claims.specs.declared.rule.Rule.TheVariants.{GoalValue, Probability, ValueOnEachChoice, ValueOnPolicy}
 

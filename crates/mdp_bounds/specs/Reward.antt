@@ -13,18 +13,12 @@ use Rattle.std.specs.Prelude.{◌≡◌, ℕ, ◌<◌, Bool, true, false, ◌==�
 use Rattle.std.specs.List.{All, flat_map, range_with_len}
 use Rattle.mdp_math.specs.Rational.{ℚ, le_ℚ, ◌≤ℚ◌}
 use Rattle.mdp_num.specs.Equal.{eq_ℚ}
-use Rattle.mdp_spec.specs.Mdp.{Mdp, states_of, choices_at, choice_at, row_at, value_at}
-use Rattle.mdp_spec.specs.Unit.{reward_of}
-use Rattle.mdp_spec.specs.Tree.{IsPolicy, is_marked}
-use Rattle.mdp_spec.specs.Bounds.{reward_at, finite_part, infinite}
-use Rattle.mdp_spec.specs.BetweenRules.{MeetsRewardMaxBetween, MeetsRewardMinBetween}
+use Rattle.mdp_spec.specs.{Mdp.{Mdp, states_of, choices_at, choice_at, row_at, value_at}, Unit.{reward_of}, Tree.{IsPolicy, is_marked}}
+use Rattle.mdp_spec.specs.{Bounds.{reward_at, finite_part, infinite}, BetweenRules.{MeetsRewardMaxBetween, MeetsRewardMinBetween}}
 use Rattle.mdp_spec.specs.RewardRules.{IsInfinite, IsTransient, StaysFinite, Falls, FallsInfinite, StaysInfinite}
-use Rattle.mdp_farkas.specs.Compare.{0ℚ}
-use Rattle.mdp_farkas.specs.Verdict.{Check, InWidth, at_state, at_choice, at_choices}
-use Rattle.mdp_farkas.specs.Reach.{choice_exists, other}
+use Rattle.mdp_farkas.specs.{Compare.{0ℚ}, Verdict.{Check, InWidth, at_state, at_choice, at_choices}, Reach.{choice_exists, other}}
 use Rattle.mdp_farkas.specs.Reward.{stay_checks, is_looked_at, rank_fall_checks, infinite_checks}
-use Rattle.mdp_rows.specs.declared.dir.Dir.{Dir}
-use Rattle.mdp_rows.specs.declared.dir.Dir.TheVariants.{Max, Min}
+use Rattle.mdp_rows.specs.{declared.dir.Dir.{Dir}, declared.dir.Dir.TheVariants.{Max, Min}}
 use Rattle.mdp_bounds.specs.Sum.{stands, told_sum}
 use Rattle.mdp_claims.specs.declared.rule.Rule.TheVariants.{RewardNotNegative, RewardOnEachChoice, RewardOnPolicy, RewardValue}
 

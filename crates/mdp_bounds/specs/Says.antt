@@ -2,19 +2,13 @@
 -- A rule that is asked of both values of a state says of both what it says of one. A rule that is never asked at such a place says nothing.
 use Rattle.std.specs.Prelude.{◌≡◌, ℕ, ◌<◌, ◌⊎◌, Bool, true, false, List, slice_index, Option, Some, None}
 use Rattle.mdp_math.specs.Rational.{ℚ, ◌+ℚ◌, ◌≤ℚ◌, ◌<ℚ◌}
-use Rattle.mdp_spec.specs.Mdp.{Mdp, states_of, choice_at, value_at}
-use Rattle.mdp_spec.specs.Unit.{reward_of}
-use Rattle.mdp_spec.specs.Tree.{is_marked}
-use Rattle.mdp_spec.specs.Bounds.{infinite}
-use Rattle.mdp_spec.specs.RewardRules.{backup, IsInfinite, IsTransient, StaysFinite, Falls}
-use Rattle.mdp_spec.specs.MeanRules.{spread_of}
-use Rattle.mdp_farkas.specs.Compare.{0ℚ, 1ℚ}
-use Rattle.mdp_farkas.specs.Reach.{other}
+use Rattle.mdp_spec.specs.{Mdp.{Mdp, states_of, choice_at, value_at}, Unit.{reward_of}, Tree.{is_marked}, Bounds.{infinite}}
+use Rattle.mdp_spec.specs.{RewardRules.{backup, IsInfinite, IsTransient, StaysFinite, Falls}, MeanRules.{spread_of}}
+use Rattle.mdp_farkas.specs.{Compare.{0ℚ, 1ℚ}, Reach.{other}}
 pub use Rattle.mdp_farkas.specs.Says.{IsBound, IsChoice, IsTaken, IsAsked, IsRowBound, IsProbability, LeadsOn, IsRewardValue, IsSeen, IsEarningBound}
 pub use Rattle.mdp_farkas.specs.Says.{Misses, MayMiss}
 use Rattle.mdp_bounds.specs.Reach.{covering, followed}
-use Rattle.mdp_rows.specs.declared.dir.Dir.{Dir}
-use Rattle.mdp_rows.specs.declared.dir.Dir.TheVariants.{Max, Min}
+use Rattle.mdp_rows.specs.{declared.dir.Dir.{Dir}, declared.dir.Dir.TheVariants.{Max, Min}}
 use Rattle.mdp_claims.specs.declared.rule.Rule.{Rule}
 use Rattle.mdp_claims.specs.declared.rule.Rule.TheVariants.{ChoiceExists, Probability, GoalValue, ValueOnEachChoice, ValueOnPolicy, RankZero, RankFalls}
 use Rattle.mdp_claims.specs.declared.rule.Rule.TheVariants.{RewardValue, FiniteTargets, RewardOnEachChoice, RewardOnPolicy, FiniteRankFalls, PolicyMisses, EachChoiceMisses}

@@ -1,14 +1,10 @@
 -- Sums over rows that make no written term where none is needed, and the exact order of a value and a sum.
-use Rattle.std.specs.Prelude.{ℕ, Bool, List, [], ◌∷◌, map, Option, Some, None, pos, if◌then◌else◌}
-use Rattle.std.specs.List.{list_all}
-use Rattle.mdp_math.specs.Rational.{ℚ, of_int, le_ℚ}
-use Rattle.mdp_math.specs.Written.{written_add}
+use Rattle.std.specs.{Prelude.{ℕ, Bool, List, [], ◌∷◌, map, Option, Some, None, pos, if◌then◌else◌}, List.{list_all}}
+use Rattle.mdp_math.specs.{Rational.{ℚ, of_int, le_ℚ}, Written.{written_add}}
 use Rattle.mdp_num.specs.Equal.{eq_ℚ}
-use Rattle.mdp_spec.specs.Mdp.{Entry, value_at}
-use Rattle.mdp_spec.specs.Written.{written_sum}
+use Rattle.mdp_spec.specs.{Mdp.{Entry, value_at}, Written.{written_sum}}
 use Rattle.mdp_farkas.specs.Compare.{0ℚ}
-use Rattle.mdp_rows.specs.declared.dir.Dir.{Dir}
-use Rattle.mdp_rows.specs.declared.dir.Dir.TheVariants.{Max, Min}
+use Rattle.mdp_rows.specs.{declared.dir.Dir.{Dir}, declared.dir.Dir.TheVariants.{Max, Min}}
 
 -- how a value stands to a sum: at least for Max, at most for Min
 abbrev pub stands : Dir → ℚ → ℚ → Bool

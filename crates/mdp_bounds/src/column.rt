@@ -1,8 +1,6 @@
-ghost use Rattle.std.specs.Prelude.{◌≡◌, ◌<◌, ◌++◌, length, [], ◌∷◌, if◌then◌else◌};
-ghost use Rattle.std.specs.Result.{result_ok};
+ghost use Rattle.std.specs.{Prelude.{◌≡◌, ◌<◌, ◌++◌, length, [], ◌∷◌, if◌then◌else◌}, Result.{result_ok}};
 ghost use Rattle.mdp_spec.specs.Mdp.{states_of, choices_at};
-ghost use Rattle.mdp_farkas.specs.Reward.{is_looked_at, rank_fall_checks};
-ghost use Rattle.mdp_farkas.specs.Verdict.{objection_to};
+ghost use Rattle.mdp_farkas.specs.{Reward.{is_looked_at, rank_fall_checks}, Verdict.{objection_to}};
 ghost use Rattle.mdp_bounds.specs.Reward.{is_nonneg, is_zero, nonneg_check, goal_checks, is_least, earning_stands, earning_check, earning_checks, policy_earning_check};
 ghost use Rattle.mdp_bounds.specs.Reward.{lower_on_each, half_checks, finite_checks, lower_place_checks, lower_checks, upper_place_checks, upper_value_checks};
 

@@ -1,8 +1,5 @@
-ghost use Rattle.std.specs.Prelude.{◌≡◌, ◌<◌, length, All};
-ghost use Rattle.std.specs.Result.{result_ok};
-ghost use Rattle.mdp_spec.specs.Bounds.{finite_part};
-ghost use Rattle.mdp_spec.specs.Mdp.{value_at};
-ghost use Rattle.mdp_spec.specs.Row.{entries};
+ghost use Rattle.std.specs.{Prelude.{◌≡◌, ◌<◌, length, All}, Result.{result_ok}};
+ghost use Rattle.mdp_spec.specs.{Bounds.{finite_part}, Mdp.{value_at}, Row.{entries}};
 ghost use Rattle.mdp_num.specs.Equal.{eq_ℚ};
 ghost use Rattle.mdp_bounds.specs.Sum.{first_value, one_sum, told_sum};
 

@@ -1,5 +1,4 @@
-ghost use Rattle.mdp_bounds.specs.Laws.{ReachBoundsNeverNo, RewardBoundsNeverNo, MeanBoundsNeverNo};
-ghost use Rattle.mdp_bounds.specs.Laws.{ReachNoRefutes, RewardNoRefutes, MeanNoRefutes};
+ghost use Rattle.mdp_bounds.specs.Laws.{ReachBoundsNeverNo, RewardBoundsNeverNo, MeanBoundsNeverNo, ReachNoRefutes, RewardNoRefutes, MeanNoRefutes};
 ghost use Rattle.mdp_bounds.specs.Laws.{ReachMeetsSays, RewardMeetsSays, MeanMeetsSays};
 
 /// Bounds that meet their rules in exact numbers are never answered no: their checks end with yes or with a sum past width.

@@ -1,15 +1,11 @@
-ghost use Rattle.std.specs.Prelude.{◌≡◌, ◌<◌, ◌↔◌, IsTrue, length, slice_index};
-ghost use Rattle.std.specs.List.{list_all};
-ghost use Rattle.std.specs.Result.{result_ok};
-ghost use Rattle.mdp_spec.specs.Mdp.{states_of, choices_at};
-ghost use Rattle.mdp_spec.specs.Between.{MeanMaxBetween, MeanMinBetween};
+ghost use Rattle.std.specs.{Prelude.{◌≡◌, ◌<◌, ◌↔◌, IsTrue, length, slice_index}, List.{list_all}, Result.{result_ok}};
+ghost use Rattle.mdp_spec.specs.{Mdp.{states_of, choices_at}, Between.{MeanMaxBetween, MeanMinBetween}};
 ghost use Rattle.mdp_bounds.specs.Reach.{covering, followed};
-ghost use Rattle.mdp_num.specs.Equal.{eq_ℚ};
-ghost use Rattle.mdp_farkas.specs.Mean.{IsMean};
-ghost use Rattle.mdp_farkas.specs.Verdict.{objection_to, verdict_of, IsYes, IfYes};
-ghost use Rattle.mdp_rows.specs.declared.dir.Dir.TheVariants.{Max, Min};
 ghost use Rattle.mdp_bounds.specs.Mean.{AreOne, gain_stands, gain_check, told_step, bound_stands, relative_check, spread_check, gains_cover, gains_follow};
 ghost use Rattle.mdp_bounds.specs.Mean.{mean_bounds_at, mean_bounds_checks, IsMeanBounds, IsTrivialMean};
+ghost use Rattle.mdp_num.specs.Equal.{eq_ℚ};
+ghost use Rattle.mdp_farkas.specs.{Mean.{IsMean}, Verdict.{objection_to, verdict_of, IsYes, IfYes}};
+ghost use Rattle.mdp_rows.specs.declared.dir.Dir.TheVariants.{Max, Min};
 
 use crate::compare::value_stands;
 use crate::spread::spread_of;

@@ -1,8 +1,6 @@
 ghost use Rattle.std.specs.Prelude.{◌≡◌, ◌<◌, ◌↔◌, length, slice_index, [], ◌∷◌};
-ghost use Rattle.mdp_spec.specs.Mdp.{states_of, choices_at};
-ghost use Rattle.mdp_spec.specs.Between.{RewardMaxBetween, RewardMinBetween};
-ghost use Rattle.mdp_farkas.specs.Reward.{IsReward};
-ghost use Rattle.mdp_farkas.specs.Verdict.{objection_to, verdict_of, IsYes, IfYes};
+ghost use Rattle.mdp_spec.specs.{Mdp.{states_of, choices_at}, Between.{RewardMaxBetween, RewardMinBetween}};
+ghost use Rattle.mdp_farkas.specs.{Reward.{IsReward}, Verdict.{objection_to, verdict_of, IsYes, IfYes}};
 ghost use Rattle.mdp_rows.specs.declared.dir.Dir.TheVariants.{Max, Min};
 ghost use Rattle.mdp_bounds.specs.Reward.{order_check, sign_check, sign_checks, reward_bounds_at, reward_bounds_checks, IsRewardBounds, IsTrivialReward};
 

@@ -1,5 +1,4 @@
-ghost use Rattle.std.specs.Prelude.{◌≡◌};
-ghost use Rattle.std.specs.Result.{result_ok};
+ghost use Rattle.std.specs.{Prelude.{◌≡◌}, Result.{result_ok}};
 ghost use Rattle.mdp_math.specs.Written.{cmp_ℚ};
 ghost use Rattle.mdp_rows.specs.Better.{is_better};
 ghost use Rattle.mdp_bounds.specs.Mean.{exact_best, exact_extreme, told_width, told_spread};

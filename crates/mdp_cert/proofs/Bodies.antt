@@ -1,22 +1,14 @@
 -- The lines of all states are read exactly where they are the lines of the entries, in each version.
 use Rattle.std.proofs.Common.{◌≡◌, ℕ, zero, suc, ◌+◌, ◌<◌, ◌≤◌, ◌^◌, Bool, true, false, cond, ltb, List, [], ◌∷◌}
-use Rattle.std.proofs.Common.{◌++◌, length, map, Option, Some, None, Result, Ok, refl, sym, ap, ap₂, subst, ◌∙◌, append_assoc, arith}
-use Rattle.std.proofs.Math.ListN.{replicate}
-use Rattle.std.proofs.lemmas.Bool.{lt-ltb}
-use Rattle.std.proofs.lemmas.Bool.Decides.{nat_tests}
-use Rattle.std.proofs.lemmas.List.{length-append, length-replicate}
-use Rattle.mdp_text.specs.declared.error.CertKind.TheVariants.{Shape}
-use Rattle.mdp_text.specs.declared.error.Refusal.{Refusal}
-use Rattle.mdp_cert.specs.declared.version.Version.{Version}
-use Rattle.mdp_cert.specs.declared.version.Version.TheVariants.{One, Two}
-use Rattle.mdp_text.specs.Lines.{◌>>=◌, Place, place, is_line, line_by}
-use Rattle.mdp_cert.specs.Runs.{Columns, Run, run, single, entries_of, before_runs, longest_runs, runs_in}
+use Rattle.std.proofs.{Common.{◌++◌, length, map, Option, Some, None, Result, Ok, refl, sym, ap, ap₂, subst, ◌∙◌, append_assoc, arith}, Math.ListN.{replicate}}
+use Rattle.std.proofs.{lemmas.Bool.{lt-ltb}, lemmas.Bool.Decides.{nat_tests}, lemmas.List.{length-append, length-replicate}}
+use Rattle.mdp_text.specs.{declared.error.CertKind.TheVariants.{Shape}, declared.error.Refusal.{Refusal}, Lines.{◌>>=◌, Place, place, is_line, line_by}}
 use Rattle.mdp_text.specs.Spelling.{line, end_text}
-use Rattle.mdp_cert.specs.Spelling.{run_text, run_lines, state_lines, closed_lines}
-use Rattle.mdp_cert.specs.Reading.{run_in, onto_run, runs_from, entries_from, entries_to_end}
+use Rattle.mdp_cert.specs.{declared.version.Version.{Version}, declared.version.Version.TheVariants.{One, Two}}
+use Rattle.mdp_cert.specs.Runs.{Columns, Run, run, single, entries_of, before_runs, longest_runs, runs_in}
+use Rattle.mdp_cert.specs.{Spelling.{run_text, run_lines, state_lines, closed_lines}, Reading.{run_in, onto_run, runs_from, entries_from, entries_to_end}}
 use Rattle.mdp_text.proofs.Feeds.{bind_ok, ok-is, judged-found, judged-again, due-line, due-again}
-use Rattle.mdp_cert.proofs.Columns.{IsColumns}
-use Rattle.mdp_cert.proofs.Sections.{IsLongest, line-found, line-again, free-run}
+use Rattle.mdp_cert.proofs.{Columns.{IsColumns}, Sections.{IsLongest, line-found, line-again, free-run}}
 
 -- how many states runs stand for
 abbrev pub total : {A : Type 0} → List (Run A) → ℕ

@@ -1,30 +1,17 @@
 -- The line of the claim is read exactly where it is its text.
 use Rattle.std.proofs.Common.{◌≡◌, inl, inr, ℕ, ◌-◌, Bool, true, false, cond, ◌&&◌, List, [], ◌∷◌, ◌++◌, length, take, drop, Option, Some, None, Ok}
-use Rattle.std.proofs.Common.{refl, sym, ap, ap₂, subst, ◌∙◌, append_assoc, arith}
-use Rattle.std.specs.Prelude.{codes}
-use Rattle.std.specs.List.{position_or_len, before_first}
-use Rattle.std.specs.Option.{option_and_then, option_map, option_or}
-use Rattle.std.specs.Str.{bytes_eq}
-use Rattle.std.proofs.lemmas.Bool.{and_parts}
-use Rattle.std.proofs.lemmas.List.{take-append-drop, length-append}
+use Rattle.std.proofs.{Common.{refl, sym, ap, ap₂, subst, ◌∙◌, append_assoc, arith}, lemmas.Bool.{and_parts}, lemmas.List.{take-append-drop, length-append}}
 use Rattle.std.proofs.Math.Seq.{take-append_seam, drop-append_seam}
-use Rattle.mdp_rows.specs.Name.{is_name}
-use Rattle.mdp_rows.specs.declared.dir.Dir.{Dir}
-use Rattle.mdp_rows.specs.declared.dir.Dir.TheVariants.{Max, Min}
-use Rattle.mdp_text.specs.declared.error.CertKind.TheVariants.{Claim}
+use Rattle.std.specs.{Prelude.{codes}, List.{position_or_len, before_first}, Option.{option_and_then, option_map, option_or}, Str.{bytes_eq}}
+use Rattle.mdp_rows.specs.{Name.{is_name}, declared.dir.Dir.{Dir}, declared.dir.Dir.TheVariants.{Max, Min}}
+use Rattle.mdp_text.specs.{declared.error.CertKind.TheVariants.{Claim}, Lines.{or_refused}, Words.{behind, is_quote, name_and_rest}}
 use Rattle.mdp_math.specs.Rational.{ℚ}
-use Rattle.mdp_num.specs.Value.{spelling, IsNarrow}
-use Rattle.mdp_num.specs.Canonical.{canonical_of}
+use Rattle.mdp_num.specs.{Value.{spelling, IsNarrow}, Canonical.{canonical_of}}
 use Rattle.mdp_num.proofs.Spellings.{sound, complete}
 use Rattle.mdp_cert.specs.Cert.{PlainClaim, upper, reach, reward, mean, witness, are_names, is_at_least_zero, has_threshold, IsClaimInWidth}
-use Rattle.mdp_text.specs.Lines.{or_refused}
-use Rattle.mdp_cert.specs.Spelling.{claim_text}
-use Rattle.mdp_text.specs.Words.{behind, is_quote, name_and_rest}
-use Rattle.mdp_cert.specs.Reading.{closed_name, name_behind, two_names, upper_claim, reach_front}
+use Rattle.mdp_cert.specs.{Spelling.{claim_text}, Reading.{closed_name, name_behind, two_names, upper_claim, reach_front}}
 use Rattle.mdp_cert.specs.Reading.{reach_claim, reward_front, reward_claim, mean_front, mean_claim, threshold_of, name_and_threshold, witness_front, witness_claim, claim_to, claim_of, claim_at}
-use Rattle.mdp_text.proofs.Pieces.{Free, free-append, free-name, quote-free-name, free-spelling}
-use Rattle.mdp_text.proofs.Cuts.{bytes_same}
-use Rattle.mdp_text.proofs.Feeds.{found_ok, or-found, byte-after}
+use Rattle.mdp_text.proofs.{Pieces.{Free, free-append, free-name, quote-free-name, free-spelling}, Cuts.{bytes_same}, Feeds.{found_ok, or-found, byte-after}}
 use Rattle.mdp_text.proofs.Behind.{behind-found, behind-again, rest-found, rest-again}
 
 closed-found : (text name : List ℕ) → closed_name text ≡ Some name → (text ≡ name ++ 34 ∷ []) × (is_name name ≡ true)

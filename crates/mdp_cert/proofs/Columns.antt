@@ -1,28 +1,15 @@
 -- What a claim shows of its words, and the words of each claim.
 use Rattle.std.proofs.Common.{◌≡◌, ℕ, ◌<◌, ◌≤◌, ◌^◌, Bool, true, false, cond, eqb, ◌&&◌, List, [], ◌∷◌, length, decimal, Option, Some, None, refl, sym, ap, subst, ◌∙◌, arith}
-use Rattle.std.specs.Prelude.{codes}
-use Rattle.std.specs.Str.{bytes_eq}
-use Rattle.std.specs.Option.{option_and_then, option_map}
-use Rattle.std.proofs.lemmas.Bool.{and_parts}
-use Rattle.std.proofs.lemmas.Bool.Decides.{nat_tests}
+use Rattle.std.proofs.{lemmas.Bool.{and_parts}, lemmas.Bool.Decides.{nat_tests}}
+use Rattle.std.specs.{Prelude.{codes}, Str.{bytes_eq}, Option.{option_and_then, option_map}}
 use Rattle.mdp_math.specs.Rational.{ℚ}
-use Rattle.mdp_num.specs.Value.{spelling, IsNarrow}
-use Rattle.mdp_num.specs.Canonical.{canonical_of}
-use Rattle.mdp_num.specs.Equal.{eq_ℚ}
+use Rattle.mdp_num.specs.{Value.{spelling, IsNarrow}, Canonical.{canonical_of}, Equal.{eq_ℚ}, OrderView.{equal_decides}}
 use Rattle.mdp_num.proofs.Spellings.{sound, complete}
-use Rattle.mdp_num.specs.OrderView.{equal_decides}
-use Rattle.mdp_text.specs.declared.error.CertKind.TheVariants.{Number}
-use Rattle.mdp_cert.specs.declared.mean_entry.MeanEntry.{MeanEntry}
-use Rattle.mdp_cert.specs.declared.policy_entry.PolicyEntry.{PolicyEntry}
-use Rattle.mdp_text.specs.Words.{whole_of, whole_at, reward_parse}
-use Rattle.mdp_cert.specs.Runs.{Columns}
-use Rattle.mdp_cert.specs.Cert.{IsValueNarrow}
+use Rattle.mdp_text.specs.{declared.error.CertKind.TheVariants.{Number}, Words.{whole_of, whole_at, reward_parse}}
+use Rattle.mdp_cert.specs.{declared.mean_entry.MeanEntry.{MeanEntry}, declared.policy_entry.PolicyEntry.{PolicyEntry}, Runs.{Columns}, Cert.{IsValueNarrow}}
 use Rattle.mdp_cert.specs.Claims.{Value, fraction_value, reward_value, reward_text, reward_same, bound_columns}
-use Rattle.mdp_cert.specs.Claims.{policy_columns, policy_parse, bound_parse, IsPolicyInWidth, mean_columns, mean_parse, IsMeanInWidth}
-use Rattle.mdp_cert.specs.Laws.{IsSameWords}
-use Rattle.mdp_text.proofs.Pieces.{Free, free-spelling}
-use Rattle.mdp_text.proofs.Cuts.{bytes_same, bytes_self}
-use Rattle.mdp_text.proofs.Feeds.{found_ok, whole-found, whole-again}
+use Rattle.mdp_cert.specs.{Claims.{policy_columns, policy_parse, bound_parse, IsPolicyInWidth, mean_columns, mean_parse, IsMeanInWidth}, Laws.{IsSameWords}}
+use Rattle.mdp_text.proofs.{Pieces.{Free, free-spelling}, Cuts.{bytes_same, bytes_self}, Feeds.{found_ok, whole-found, whole-again}}
 use Rattle.mdp_text.proofs.Joined.{AllFree, free-whole}
 
 -- the words are read exactly where they are the spelling of an entry in width; none of them has a blank or a line feed; and entries that say

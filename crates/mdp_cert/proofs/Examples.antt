@@ -1,30 +1,20 @@
 -- Worked texts, by computation.
 use Rattle.std.proofs.Common.{◌≡◌, ℕ, true, false, List, [], ◌∷◌, ◌++◌, Some, None, Ok, refl, pos, negsuc}
-use Rattle.std.specs.Prelude.{codes}
-use Rattle.std.specs.Fmt.{digits}
-use Rattle.mdp_math.specs.Gcd.{gcd, gcd_with_fuel}
-use Rattle.mdp_math.specs.Rational.{ℚ, ratio}
+use Rattle.std.specs.{Prelude.{codes}, Fmt.{digits}}
+use Rattle.mdp_math.specs.{Gcd.{gcd, gcd_with_fuel}, Rational.{ℚ, ratio}}
 use Rattle.mdp_math.proofs.Tables.{AreEqual}
-use Rattle.mdp_rows.specs.declared.dir.Dir.{Dir}
-use Rattle.mdp_rows.specs.declared.dir.Dir.TheVariants.{Max, Min}
+use Rattle.mdp_rows.specs.{declared.dir.Dir.{Dir}, declared.dir.Dir.TheVariants.{Max, Min}}
 use Rattle.mdp_claims.specs.declared.subsystem.Flow.{Flow}
-use Rattle.mdp_num.specs.Value.{spelling}
-use Rattle.mdp_num.specs.Canonical.{canonical_of}
+use Rattle.mdp_num.specs.{Value.{spelling}, Canonical.{canonical_of}}
 use Rattle.mdp_spec.proofs.Small.{half, quarter}
-use Rattle.mdp_text.specs.declared.init.Init.{Init}
-use Rattle.mdp_text.specs.declared.init.Init.TheVariants.{Missing, Finite, Infinite, Start}
+use Rattle.mdp_text.specs.{declared.init.Init.{Init}, declared.init.Init.TheVariants.{Missing, Finite, Infinite, Start}}
+use Rattle.mdp_text.specs.{declared.error.CertKind.TheVariants.{Claim, Number, Shape, Count, End, Run}, Lines.{refused, next_line, nothing_behind}}
+use Rattle.mdp_text.specs.{Words.{words_behind, whole_of, whole_at, frac_at}, Spelling.{line}, Heads.{states_at, given_at, valued_at, start_at}}
 use Rattle.mdp_text.specs.declared.error.CertKind.TheVariants as kind
-use Rattle.mdp_text.specs.declared.error.CertKind.TheVariants.{Claim, Number, Shape, Count, End, Run}
-use Rattle.mdp_cert.specs.declared.version.Version.{Version}
-use Rattle.mdp_cert.specs.declared.version.Version.TheVariants.{One, Two}
-use Rattle.mdp_cert.specs.Cert.{Certificate, upper, reach, reward, mean, witness, PlainBody, bounds, policy, rewards, gains, flow, floor}
-use Rattle.mdp_text.specs.Lines.{refused, next_line, nothing_behind}
-use Rattle.mdp_text.specs.Words.{words_behind, whole_of, whole_at, frac_at}
-use Rattle.mdp_cert.specs.Runs.{longest_runs}
+use Rattle.mdp_cert.specs.{declared.version.Version.{Version}, declared.version.Version.TheVariants.{One, Two}}
+use Rattle.mdp_cert.specs.{Cert.{Certificate, upper, reach, reward, mean, witness, PlainBody, bounds, policy, rewards, gains, flow, floor}, Runs.{longest_runs}}
 use Rattle.mdp_cert.specs.Witness.{keep_at, flow_at, flow_line_at, floor_line_at}
-use Rattle.mdp_text.specs.Spelling.{line}
 use Rattle.mdp_cert.specs.Spelling.{version_text, text_of, old_text_of, text_in, run_text, run_lines, listed_lines}
-use Rattle.mdp_text.specs.Heads.{states_at, given_at, valued_at, start_at}
 use Rattle.mdp_cert.specs.Reading.{outcome, version_at, claim_to, claim_of, claim_at, init_at, head_from, listed_at, listed_from, listed_to_end}
 use Rattle.mdp_cert.specs.Reading.{entry_at, state_at, run_at, longest_at, runs_from, entries_from, entries_to_end, spread_at, body_from}
 

@@ -1,45 +1,30 @@
 -- A refusal names the first line that breaks a rule.
 use Rattle.std.proofs.Common.{◌≡◌, ℕ, zero, suc, ◌+◌, ◌-◌, ◌<◌, ◌≤◌, ◌^◌, ◌⊎◌, inl, inr, Bool, true, false, not, cond, eqb, ltb, ◌&&◌, ◌||◌}
 use Rattle.std.proofs.Common.{List, [], ◌∷◌, ◌++◌, length, drop, Option, Some, None, is_some, Result, Ok, Err, refl, sym, ap, ap₂, subst, ◌∙◌, arith}
-use Rattle.std.specs.Prelude.{codes}
-use Rattle.std.specs.List.{position_or_len, before_first, after_first}
-use Rattle.std.specs.Option.{option_and_then, option_map}
-use Rattle.std.specs.Str.{bytes_eq}
-use Rattle.std.proofs.lemmas.Bool.{lt-ltb}
-use Rattle.std.proofs.lemmas.List.{length-append}
+use Rattle.std.proofs.{lemmas.Bool.{lt-ltb}, lemmas.List.{length-append}}
+use Rattle.std.specs.{Prelude.{codes}, List.{position_or_len, before_first, after_first}, Option.{option_and_then, option_map}, Str.{bytes_eq}}
 use Rattle.mdp_num.specs.Canonical.{canonical_of}
-use Rattle.mdp_text.specs.declared.error.CertKind.{CertKind}
-use Rattle.mdp_text.specs.declared.error.CertKind.TheVariants as kind
-use Rattle.mdp_text.specs.declared.error.Refusal.{Refusal}
-use Rattle.mdp_text.specs.declared.init.Init.{Init}
+use Rattle.mdp_text.specs.{declared.error.CertKind.{CertKind}, declared.error.Refusal.{Refusal}, declared.init.Init.{Init}}
 use Rattle.mdp_text.specs.declared.init.Init.TheVariants.{Missing, Start}
-use Rattle.mdp_cert.specs.declared.version.Version.{Version}
-use Rattle.mdp_cert.specs.declared.version.Version.TheVariants.{One, Two}
-use Rattle.mdp_rows.specs.declared.dir.Dir.TheVariants.{Max, Min}
-use Rattle.mdp_cert.specs.declared.flow_line.FlowLine.{FlowLine}
-use Rattle.mdp_cert.specs.declared.flow_line.FlowLine.TheVariants.{Keep, Send}
-use Rattle.mdp_cert.specs.declared.floor_line.FloorLine.{FloorLine}
-use Rattle.mdp_claims.specs.declared.subsystem.Flow.{Flow}
+use Rattle.mdp_text.specs.Lines.{◌>>=◌, refuse_if, or_refused, is_line, is_line_feed, Place, place, next_line, line_by, nothing_behind}
+use Rattle.mdp_text.specs.{Words.{words, first_of, begins_with, words_behind, whole_of, whole_at, frac_at}, Spelling.{line, end_text}}
+use Rattle.mdp_text.specs.Heads.{states_at, init_parse, init_of, given_at, valued_at, start_at}
+use Rattle.mdp_text.specs.declared.error.CertKind.TheVariants as kind
+use Rattle.mdp_cert.specs.{declared.version.Version.{Version}, declared.version.Version.TheVariants.{One, Two}, declared.flow_line.FlowLine.{FlowLine}}
+use Rattle.mdp_cert.specs.{declared.flow_line.FlowLine.TheVariants.{Keep, Send}, declared.floor_line.FloorLine.{FloorLine}}
 use Rattle.mdp_cert.specs.Cert.{PlainClaim, upper, reach, reward, mean, witness, may_be_infinite, is_witness, is_next, is_next_flow, PlainBody, bounds, Certificate}
 use Rattle.mdp_cert.specs.Listed.{Listed}
 use Rattle.mdp_cert.specs.Witness.{mark_text, mark_at, keep_at, kept_in, flow_in, flow_at, flow_line_at, flow_listed, flow_body, floor_line_at, floor_listed, floor_body}
-use Rattle.mdp_text.specs.Lines.{◌>>=◌, refuse_if, or_refused, is_line, is_line_feed, Place, place, next_line, line_by, nothing_behind}
-use Rattle.mdp_text.specs.Words.{words, first_of, begins_with, words_behind, whole_of, whole_at, frac_at}
-use Rattle.mdp_cert.specs.Runs.{Columns, run, single, entries_of}
-use Rattle.mdp_cert.specs.Claims.{fraction_value, reward_value, bound_columns, policy_columns, mean_columns}
-use Rattle.mdp_text.specs.Spelling.{line, end_text}
-use Rattle.mdp_cert.specs.Spelling.{version_text}
-use Rattle.mdp_text.specs.Heads.{states_at, init_parse, init_of, given_at, valued_at, start_at}
-use Rattle.mdp_cert.specs.Reading.{version_at, claim_of, claim_at, init_at, CertHead, head_from, entry_at, state_at, run_at}
+use Rattle.mdp_cert.specs.{Runs.{Columns, run, single, entries_of}, Claims.{fraction_value, reward_value, bound_columns, policy_columns, mean_columns}}
+use Rattle.mdp_cert.specs.{Spelling.{version_text}, Reading.{version_at, claim_of, claim_at, init_at, CertHead, head_from, entry_at, state_at, run_at}}
 use Rattle.mdp_cert.specs.Reading.{is_same, line_of_states, longest_at, run_in, onto_run, runs_from, entries_from}
 use Rattle.mdp_cert.specs.Reading.{listed_at, before_others, listed_from, listed_to_end, entries_to_end, policy_body, reward_body, mean_body, spread_at, body_from, outcome}
 use Rattle.mdp_cert.specs.Laws.{first_lines, LacksAtMost}
-use Rattle.mdp_text.proofs.Cuts.{guard_ok}
-use Rattle.mdp_text.proofs.Feeds.{bind_ok, ok-is, line-found, line-again}
-use Rattle.mdp_text.proofs.States.{states-number, states-range}
-use Rattle.mdp_cert.proofs.Numbered.{init-state, init-value, init-inside, start-state, start-inside}
-use Rattle.mdp_cert.proofs.OneByOne.{enough}
+use Rattle.mdp_rows.specs.declared.dir.Dir.TheVariants.{Max, Min}
+use Rattle.mdp_claims.specs.declared.subsystem.Flow.{Flow}
+use Rattle.mdp_text.proofs.{Cuts.{guard_ok}, Feeds.{bind_ok, ok-is, line-found, line-again}, States.{states-number, states-range}}
 use Rattle.mdp_text.proofs.HeadLines.{with-claim, with-states}
+use Rattle.mdp_cert.proofs.{Numbered.{init-state, init-value, init-inside, start-state, start-inside}, OneByOne.{enough}}
 use Rattle.mdp_cert.proofs.Parts.{whole, whole-end, whole-body, whole-head}
 
 abbrev pub missing : ℕ → Refusal

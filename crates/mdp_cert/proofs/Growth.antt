@@ -1,21 +1,15 @@
 -- A text that grows line by line.
 use Rattle.std.proofs.Common.{◌≡◌, ℕ, suc, ◌+◌, ◌-◌, ◌<◌, ◌≤◌, List, [], ◌∷◌, ◌++◌, length, drop}
-use Rattle.std.proofs.Common.{get_or, refl, sym, ap, ◌∙◌, append_assoc, arith, Bool, true, eqb, ◌&&◌, Option, None}
-use Rattle.std.proofs.Math.Seq.{drop-cons}
-use Rattle.std.proofs.lemmas.List.{drop_all, drop-drop, length-drop, length-map}
-use Rattle.std.proofs.lemmas.Bool.{and_parts}
+use Rattle.std.proofs.{Common.{get_or, refl, sym, ap, ◌∙◌, append_assoc, arith, Bool, true, eqb, ◌&&◌, Option, None}, Math.Seq.{drop-cons}}
+use Rattle.std.proofs.{lemmas.List.{drop_all, drop-drop, length-drop, length-map}, lemmas.Bool.{and_parts}}
 use Rattle.mdp_math.specs.Rational.{ℚ}
-use Rattle.mdp_cert.specs.declared.version.Version.{Version}
-use Rattle.mdp_cert.specs.declared.version.Version.TheVariants.{One, Two}
+use Rattle.mdp_cert.specs.{declared.version.Version.{Version}, declared.version.Version.TheVariants.{One, Two}}
+use Rattle.mdp_cert.specs.Cert.{PlainClaim, upper, reach, reward, mean, witness, bounds, policy, rewards, gains, flow, floor, are_kept, are_flows, is_body_of}
+use Rattle.mdp_cert.specs.{declared.flow_line.FlowLine.TheVariants.{Send}, Witness.{flow_lines, floor_lines}, Runs.{Columns, run, longest_runs, runs_in}}
+use Rattle.mdp_cert.specs.{Spelling.{run_text, run_lines}, Answer.{more_in}}
 use Rattle.mdp_rows.specs.declared.dir.Dir.TheVariants.{Max, Min}
 use Rattle.mdp_claims.specs.declared.subsystem.Flow.{Flow}
-use Rattle.mdp_cert.specs.Cert.{PlainClaim, upper, reach, reward, mean, witness, bounds, policy, rewards, gains, flow, floor, are_kept, are_flows, is_body_of}
-use Rattle.mdp_cert.specs.declared.flow_line.FlowLine.TheVariants.{Send}
-use Rattle.mdp_cert.specs.Witness.{flow_lines, floor_lines}
-use Rattle.mdp_cert.specs.Runs.{Columns, run, longest_runs, runs_in}
 use Rattle.mdp_text.specs.Spelling.{line}
-use Rattle.mdp_cert.specs.Spelling.{run_text, run_lines}
-use Rattle.mdp_cert.specs.Answer.{more_in}
 use Rattle.mdp_text.proofs.Cuts.{number-same}
 use Rattle.mdp_cert.proofs.Runs.{runs-first, more-inside}
 

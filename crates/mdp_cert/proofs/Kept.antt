@@ -1,33 +1,21 @@
 -- The lines of a witnessing subsystem: each is read exactly where it is its text, and together they are the lists of the body.
 use Rattle.std.proofs.Common.{◌≡◌, ℕ, suc, ◌<◌, ◌≤◌, ◌^◌, Bool, true, false, not, cond, ltb, eqb, ◌&&◌, List, [], ◌∷◌}
 use Rattle.std.proofs.Common.{length, map, drop, decimal, Option, Some, None, is_some, Result, Ok, Err, refl, sym, ap, ap₂, subst, ◌∙◌, arith}
-use Rattle.std.specs.Prelude.{codes}
-use Rattle.std.specs.List.{join_with_byte, filter_map}
-use Rattle.std.specs.Option.{option_and_then, option_map}
-use Rattle.std.specs.Str.{bytes_eq}
-use Rattle.std.proofs.lemmas.Bool.{not-false, and_parts}
-use Rattle.std.proofs.lemmas.Bool.Decides.{nat_tests}
-use Rattle.std.proofs.lemmas.List.{length-map}
+use Rattle.std.proofs.{lemmas.Bool.{not-false, and_parts}, lemmas.Bool.Decides.{nat_tests}, lemmas.List.{length-map}}
+use Rattle.std.specs.{Prelude.{codes}, List.{join_with_byte, filter_map}, Option.{option_and_then, option_map}, Str.{bytes_eq}}
 use Rattle.mdp_math.specs.Rational.{ℚ}
 use Rattle.mdp_num.specs.Value.{spelling, IsNarrow}
 use Rattle.mdp_claims.specs.declared.subsystem.Flow.{Flow}
 use Rattle.mdp_text.specs.declared.error.CertKind.TheVariants as kind
-use Rattle.mdp_text.specs.declared.error.Refusal.{Refusal}
-use Rattle.mdp_cert.specs.declared.flow_line.FlowLine.{FlowLine}
-use Rattle.mdp_cert.specs.declared.flow_line.FlowLine.TheVariants.{Keep, Send}
-use Rattle.mdp_cert.specs.declared.floor_line.FloorLine.{FloorLine}
-use Rattle.mdp_cert.specs.Cert.{is_next, are_kept, is_next_flow, are_flows, IsFlowInWidth}
-use Rattle.mdp_text.specs.Lines.{◌>>=◌, refuse_if}
-use Rattle.mdp_text.specs.Words.{words, first_of, begins_with, words_behind, whole_at, frac_at}
+use Rattle.mdp_text.specs.{declared.error.Refusal.{Refusal}, Lines.{◌>>=◌, refuse_if}, Words.{words, first_of, begins_with, words_behind, whole_at, frac_at}}
+use Rattle.mdp_cert.specs.{declared.flow_line.FlowLine.{FlowLine}, declared.flow_line.FlowLine.TheVariants.{Keep, Send}}
+use Rattle.mdp_cert.specs.{declared.floor_line.FloorLine.{FloorLine}, Cert.{is_next, are_kept, is_next_flow, are_flows, IsFlowInWidth}}
 use Rattle.mdp_cert.specs.Witness.{mark_text, mark_at, flow_line_words, keep_at, kept_in, mark_in, flow_in, flow_at, flow_line_at, flow_listed, flow_lines}
 use Rattle.mdp_cert.specs.Witness.{floor_line_words, floor_line_at, floor_listed, floor_lines}
-use Rattle.mdp_text.proofs.Pieces.{Free, free-spelling}
-use Rattle.mdp_text.proofs.Cuts.{bytes_same, same-number, number-same}
+use Rattle.mdp_text.proofs.{Pieces.{Free, free-spelling}, Cuts.{bytes_same, same-number, number-same}}
 use Rattle.mdp_text.proofs.Feeds.{bind_ok, ok-is, refuse_ok, whole-found, whole-again, frac-found, frac-again}
-use Rattle.mdp_text.proofs.Joined.{free-join, free-whole, behind-again, behind-text}
-use Rattle.mdp_text.proofs.States.{two-words, three-words, four-words}
-use Rattle.mdp_cert.proofs.Bodies.{Each}
-use Rattle.mdp_cert.proofs.OneByOne.{IsListed, AreNext}
+use Rattle.mdp_text.proofs.{Joined.{free-join, free-whole, behind-again, behind-text}, States.{two-words, three-words, four-words}}
+use Rattle.mdp_cert.proofs.{Bodies.{Each}, OneByOne.{IsListed, AreNext}}
 
 and-true : (a b : Bool) → a ≡ true → b ≡ true → (a && b) ≡ true
 and-true a b p q = rw (p, q) refl

@@ -16,3 +16,10 @@ pub mod FirstBroken
 mod Examples
 pub mod RunLengths
 pub mod Written
+pub mod BoundsColumns
+pub mod Ranked
+pub mod Gains
+pub mod Heads
+pub mod BoundsBodies
+pub mod Outcomes
+mod BoundsExamples

@@ -1,8 +1,7 @@
 -- Four lists as one list of entries.
 use Rattle.std.proofs.Common.{◌≡◌, ℕ, zero, suc, ◌<◌, List, [], ◌∷◌, length, map, get_or, refl, ap, arith}
 use Rattle.mdp_math.specs.Rational.{ℚ}
-use Rattle.mdp_cert.specs.declared.mean_entry.MeanEntry.{MeanEntry}
-use Rattle.mdp_cert.specs.Claims.{means}
+use Rattle.mdp_cert.specs.{declared.mean_entry.MeanEntry.{MeanEntry}, Claims.{means}}
 
 abbrev pub entry : ℚ → ℚ → ℚ → ℕ → MeanEntry
 entry g a b c = record { gain = g; bound = a; bias = b; choice = c }

@@ -1,34 +1,21 @@
 -- The lines of the version and of the initial state are read exactly where they are their texts.
 use Rattle.std.proofs.Common.{◌≡◌, ℕ, ◌<◌, ◌≤◌, ◌^◌, Bool, true, false, not, cond, eqb, ltb, ◌||◌, List, [], ◌∷◌, length, drop, decimal}
-use Rattle.std.proofs.Common.{Option, Some, None, Result, Ok, Err, refl, ap, ap₂, subst, ◌∙◌, arith}
-use Rattle.std.specs.Prelude.{codes}
-use Rattle.std.specs.List.{join_with_byte}
-use Rattle.std.specs.Option.{option_map}
-use Rattle.std.specs.Str.{bytes_eq}
-use Rattle.std.proofs.lemmas.Bool.{not-false, and_parts}
+use Rattle.std.proofs.{Common.{Option, Some, None, Result, Ok, Err, refl, ap, ap₂, subst, ◌∙◌, arith}, lemmas.Bool.{not-false, and_parts}}
 use Rattle.std.proofs.lemmas.Bool.Decides.{nat_tests}
+use Rattle.std.specs.{Prelude.{codes}, List.{join_with_byte}, Option.{option_map}, Str.{bytes_eq}}
 use Rattle.mdp_math.specs.Rational.{ℚ}
 use Rattle.mdp_num.specs.Canonical.{canonical_of}
 use Rattle.mdp_num.proofs.Spellings.{sound, complete}
-use Rattle.mdp_text.specs.declared.error.CertKind.TheVariants.{Version, Number, Count}
-use Rattle.mdp_text.specs.declared.error.Refusal.{Refusal}
-use Rattle.mdp_text.specs.declared.init.Init.{Init}
+use Rattle.mdp_text.specs.{declared.error.CertKind.TheVariants.{Version, Number, Count}, declared.error.Refusal.{Refusal}, declared.init.Init.{Init}}
 use Rattle.mdp_text.specs.declared.init.Init.TheVariants.{Missing, Finite, Infinite, Start}
+use Rattle.mdp_text.specs.{Heads.{IsInitInWidth, init_parse, init_of, given_at, valued_at, start_at}, Lines.{◌>>=◌, refuse_if, or_refused}}
+use Rattle.mdp_text.specs.{Words.{first_of, words_behind, whole_at}, Spelling.{◌␣◌, init_text}}
 use Rattle.mdp_cert.specs.declared.version.Version as version
 use Rattle.mdp_cert.specs.declared.version.Version.TheVariants.{One, Two}
-use Rattle.mdp_text.specs.Heads.{IsInitInWidth, init_parse, init_of, given_at, valued_at, start_at}
-use Rattle.mdp_cert.specs.Cert.{PlainClaim, upper, reach, reward, mean, witness, may_be_infinite, is_witness, is_init_of, IsValueNarrow}
-use Rattle.mdp_cert.specs.Claims.{reward_text}
-use Rattle.mdp_text.specs.Lines.{◌>>=◌, refuse_if, or_refused}
-use Rattle.mdp_text.specs.Words.{first_of, words_behind, whole_at}
-use Rattle.mdp_text.specs.Spelling.{◌␣◌, init_text}
-use Rattle.mdp_cert.specs.Spelling.{version_text}
-use Rattle.mdp_cert.specs.Reading.{version_at, init_at}
-use Rattle.mdp_text.proofs.Pieces.{Free, decimal-some}
-use Rattle.mdp_text.proofs.Cuts.{bytes_same}
-use Rattle.mdp_text.proofs.Feeds.{bind_ok, ok-is, refuse_ok, found_ok, whole-found, whole-again}
-use Rattle.mdp_text.proofs.States.{one-word, two-words}
-use Rattle.mdp_text.proofs.Joined.{free-join, free-whole, behind-again, behind-text}
+use Rattle.mdp_cert.specs.{Cert.{PlainClaim, upper, reach, reward, mean, witness, may_be_infinite, is_witness, is_init_of, IsValueNarrow}, Claims.{reward_text}}
+use Rattle.mdp_cert.specs.{Spelling.{version_text}, Reading.{version_at, init_at}}
+use Rattle.mdp_text.proofs.{Pieces.{Free, decimal-some}, Cuts.{bytes_same}, Feeds.{bind_ok, ok-is, refuse_ok, found_ok, whole-found, whole-again}}
+use Rattle.mdp_text.proofs.{States.{one-word, two-words}, Joined.{free-join, free-whole, behind-again, behind-text}}
 use Rattle.mdp_cert.proofs.Columns.{reward-found, reward-again, free-reward}
 
 -- ---- the version

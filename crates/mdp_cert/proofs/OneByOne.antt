@@ -1,19 +1,11 @@
 -- Lines that are listed one by one are read exactly where they are the lines of what is read.
 use Rattle.std.proofs.Common.{◌≡◌, ℕ, zero, suc, ◌+◌, ◌<◌, Bool, true, false, cond, List, [], ◌∷◌, ◌++◌}
-use Rattle.std.proofs.Common.{length, drop, get_or, Option, Some, None, Result, Ok, Err, refl, sym, ap, subst, ◌∙◌, append_assoc, arith}
-use Rattle.std.specs.List.{join_with_byte}
-use Rattle.std.specs.Str.{bytes_eq}
-use Rattle.std.proofs.Math.Seq.{drop-cons}
+use Rattle.std.proofs.{Common.{length, drop, get_or, Option, Some, None, Result, Ok, Err, refl, sym, ap, subst, ◌∙◌, append_assoc, arith}, Math.Seq.{drop-cons}}
 use Rattle.std.proofs.lemmas.List.{length-append, append-nil, drop_all}
-use Rattle.mdp_text.specs.declared.error.Refusal.{Refusal}
-use Rattle.mdp_text.specs.Lines.{◌>>=◌, Place, place, next_line, line_by}
-use Rattle.mdp_cert.specs.Listed.{Listed}
-use Rattle.mdp_text.specs.Spelling.{line, end_text}
-use Rattle.mdp_cert.specs.Spelling.{listed_lines}
-use Rattle.mdp_cert.specs.Reading.{listed_at, before_others, listed_from, listed_to_end}
-use Rattle.mdp_text.proofs.Pieces.{Free}
-use Rattle.mdp_text.proofs.Cuts.{bytes_same}
-use Rattle.mdp_text.proofs.Feeds.{bind_ok, ok-is, Line, judged-found, judged-again}
+use Rattle.std.specs.{List.{join_with_byte}, Str.{bytes_eq}}
+use Rattle.mdp_text.specs.{declared.error.Refusal.{Refusal}, Lines.{◌>>=◌, Place, place, next_line, line_by}, Spelling.{line, end_text}}
+use Rattle.mdp_cert.specs.{Listed.{Listed}, Spelling.{listed_lines}, Reading.{listed_at, before_others, listed_from, listed_to_end}}
+use Rattle.mdp_text.proofs.{Pieces.{Free}, Cuts.{bytes_same}, Feeds.{bind_ok, ok-is, Line, judged-found, judged-again}}
 
 -- a line is read exactly where it is the text of what may stand there; that text is one line, and isn't `end`
 pub record IsListed {A : Type 0} (k : Listed A) (states : ℕ) (IsNext : Option A → A → Type 0) : Type 0 where

@@ -1,49 +1,33 @@
 -- The parts of a text are read exactly where they are the texts of what is read.
 use Rattle.std.proofs.Common.{◌≡◌, ◌↔◌, ◌⊎◌, inl, inr, ℕ, suc, ◌+◌, ◌<◌, ◌≤◌, ◌^◌, Bool, true, eqb, ◌&&◌}
 use Rattle.std.proofs.Common.{List, [], ◌∷◌, ◌++◌, length, map, Option, None, Result, Ok, Err, refl, sym, ap, subst, ◌∙◌, append_assoc, arith}
-use Rattle.std.specs.Prelude.{codes}
-use Rattle.std.specs.List.{All}
-use Rattle.std.proofs.lemmas.List.{length-map, append-nil}
-use Rattle.std.proofs.lemmas.List.Elements.{All-cons}
+use Rattle.std.proofs.{lemmas.List.{length-map, append-nil}, lemmas.List.Elements.{All-cons}}
+use Rattle.std.specs.{Prelude.{codes}, List.{All}}
 use Rattle.mdp_math.specs.Rational.{ℚ}
 use Rattle.mdp_num.specs.Value.{IsNarrow}
-use Rattle.mdp_rows.specs.declared.dir.Dir.{Dir}
-use Rattle.mdp_text.specs.declared.error.Refusal.{Refusal}
-use Rattle.mdp_text.specs.declared.init.Init.{Init}
-use Rattle.mdp_cert.specs.declared.mean_entry.MeanEntry.{MeanEntry}
-use Rattle.mdp_cert.specs.declared.policy_entry.PolicyEntry.{PolicyEntry}
-use Rattle.mdp_cert.specs.declared.version.Version.{Version}
-use Rattle.mdp_cert.specs.declared.version.Version.TheVariants.{One, Two}
-use Rattle.mdp_rows.specs.declared.dir.Dir.TheVariants.{Max, Min}
-use Rattle.mdp_claims.specs.declared.subsystem.Flow.{Flow}
-use Rattle.mdp_cert.specs.declared.flow_line.FlowLine.{FlowLine}
-use Rattle.mdp_cert.specs.declared.floor_line.FloorLine.{FloorLine}
+use Rattle.mdp_rows.specs.{declared.dir.Dir.{Dir}, declared.dir.Dir.TheVariants.{Max, Min}}
+use Rattle.mdp_text.specs.{declared.error.Refusal.{Refusal}, declared.init.Init.{Init}, Heads.{IsInitInWidth}}
+use Rattle.mdp_text.specs.{Lines.{◌>>=◌, Place, place, line_by, nothing_behind}, Spelling.{line, init_text}}
+use Rattle.mdp_cert.specs.{declared.mean_entry.MeanEntry.{MeanEntry}, declared.policy_entry.PolicyEntry.{PolicyEntry}, declared.version.Version.{Version}}
+use Rattle.mdp_cert.specs.{declared.version.Version.TheVariants.{One, Two}, declared.flow_line.FlowLine.{FlowLine}, declared.floor_line.FloorLine.{FloorLine}}
 use Rattle.mdp_cert.specs.Cert.{PlainClaim, upper, reach, reward, mean, witness, PlainBody, bounds, policy, rewards, gains, flow, floor, Certificate}
-use Rattle.mdp_text.specs.Heads.{IsInitInWidth}
 use Rattle.mdp_cert.specs.Cert.{are_kept, are_flows, is_init_of, is_body_of, IsValueNarrow, IsFlowInWidth, IsBodyInWidth, Fits}
 use Rattle.mdp_cert.specs.Witness.{flow_listed, flow_lines, flow_body, floor_listed, floor_lines, floor_body}
-use Rattle.mdp_text.specs.Lines.{◌>>=◌, Place, place, line_by, nothing_behind}
 use Rattle.mdp_cert.specs.Claims.{Value, fraction_value, reward_value, bound_columns, policy_columns, policies, IsPolicyInWidth, mean_columns, means, IsMeanInWidth}
-use Rattle.mdp_text.specs.Spelling.{line, init_text}
 use Rattle.mdp_cert.specs.Spelling.{spread_text, version_text, claim_text, closed_lines, listed_lines, body_text, text_in, text_of, old_text_of}
-use Rattle.mdp_cert.specs.Runs.{Columns}
-use Rattle.mdp_cert.specs.Laws.{AreSameWords}
+use Rattle.mdp_cert.specs.{Runs.{Columns}, Laws.{AreSameWords}}
 use Rattle.mdp_cert.specs.Reading.{version_at, claim_at, init_at, CertHead, head_from, entries_to_end, policy_body, reward_body, mean_body, spread_at, listed_to_end, body_from, outcome}
-use Rattle.mdp_text.proofs.Cuts.{same-number, number-same}
-use Rattle.mdp_text.proofs.Pieces.{Free}
-use Rattle.mdp_text.proofs.Feeds.{ok-is, bind_ok, judged-found, judged-again, nothing-found}
-use Rattle.mdp_cert.proofs.Claims.{IsRight, claim-found, claim-again, free-claim}
+use Rattle.mdp_claims.specs.declared.subsystem.Flow.{Flow}
+use Rattle.mdp_text.proofs.{Cuts.{same-number, number-same}, Pieces.{Free}, Feeds.{ok-is, bind_ok, judged-found, judged-again, nothing-found}}
 use Rattle.mdp_text.proofs.States.{fraction-found, fraction-again, free-fraction}
-use Rattle.mdp_text.proofs.HeadLines as heads
+use Rattle.mdp_cert.proofs.Claims.{IsRight, claim-found, claim-again, free-claim}
 use Rattle.mdp_cert.proofs.Numbered.{version-found, version-again, free-version, init-found, init-again, free-init}
 use Rattle.mdp_cert.proofs.Columns.{IsColumns, IsValue, fraction-is_value, reward-is_value, bound-is_columns, policy-is_columns, mean-is_columns, same-words}
-use Rattle.mdp_cert.proofs.Growth.{three-entries, four-entries}
-use Rattle.mdp_cert.proofs.Means.{back, means-of}
-use Rattle.mdp_cert.proofs.Bodies.{Each, closed-found, closed-again}
-use Rattle.mdp_cert.proofs.OneByOne.{to_end-found, to_end-again}
-use Rattle.mdp_cert.proofs.Kept.{IsNextLine, flow-is_listed, lines-of, flow-entries, flow-width, flows-again}
+use Rattle.mdp_cert.proofs.{Growth.{three-entries, four-entries}, Means.{back, means-of}, Bodies.{Each, closed-found, closed-again}}
+use Rattle.mdp_cert.proofs.{OneByOne.{to_end-found, to_end-again}, Kept.{IsNextLine, flow-is_listed, lines-of, flow-entries, flow-width, flows-again}}
 use Rattle.mdp_cert.proofs.Kept.{FloorLists, IsNextFloor, floor-is_listed, floors-of, floor-values, floor-ranks, floor-entries, floor-counts, floors-back, floors-next}
 use Rattle.mdp_cert.proofs.Policies.{length-policies, values-policies, choices-policies, ranks-policies, policies-of}
+use Rattle.mdp_text.proofs.HeadLines as heads
 
 -- ---- the head
 

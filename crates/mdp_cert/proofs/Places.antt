@@ -1,13 +1,10 @@
 -- The line of each place of a subsystem's lists.
 use Rattle.std.proofs.Common.{◌≡◌, ℕ, zero, suc, ◌-◌, ◌<◌, ◌≤◌, min, Bool, List, [], ◌∷◌, ◌++◌, length, map, get_or, refl, sym, ap, ◌∙◌, arith}
-use Rattle.std.proofs.lemmas.Bool.Decides.{nat_tests}
-use Rattle.std.proofs.lemmas.List.{length-append, length-map}
+use Rattle.std.proofs.{lemmas.Bool.Decides.{nat_tests}, lemmas.List.{length-append, length-map}}
 use Rattle.mdp_math.specs.Rational.{ℚ}
 use Rattle.mdp_claims.specs.declared.subsystem.Flow.{Flow}
-use Rattle.mdp_cert.specs.declared.flow_line.FlowLine.{FlowLine}
-use Rattle.mdp_cert.specs.declared.flow_line.FlowLine.TheVariants.{Keep, Send}
-use Rattle.mdp_cert.specs.declared.floor_line.FloorLine.{FloorLine}
-use Rattle.mdp_cert.specs.Witness.{keep_lines, flow_lines, floor_lines}
+use Rattle.mdp_cert.specs.{declared.flow_line.FlowLine.{FlowLine}, declared.flow_line.FlowLine.TheVariants.{Keep, Send}}
+use Rattle.mdp_cert.specs.{declared.floor_line.FloorLine.{FloorLine}, Witness.{keep_lines, flow_lines, floor_lines}}
 
 -- ---- for `max`
 

@@ -1,7 +1,6 @@
 -- Three lists as one list of entries.
 use Rattle.std.proofs.Common.{◌≡◌, ℕ, zero, suc, ◌<◌, List, [], ◌∷◌, length, map, get_or, refl, ap, arith}
-use Rattle.mdp_cert.specs.declared.policy_entry.PolicyEntry.{PolicyEntry}
-use Rattle.mdp_cert.specs.Claims.{policies}
+use Rattle.mdp_cert.specs.{declared.policy_entry.PolicyEntry.{PolicyEntry}, Claims.{policies}}
 
 abbrev pub entry : {V : Type 0} → V → ℕ → ℕ → PolicyEntry V
 entry z c r = record { value = z; choice = c; rank = r }

@@ -1,11 +1,10 @@
 -- How long the lines of the states are in a text of runs: where the words of an entry have at most 340 bytes, at most 380 bytes for each state.
 use Rattle.std.proofs.Common.{◌≡◌, ℕ, suc, ◌+◌, ◌*◌, ◌<◌, ◌≤◌, ◌^◌, Bool, true, false, cond, eqb, List, [], ◌∷◌, ◌++◌, length, codes, decimal, refl, arith, lit<}
-use Rattle.std.specs.List.{AllByRecursion as Each}
 use Rattle.std.proofs.lemmas.List.{length-append}
+use Rattle.std.specs.List.{AllByRecursion as Each}
 use Rattle.mdp_text.proofs.Lengths.{number_short, blank_length, line_length}
 use Rattle.mdp_text.specs.Spelling.{line, ◌␣◌, end_text}
-use Rattle.mdp_cert.specs.Runs.{Columns, Run, run, single, before_runs, longest_runs}
-use Rattle.mdp_cert.specs.Spelling.{entry_text, run_text, run_lines}
+use Rattle.mdp_cert.specs.{Runs.{Columns, Run, run, single, before_runs, longest_runs}, Spelling.{entry_text, run_text, run_lines}}
 
 -- the lines of the states, and the line `end`
 abbrev pub lines_of : {A : Type 0} → Columns A → List A → List ℕ

@@ -1,11 +1,8 @@
 -- The longest runs of a list, entry by entry.
 use Rattle.std.proofs.Common.{◌≡◌, ℕ, suc, ◌+◌, ◌<◌, ◌≤◌, Bool, true, false, cond, List, [], ◌∷◌, length, drop, get_or, refl, sym, ap, ◌∙◌, arith}
-use Rattle.std.proofs.lemmas.List.{length-drop, drop-drop}
-use Rattle.std.proofs.Math.Seq.{drop-cons}
-use Rattle.mdp_cert.specs.declared.version.Version.{Version}
-use Rattle.mdp_cert.specs.declared.version.Version.TheVariants.{One, Two}
-use Rattle.mdp_cert.specs.Runs.{Columns, Run, run, single, before_runs, longest_runs, runs_in}
-use Rattle.mdp_cert.specs.Answer.{same_next, more_same, more_in}
+use Rattle.std.proofs.{lemmas.List.{length-drop, drop-drop}, Math.Seq.{drop-cons}}
+use Rattle.mdp_cert.specs.{declared.version.Version.{Version}, declared.version.Version.TheVariants.{One, Two}}
+use Rattle.mdp_cert.specs.{Runs.{Columns, Run, run, single, before_runs, longest_runs, runs_in}, Answer.{same_next, more_same, more_in}}
 
 module _ {A : Type 0} (k : Columns A) where
   longest-first : (x : A) (xs : List A) → longest_runs k (x ∷ xs) ≡ run x (more_same k (x ∷ xs)) ∷ longest_runs k (drop (more_same k (x ∷ xs)) xs)

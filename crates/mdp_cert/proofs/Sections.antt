@@ -1,23 +1,14 @@
 -- The lines of states are read exactly where they are the lines of their runs.
 use Rattle.std.proofs.Common.{◌≡◌, ℕ, zero, suc, ◌+◌, ◌-◌, ◌<◌, ◌≤◌, ◌^◌, Bool, true, false, not, cond, eqb, ltb}
-use Rattle.std.proofs.Common.{◌||◌, List, [], ◌∷◌, length, drop, decimal, Option, Result, Ok, refl, sym, ap, ap₂, subst, ◌∙◌, arith}
-use Rattle.std.specs.Prelude.{codes}
-use Rattle.std.specs.List.{join_with_byte}
-use Rattle.std.proofs.lemmas.Bool.{not-false}
+use Rattle.std.proofs.{Common.{◌||◌, List, [], ◌∷◌, length, drop, decimal, Option, Result, Ok, refl, sym, ap, ap₂, subst, ◌∙◌, arith}, lemmas.Bool.{not-false}}
 use Rattle.std.proofs.lemmas.Bool.Decides.{nat_tests}
+use Rattle.std.specs.{Prelude.{codes}, List.{join_with_byte}}
 use Rattle.mdp_text.specs.declared.error.CertKind.TheVariants as kind
-use Rattle.mdp_text.specs.declared.error.Refusal.{Refusal}
-use Rattle.mdp_cert.specs.declared.version.Version.{Version}
-use Rattle.mdp_cert.specs.declared.version.Version.TheVariants.{One, Two}
-use Rattle.mdp_text.specs.Lines.{◌>>=◌, refuse_if}
-use Rattle.mdp_text.specs.Words.{words, first_of, begins_with, words_behind, whole_at}
-use Rattle.mdp_cert.specs.Runs.{Columns, Run, run, single}
+use Rattle.mdp_text.specs.{declared.error.Refusal.{Refusal}, Lines.{◌>>=◌, refuse_if}, Words.{words, first_of, begins_with, words_behind, whole_at}}
 use Rattle.mdp_text.specs.Spelling.{◌␣◌}
-use Rattle.mdp_cert.specs.Spelling.{entry_text, run_text}
-use Rattle.mdp_cert.specs.Reading.{entry_at, state_at, run_at, is_same, line_of_states, longest_at, run_in}
-use Rattle.mdp_text.proofs.Pieces.{Free}
-use Rattle.mdp_text.proofs.Cuts.{same-number, number-same}
-use Rattle.mdp_text.proofs.Feeds.{bind_ok, ok-is, refuse_ok, found_ok, whole-found, whole-again}
+use Rattle.mdp_cert.specs.{declared.version.Version.{Version}, declared.version.Version.TheVariants.{One, Two}, Runs.{Columns, Run, run, single}}
+use Rattle.mdp_cert.specs.{Spelling.{entry_text, run_text}, Reading.{entry_at, state_at, run_at, is_same, line_of_states, longest_at, run_in}}
+use Rattle.mdp_text.proofs.{Pieces.{Free}, Cuts.{same-number, number-same}, Feeds.{bind_ok, ok-is, refuse_ok, found_ok, whole-found, whole-again}}
 use Rattle.mdp_text.proofs.Joined.{join-front, free-join, free-whole, behind-again, behind-text, first-rest}
 use Rattle.mdp_cert.proofs.Columns.{IsColumns}
 

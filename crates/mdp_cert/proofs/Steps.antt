@@ -1,15 +1,9 @@
 -- One more line of states: the entries read so far, followed by what the other lines give.
 use Rattle.std.proofs.Common.{◌≡◌, ℕ, zero, suc, ◌+◌, ◌-◌, ◌<◌, ◌≤◌, true, false, cond, ltb, List, []}
-use Rattle.std.proofs.Common.{◌++◌, Option, Some, None, Result, Ok, Err, refl, sym, ap, ◌∙◌, append_assoc, arith}
-use Rattle.std.proofs.Math.ListN.{replicate}
-use Rattle.std.proofs.lemmas.Bool.{lt-ltb}
-use Rattle.std.proofs.lemmas.Bool.Decides.{nat_tests}
-use Rattle.std.proofs.lemmas.List.{append-nil}
-use Rattle.mdp_text.specs.declared.error.Refusal.{Refusal}
-use Rattle.mdp_cert.specs.declared.version.Version.{Version}
-use Rattle.mdp_text.specs.Lines.{◌>>=◌, Place, next_line, line_by}
-use Rattle.mdp_cert.specs.Runs.{Columns, Run, run, entries_of}
-use Rattle.mdp_cert.specs.Reading.{run_in, onto_run, runs_from, entries_from}
+use Rattle.std.proofs.{Common.{◌++◌, Option, Some, None, Result, Ok, Err, refl, sym, ap, ◌∙◌, append_assoc, arith}, Math.ListN.{replicate}}
+use Rattle.std.proofs.{lemmas.Bool.{lt-ltb}, lemmas.Bool.Decides.{nat_tests}, lemmas.List.{append-nil}}
+use Rattle.mdp_text.specs.{declared.error.Refusal.{Refusal}, Lines.{◌>>=◌, Place, next_line, line_by}}
+use Rattle.mdp_cert.specs.{declared.version.Version.{Version}, Runs.{Columns, Run, run, entries_of}, Reading.{run_in, onto_run, runs_from, entries_from}}
 
 module _ {A : Type 0} (v : Version) (k : Columns A) (states : ℕ) where
   abbrev pub onto : List A → Result (List (Run A) × Place) Refusal → Result (List A × Place) Refusal

@@ -1,13 +1,9 @@
 -- How an answer of the program stands to the definition.
 use Rattle.std.specs.Prelude.{ℕ, suc, Bool, false, List, [], ◌∷◌, if◌then◌else◌}
-use Rattle.mdp_cert.specs.declared.head.Head.{Head}
-use Rattle.mdp_cert.specs.declared.version.Version.{Version}
-use Rattle.mdp_cert.specs.declared.version.Version.TheVariants.{One, Two}
-use Rattle.mdp_cert.specs.declared.claim_words.ClaimWords.{ClaimWords}
-use Rattle.mdp_cert.specs.declared.claim_words.ClaimWords.TheVariants as words
-use Rattle.mdp_cert.specs.Cert.{PlainClaim, upper, reach, reward, mean, witness, plain_claim}
-use Rattle.mdp_cert.specs.Runs.{Columns}
+use Rattle.mdp_cert.specs.{declared.head.Head.{Head}, declared.version.Version.{Version}, declared.version.Version.TheVariants.{One, Two}}
+use Rattle.mdp_cert.specs.{declared.claim_words.ClaimWords.{ClaimWords}, Cert.{PlainClaim, upper, reach, reward, mean, witness, plain_claim}, Runs.{Columns}}
 use Rattle.mdp_cert.specs.Reading.{CertHead}
+use Rattle.mdp_cert.specs.declared.claim_words.ClaimWords.TheVariants as words
 
 -- the claim that these words say
 abbrev pub said_claim : ClaimWords → PlainClaim

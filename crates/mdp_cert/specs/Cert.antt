@@ -2,16 +2,10 @@
 use Rattle.std.specs.Prelude.{ℕ, ◌<◌, ◌≤◌, ◌^◌, pos, Bool, true, false, not, ◌||◌, ◌&&◌, IsTrue, List, [], ◌∷◌, length, nat_lt, int_le, ◌==◌, All, Option, Some, None}
 use Rattle.mdp_math.specs.Rational.{ℚ}
 use Rattle.mdp_num.specs.Value.{IsNarrow}
-use Rattle.mdp_rows.specs.Name.{is_name}
-use Rattle.mdp_rows.specs.declared.dir.Dir.{Dir}
-use Rattle.mdp_rows.specs.declared.dir.Dir.TheVariants.{Max, Min}
+use Rattle.mdp_rows.specs.{Name.{is_name}, declared.dir.Dir.{Dir}, declared.dir.Dir.TheVariants.{Max, Min}}
 use Rattle.mdp_claims.specs.declared.subsystem.Flow.{Flow}
-use Rattle.mdp_cert.specs.declared.claim.Claim.{Claim}
-use Rattle.mdp_cert.specs.declared.claim.Claim.TheVariants.{Upper, Reach, Reward, Mean, Witness}
-use Rattle.mdp_text.specs.declared.init.Init.{Init}
-use Rattle.mdp_text.specs.declared.init.Init.TheVariants.{Missing, Finite, Infinite, Start}
-use Rattle.mdp_text.specs.Heads.{IsInitInWidth}
-use Rattle.mdp_cert.specs.declared.body.Body.{Body}
+use Rattle.mdp_cert.specs.{declared.claim.Claim.{Claim}, declared.claim.Claim.TheVariants.{Upper, Reach, Reward, Mean, Witness}, declared.body.Body.{Body}}
+use Rattle.mdp_text.specs.{declared.init.Init.{Init}, declared.init.Init.TheVariants.{Missing, Finite, Infinite, Start}, Heads.{IsInitInWidth}}
 use Rattle.mdp_cert.specs.declared.body.Body.TheVariants as body
 
 -- a claim and the names in it: a label, a reward model and a label, a reward model, or a label and a threshold

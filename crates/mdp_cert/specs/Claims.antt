@@ -1,13 +1,9 @@
 -- The words of each claim behind the number of a state.
 use Rattle.std.specs.Prelude.{ℕ, ◌<◌, ◌^◌, Bool, true, false, ◌&&◌, ◌==◌, List, [], ◌∷◌, decimal, codes, Option, Some, None, option_and_then}
 use Rattle.mdp_math.specs.Rational.{ℚ}
-use Rattle.mdp_num.specs.Value.{spelling, IsNarrow}
-use Rattle.mdp_num.specs.Canonical.{canonical_of}
-use Rattle.mdp_num.specs.Equal.{eq_ℚ}
-use Rattle.mdp_cert.specs.declared.mean_entry.MeanEntry.{MeanEntry}
-use Rattle.mdp_cert.specs.declared.policy_entry.PolicyEntry.{PolicyEntry}
+use Rattle.mdp_num.specs.{Value.{spelling, IsNarrow}, Canonical.{canonical_of}, Equal.{eq_ℚ}}
+use Rattle.mdp_cert.specs.{declared.mean_entry.MeanEntry.{MeanEntry}, declared.policy_entry.PolicyEntry.{PolicyEntry}, Runs.{Columns}}
 use Rattle.mdp_text.specs.Words.{whole_of, reward_parse}
-use Rattle.mdp_cert.specs.Runs.{Columns}
 
 -- ---- values of one word
 

@@ -1,17 +1,11 @@
 -- Certificates and their texts.
 use Rattle.std.specs.Prelude.{◌≡◌, ◌↔◌, ◌⊎◌, ℕ, zero, suc, ◌-◌, ◌<◌, true, List, [], ◌++◌, length, drop, Result, Ok, Err, nat_lt, if◌then◌else◌}
 use Rattle.std.specs.List.{position_or_len, before_first, after_first}
-use Rattle.mdp_text.specs.declared.error.CertKind.TheVariants.{End}
-use Rattle.mdp_text.specs.declared.error.Refusal.{Refusal}
-use Rattle.mdp_cert.specs.declared.version.Version.{Version}
-use Rattle.mdp_cert.specs.Cert.{Certificate, IsValueNarrow, Fits}
-use Rattle.mdp_num.specs.Value.{IsNarrow}
-use Rattle.mdp_text.specs.Lines.{is_line_feed}
-use Rattle.mdp_cert.specs.Runs.{Columns}
+use Rattle.mdp_text.specs.{declared.error.CertKind.TheVariants.{End}, declared.error.Refusal.{Refusal}, Lines.{is_line_feed}, Spelling.{line}}
+use Rattle.mdp_cert.specs.{declared.version.Version.{Version}, Cert.{Certificate, IsValueNarrow, Fits}, Runs.{Columns}}
 use Rattle.mdp_cert.specs.Claims.{fraction_value, reward_value, bound_columns, policy_columns, IsPolicyInWidth, mean_columns, IsMeanInWidth}
-use Rattle.mdp_text.specs.Spelling.{line}
-use Rattle.mdp_cert.specs.Spelling.{text_in, text_of, old_text_of}
-use Rattle.mdp_cert.specs.Reading.{outcome}
+use Rattle.mdp_cert.specs.{Spelling.{text_in, text_of, old_text_of}, Reading.{outcome}}
+use Rattle.mdp_num.specs.Value.{IsNarrow}
 
 -- what is read is the certificate of which the bytes are one of the two texts
 abbrev pub IsReadFromText : Type 0

@@ -8,3 +8,10 @@ pub mod Spelling
 pub mod Reading
 pub mod Answer
 pub mod Laws
+pub mod BoundsCert
+pub mod BoundsPlain
+pub mod Entries
+pub mod BoundsSpelling
+pub mod BoundsReading
+pub mod Code
+pub mod BoundsLaws

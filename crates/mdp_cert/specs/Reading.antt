@@ -2,31 +2,20 @@
 -- by its numbers from left to right, then by what they count, and in version 2 by whether it could be one line with the line before it.
 use Rattle.std.specs.Prelude.{ℕ, zero, suc, ◌+◌, ◌-◌, Bool, false, not, ◌||◌, ◌&&◌, List, [], ◌∷◌}
 use Rattle.std.specs.Prelude.{length, map, take, drop, Option, Some, None, option_and_then, option_map, Result, Ok, nat_lt, ◌==◌, if◌then◌else◌, codes}
-use Rattle.std.specs.List.{position_or_len, before_first}
-use Rattle.std.specs.Option.{option_or}
-use Rattle.std.specs.Str.{bytes_eq}
+use Rattle.std.specs.{List.{position_or_len, before_first}, Option.{option_or}, Str.{bytes_eq}}
 use Rattle.mdp_math.specs.Rational.{ℚ}
 use Rattle.mdp_num.specs.Canonical.{canonical_of}
-use Rattle.mdp_rows.specs.declared.dir.Dir.{Dir}
-use Rattle.mdp_rows.specs.declared.dir.Dir.TheVariants.{Max, Min}
-use Rattle.mdp_rows.specs.Name.{is_name}
+use Rattle.mdp_rows.specs.{declared.dir.Dir.{Dir}, declared.dir.Dir.TheVariants.{Max, Min}, Name.{is_name}}
 use Rattle.mdp_text.specs.declared.error.CertKind.TheVariants as kind
-use Rattle.mdp_text.specs.declared.error.Refusal.{Refusal}
-use Rattle.mdp_text.specs.declared.init.Init.{Init}
-use Rattle.mdp_cert.specs.declared.version.Version.{Version}
-use Rattle.mdp_cert.specs.declared.version.Version.TheVariants.{One, Two}
-use Rattle.mdp_cert.specs.declared.mean_entry.MeanEntry.{MeanEntry}
-use Rattle.mdp_cert.specs.declared.policy_entry.PolicyEntry.{PolicyEntry}
-use Rattle.mdp_cert.specs.Cert.{PlainClaim, upper, reach, reward, mean, witness, may_be_infinite, is_witness, is_at_least_zero, PlainBody, bounds, policy, rewards, gains, Certificate}
+use Rattle.mdp_text.specs.{declared.error.Refusal.{Refusal}, declared.init.Init.{Init}}
 use Rattle.mdp_text.specs.Lines.{◌>>=◌, refused, refuse_if, or_refused, is_line, Place, place, line_by, nothing_behind}
 use Rattle.mdp_text.specs.Heads.{valued_at, start_at, Head, head_by}
-use Rattle.mdp_text.specs.Words.{words, first_of, begins_with, words_behind, whole_at, frac_at, behind, is_quote, name_and_rest}
-use Rattle.mdp_cert.specs.Runs.{Columns, Run, run, single, entries_of}
-use Rattle.mdp_cert.specs.Claims.{fraction_value, reward_value, bound_columns, policy_columns, mean_columns}
-use Rattle.mdp_cert.specs.Listed.{Listed}
-use Rattle.mdp_cert.specs.Witness.{flow_listed, flow_body, floor_listed, floor_body}
-use Rattle.mdp_text.specs.Spelling.{end_text}
-use Rattle.mdp_cert.specs.Spelling.{version_text}
+use Rattle.mdp_text.specs.{Words.{words, first_of, begins_with, words_behind, whole_at, frac_at, behind, is_quote, name_and_rest}, Spelling.{end_text}}
+use Rattle.mdp_cert.specs.{declared.version.Version.{Version}, declared.version.Version.TheVariants.{One, Two}, declared.mean_entry.MeanEntry.{MeanEntry}}
+use Rattle.mdp_cert.specs.declared.policy_entry.PolicyEntry.{PolicyEntry}
+use Rattle.mdp_cert.specs.Cert.{PlainClaim, upper, reach, reward, mean, witness, may_be_infinite, is_witness, is_at_least_zero, PlainBody, bounds, policy, rewards, gains, Certificate}
+use Rattle.mdp_cert.specs.{Runs.{Columns, Run, run, single, entries_of}, Claims.{fraction_value, reward_value, bound_columns, policy_columns, mean_columns}}
+use Rattle.mdp_cert.specs.{Listed.{Listed}, Witness.{flow_listed, flow_body, floor_listed, floor_body}, Spelling.{version_text}}
 
 -- ---- the version
 

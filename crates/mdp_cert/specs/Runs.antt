@@ -2,8 +2,7 @@
 -- states with the same words. A claim gives the words that stand behind the state's number, and nothing else.
 use Rattle.std.specs.Prelude.{ℕ, suc, Bool, List, [], ◌∷◌, ◌++◌, map, Option, if◌then◌else◌}
 use Rattle.std.proofs.Math.ListN.{replicate}
-use Rattle.mdp_cert.specs.declared.version.Version.{Version}
-use Rattle.mdp_cert.specs.declared.version.Version.TheVariants.{One, Two}
+use Rattle.mdp_cert.specs.{declared.version.Version.{Version}, declared.version.Version.TheVariants.{One, Two}}
 
 -- the words behind a state's number: how many there are, what they say (none where one of them isn't the number that is due), how they are
 -- spelled, and whether two states say the same

@@ -1,19 +1,14 @@
 -- The lines of a witnessing subsystem: the states that are kept, and what is said of them.
 use Rattle.std.specs.Prelude.{ℕ, Bool, true, false, not, ◌&&◌, List, [], ◌∷◌, ◌++◌, map, drop, decimal, codes, nat_lt}
-use Rattle.std.specs.Prelude.{Option, Some, None, is_some, option_and_then, option_map, filter_map, Result, Ok, if◌then◌else◌}
-use Rattle.std.specs.Str.{bytes_eq}
+use Rattle.std.specs.{Prelude.{Option, Some, None, is_some, option_and_then, option_map, filter_map, Result, Ok, if◌then◌else◌}, Str.{bytes_eq}}
 use Rattle.mdp_math.specs.Rational.{ℚ}
 use Rattle.mdp_num.specs.Value.{spelling}
 use Rattle.mdp_claims.specs.declared.subsystem.Flow.{Flow}
 use Rattle.mdp_text.specs.declared.error.CertKind.TheVariants as kind
-use Rattle.mdp_text.specs.declared.error.Refusal.{Refusal}
-use Rattle.mdp_cert.specs.declared.flow_line.FlowLine.{FlowLine}
-use Rattle.mdp_cert.specs.declared.flow_line.FlowLine.TheVariants.{Keep, Send}
-use Rattle.mdp_cert.specs.declared.floor_line.FloorLine.{FloorLine}
-use Rattle.mdp_cert.specs.Cert.{PlainBody, flow, floor, is_next, is_next_flow}
-use Rattle.mdp_text.specs.Lines.{◌>>=◌, refused, refuse_if}
-use Rattle.mdp_cert.specs.Listed.{Listed}
+use Rattle.mdp_text.specs.{declared.error.Refusal.{Refusal}, Lines.{◌>>=◌, refused, refuse_if}}
 use Rattle.mdp_text.specs.Words.{words, first_of, begins_with, words_behind, whole_at, frac_at}
+use Rattle.mdp_cert.specs.{declared.flow_line.FlowLine.{FlowLine}, declared.flow_line.FlowLine.TheVariants.{Keep, Send}}
+use Rattle.mdp_cert.specs.{declared.floor_line.FloorLine.{FloorLine}, Cert.{PlainBody, flow, floor, is_next, is_next_flow}, Listed.{Listed}}
 
 -- why a state is kept: the subsystem needs it, or without it a number is past width
 abbrev pub mark_text : Bool → List ℕ

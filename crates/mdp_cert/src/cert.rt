@@ -23,8 +23,7 @@ pub struct Cert {
 }
 
 impl Cert {
-    ghost use Rattle.mdp_cert.specs.Cert.{Fits};
-    ghost use Rattle.mdp_cert.specs.Plain.{plain};
+    ghost use Rattle.mdp_cert.specs.{Cert.{Fits}, Plain.{plain}};
 
     /// What each certificate keeps: it has a text of each version, and `text_law` says that both are read as this certificate.
     pub fn known(&self)

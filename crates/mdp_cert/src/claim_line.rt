@@ -1,11 +1,9 @@
 ghost use Rattle.std.specs.Prelude.{◌≡◌, Ok, Some, None, IfOk, MatchResult, MatchOption, option_and_then, option_map};
 ghost use Rattle.mdp_rows.specs.Name.{is_name};
-ghost use Rattle.mdp_cert.specs.Cert.{plain_claim};
-ghost use Rattle.mdp_text.specs.Words.{behind, name_and_rest};
-ghost use Rattle.mdp_cert.specs.Reading.{closed_name, name_behind, two_names, upper_claim, reach_front};
+ghost use Rattle.mdp_cert.specs.{Cert.{plain_claim}, Reading.{closed_name, name_behind, two_names, upper_claim, reach_front}};
 ghost use Rattle.mdp_cert.specs.Reading.{reach_claim, reward_front, reward_claim, mean_front, mean_claim, threshold_of, name_and_threshold, witness_front, witness_claim, claim_to, claim_of, claim_at};
-ghost use Rattle.mdp_text.specs.Answer.{Refuses};
 ghost use Rattle.mdp_cert.specs.Answer.{said_claim};
+ghost use Rattle.mdp_text.specs.{Words.{behind, name_and_rest}, Answer.{Refuses}};
 
 use crate::claim::Claim;
 use crate::claim_words::ClaimWords;

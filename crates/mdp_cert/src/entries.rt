@@ -1,8 +1,6 @@
 ghost use Rattle.std.specs.Prelude.{◌≡◌, ◌<◌, ◌++◌, List, length, slice_index_or, OnOk};
-ghost use Rattle.mdp_text.specs.Answer.{Keeps};
-ghost use Rattle.mdp_cert.specs.Runs.{Columns};
-ghost use Rattle.mdp_cert.specs.Spelling.{entry_text};
-ghost use Rattle.mdp_text.specs.Words.{words};
+ghost use Rattle.mdp_text.specs.{Answer.{Keeps}, Words.{words}};
+ghost use Rattle.mdp_cert.specs.{Runs.{Columns}, Spelling.{entry_text}};
 
 use mdp_num::Memory;
 

@@ -1,6 +1,5 @@
 ghost use Rattle.std.specs.Prelude.{◌≡◌, IfOk, option_map};
-ghost use Rattle.mdp_cert.specs.Cert.{plain_body};
-ghost use Rattle.mdp_cert.specs.Witness.{floor_line_at, floor_listed, floor_lines, floor_body};
+ghost use Rattle.mdp_cert.specs.{Cert.{plain_body}, Witness.{floor_line_at, floor_listed, floor_lines, floor_body}};
 
 use crate::body::Body;
 use crate::column::{Column, column_of};

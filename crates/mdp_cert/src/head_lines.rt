@@ -1,10 +1,6 @@
 ghost use Rattle.std.specs.Prelude.{◌≡◌, Ok, MatchResult};
-ghost use Rattle.mdp_text.specs.Answer.{Refuses};
-ghost use Rattle.mdp_cert.specs.Answer.{plain_head};
-ghost use Rattle.mdp_cert.specs.Cert.{plain_claim, may_be_infinite};
-ghost use Rattle.mdp_text.specs.Lines.{place};
-ghost use Rattle.mdp_text.specs.Heads.{start_at, valued_at};
-ghost use Rattle.mdp_cert.specs.Reading.{version_at, init_at, head_from};
+ghost use Rattle.mdp_text.specs.{Answer.{Refuses}, Lines.{place}, Heads.{start_at, valued_at}};
+ghost use Rattle.mdp_cert.specs.{Answer.{plain_head}, Cert.{plain_claim, may_be_infinite}, Reading.{version_at, init_at, head_from}};
 
 use crate::claim::Claim;
 use crate::claim_line::claim_at;

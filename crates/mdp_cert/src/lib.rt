@@ -1,4 +1,5 @@
-//! The text of certificates in two versions: written, and read exactly, with the first line that breaks a rule.
+//! The text of certificates in two versions, and that of certificates of bounds, `mdp-bounds 1`: written, and read exactly, with the first line that
+//! breaks a rule.
 //!
 //! The lines of states are the same for all claims: in version 1 a line for each state, in version 2 a line for each longest run of states with
 //! the same words. They are read in `state_lines` and written in `write`, over any `Entry`: the words behind a state's number. To add a claim with
@@ -8,10 +9,17 @@
 //! the `Lines` that keep it instead (`Listed` in specs/Listed, `IsListed` in proofs/OneByOne); `listed` reads and writes them.
 //! docs/certificates.md has the steps one by one.
 //!
-//! What the text of certificates of bounds shares with these is public: the line of the claim, that of the spread, and the lines of states.
+//! What the texts of discounted rewards share with these is public: the words of values, and the lines of states.
 #![tactic(auto)]
 
 mod body;
+mod bounds_body;
+mod bounds_cert;
+mod bounds_head;
+mod bounds_head_lines;
+mod bounds_laws;
+mod bounds_read;
+mod bounds_write;
 mod cert;
 mod claim;
 mod claim_line;
@@ -22,8 +30,11 @@ mod floor_line;
 mod floor_lines;
 mod flow_line;
 mod flow_lines;
+mod gains_entry;
+mod gains_lines;
 mod head;
 mod head_lines;
+mod init;
 mod laws;
 mod listed;
 mod mark;
@@ -32,6 +43,8 @@ mod mean_lines;
 mod policy_entry;
 mod policy_lines;
 mod push;
+mod ranked_entry;
+mod ranked_lines;
 mod read;
 mod state_lines;
 mod upper_lines;
@@ -42,12 +55,18 @@ mod words;
 mod write;
 
 pub use body::Body;
+pub use bounds_body::BoundsBody;
+pub use bounds_cert::BoundsCert;
+pub use bounds_laws::bounds_text_law;
+pub use bounds_read::read_bounds;
+pub use bounds_write::write_bounds;
 pub use cert::Cert;
 pub use claim::Claim;
 pub use claim_line::claim_at;
 pub use column::{Column, column_of};
 pub use entries::{Entry, Lists};
 pub use head_lines::may_be_infinite;
+pub use init::BoundsInit;
 pub use laws::{refusal_law, text_law};
 pub use mdp_text::{CertError, CertKind, Init, Refusal};
 pub use mean_lines::spread_at;

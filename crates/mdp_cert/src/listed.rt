@@ -1,11 +1,6 @@
-ghost use Rattle.std.specs.Prelude.{◌≡◌, ◌<◌, ◌^◌, ◌++◌, List, Ok, length, slice_index_or, OnOk, MatchResult};
-ghost use Rattle.std.specs.List.{join_with_byte};
-ghost use Rattle.mdp_text.specs.Answer.{Keeps, Refuses};
-ghost use Rattle.mdp_text.specs.Lines.{place};
-ghost use Rattle.mdp_cert.specs.Listed.{Listed};
-ghost use Rattle.mdp_text.specs.Spelling.{line};
-ghost use Rattle.mdp_cert.specs.Spelling.{listed_lines};
-ghost use Rattle.mdp_cert.specs.Reading.{listed_at, listed_to_end};
+ghost use Rattle.std.specs.{Prelude.{◌≡◌, ◌<◌, ◌^◌, ◌++◌, List, Ok, length, slice_index_or, OnOk, MatchResult}, List.{join_with_byte}};
+ghost use Rattle.mdp_text.specs.{Answer.{Keeps, Refuses}, Lines.{place}, Spelling.{line}};
+ghost use Rattle.mdp_cert.specs.{Listed.{Listed}, Spelling.{listed_lines}, Reading.{listed_at, listed_to_end}};
 
 use mdp_num::Memory;
 use mdp_text::Part::Bytes;

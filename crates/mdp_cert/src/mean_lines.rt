@@ -1,7 +1,5 @@
 ghost use Rattle.std.specs.Prelude.{◌≡◌, IfOk};
-ghost use Rattle.mdp_cert.specs.Cert.{plain_body};
-ghost use Rattle.mdp_cert.specs.Claims.{mean_columns, means};
-ghost use Rattle.mdp_cert.specs.Reading.{mean_body, spread_at};
+ghost use Rattle.mdp_cert.specs.{Cert.{plain_body}, Claims.{mean_columns, means}, Reading.{mean_body, spread_at}};
 
 use crate::body::Body;
 use crate::column::{Column, column_of};

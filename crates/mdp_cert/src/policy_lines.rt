@@ -1,7 +1,5 @@
 ghost use Rattle.std.specs.Prelude.{◌≡◌, ◌<◌, IfOk, length, slice_index_or};
-ghost use Rattle.mdp_cert.specs.Cert.{plain_body};
-ghost use Rattle.mdp_cert.specs.Claims.{policy_columns, policies};
-ghost use Rattle.mdp_cert.specs.Reading.{policy_body, reward_body};
+ghost use Rattle.mdp_cert.specs.{Cert.{plain_body}, Claims.{policy_columns, policies}, Reading.{policy_body, reward_body}};
 
 use crate::body::Body;
 use crate::column::{Column, column_of};

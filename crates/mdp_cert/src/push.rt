@@ -1,10 +1,7 @@
 ghost use Rattle.std.specs.Prelude.{◌≡◌, ◌<◌, ◌≤◌, ◌-◌, ◌++◌, ◌∷◌, [], OnOk};
 ghost use Rattle.mdp_num.specs.Value.{spelling};
-ghost use Rattle.mdp_cert.specs.Cert.{plain_claim};
-ghost use Rattle.mdp_cert.specs.Runs.{run};
-ghost use Rattle.mdp_text.specs.Spelling.{line};
-ghost use Rattle.mdp_cert.specs.Spelling.{claim_text, states_front, run_text, spread_text};
-ghost use Rattle.mdp_text.specs.Answer.{Keeps};
+ghost use Rattle.mdp_cert.specs.{Cert.{plain_claim}, Runs.{run}, Spelling.{claim_text, states_front, run_text, spread_text}};
+ghost use Rattle.mdp_text.specs.{Spelling.{line}, Answer.{Keeps}};
 
 use crate::claim::Claim;
 use crate::claim_line::{mean_front, reach_front, reward_front, witness_front};

@@ -1,10 +1,6 @@
 ghost use Rattle.std.specs.Prelude.{◌≡◌, Ok, IfOk, IfErr, MatchResult};
-ghost use Rattle.mdp_cert.specs.Cert.{plain_claim, plain_body};
-ghost use Rattle.mdp_cert.specs.Plain.{plain};
-ghost use Rattle.mdp_text.specs.Lines.{place, nothing_behind};
-ghost use Rattle.mdp_cert.specs.Reading.{mean_from, kept_from, body_from, outcome};
-ghost use Rattle.mdp_text.specs.Answer.{Refuses};
-ghost use Rattle.mdp_text.specs.declared.error.CertError.TheVariants.{Memory};
+ghost use Rattle.mdp_cert.specs.{Cert.{plain_claim, plain_body}, Plain.{plain}, Reading.{mean_from, kept_from, body_from, outcome}};
+ghost use Rattle.mdp_text.specs.{Lines.{place, nothing_behind}, Answer.{Refuses}, declared.error.CertError.TheVariants.{Memory}};
 
 use crate::body::Body;
 use crate::cert::Cert;

@@ -1,9 +1,7 @@
 ghost use Rattle.std.specs.Prelude.{◌≡◌, [], ◌+◌, ◌<◌, ◌≤◌, ◌^◌, ◌++◌, ◌==◌, ◌||◌, not, nat_lt, Ok, Err, OnOk, IfOk, MatchResult, length};
 ghost use Rattle.std.proofs.Math.ListN.{replicate};
-ghost use Rattle.mdp_text.specs.Answer.{Refuses};
-ghost use Rattle.mdp_text.specs.Lines.{place};
-ghost use Rattle.mdp_cert.specs.Runs.{run};
-ghost use Rattle.mdp_cert.specs.Reading.{state_at, run_at, is_same, line_of_states, longest_at, run_in, entries_from, entries_to_end};
+ghost use Rattle.mdp_text.specs.{Answer.{Refuses}, Lines.{place}};
+ghost use Rattle.mdp_cert.specs.{Runs.{run}, Reading.{state_at, run_at, is_same, line_of_states, longest_at, run_in, entries_from, entries_to_end}};
 
 use crate::entries::Entry;
 use crate::version::Version;

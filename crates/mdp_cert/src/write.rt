@@ -1,11 +1,8 @@
 ghost use Rattle.std.specs.Prelude.{◌≡◌, ◌++◌, ◌+◌, ◌<◌, OnOk, OnErr, length, drop};
-ghost use Rattle.mdp_cert.specs.Cert.{plain_body};
-ghost use Rattle.mdp_cert.specs.Plain.{plain};
-ghost use Rattle.mdp_cert.specs.Laws.{ReadsBack};
-ghost use Rattle.mdp_text.specs.Spelling.{line};
+ghost use Rattle.mdp_cert.specs.{Cert.{plain_body}, Plain.{plain}, Laws.{ReadsBack}};
 ghost use Rattle.mdp_cert.specs.Spelling.{state_lines, closed_lines, head_text, body_text, version_text, text_in, text_of, old_text_of};
-ghost use Rattle.mdp_text.specs.Answer.{Keeps};
 ghost use Rattle.mdp_cert.specs.Answer.{same_next, more_same, more_in};
+ghost use Rattle.mdp_text.specs.{Spelling.{line}, Answer.{Keeps}};
 
 use crate::body::Body;
 use crate::cert::Cert;

@@ -1,41 +1,25 @@
 -- A certificate is answered yes exactly where it is accepted, and then its claim is true.
 use Rattle.std.proofs.Common.{◌≡◌, ◌↔◌, ℕ, ◌<◌, Bool, true, false, cond, List, [], length, eqb, eqb-true, eq-eqb, Option, Some, None, refl, sym, ap, ◌∙◌}
-use Rattle.std.specs.Str.{bytes_eq}
-use Rattle.std.specs.Option.{option_map}
-use Rattle.std.proofs.Math.ListN.{replicate}
-use Rattle.std.proofs.lemmas.List.{length-map, length-replicate}
-use Rattle.std.proofs.lemmas.List.Quantifiers.{position-Some}
+use Rattle.std.proofs.{Math.ListN.{replicate}, lemmas.List.{length-map, length-replicate}, lemmas.List.Quantifiers.{position-Some}}
+use Rattle.std.specs.{Str.{bytes_eq}, Option.{option_map}}
 use Rattle.mdp_math.specs.Rational.{ℚ}
-use Rattle.mdp_spec.specs.Mdp.{Mdp, states_of}
-use Rattle.mdp_spec.specs.Labels.{place_of, marks_of, initial_of}
-use Rattle.mdp_spec.specs.Row.{IsMdp}
-use Rattle.mdp_farkas.specs.Verdict.{verdict_of, IfYes}
-use Rattle.mdp_farkas.specs.Upper.{upper_checks, IsUpper}
-use Rattle.mdp_farkas.specs.Reach.{reach_checks, IsReach}
-use Rattle.mdp_farkas.specs.Reward.{reward_checks, IsReward}
-use Rattle.mdp_farkas.specs.Mean.{mean_checks, IsMean}
-use Rattle.mdp_farkas.proofs.MeanRules.{mean_rules, mean_max, mean_min}
-use Rattle.mdp_farkas.proofs.UpperRules.{upper_rules, upper_bound}
-use Rattle.mdp_farkas.proofs.ReachRules.{reach_rules, reach_max, reach_min}
+use Rattle.mdp_spec.specs.{Mdp.{Mdp, states_of}, Labels.{place_of, marks_of, initial_of}, Row.{IsMdp}}
+use Rattle.mdp_farkas.specs.{Verdict.{verdict_of, IfYes}, Upper.{upper_checks, IsUpper}, Reach.{reach_checks, IsReach}, Reward.{reward_checks, IsReward}}
+use Rattle.mdp_farkas.specs.{Mean.{mean_checks, IsMean}, Initial.{init_fault}}
+use Rattle.mdp_farkas.proofs.{MeanRules.{mean_rules, mean_max, mean_min}, UpperRules.{upper_rules, upper_bound}, ReachRules.{reach_rules, reach_max, reach_min}}
 use Rattle.mdp_farkas.proofs.RewardRules.{reward_rules, reward_max, reward_min}
-use Rattle.mdp_claims.specs.declared.verdict.Verdict.{Verdict}
+use Rattle.mdp_claims.specs.{declared.verdict.Verdict.{Verdict}, declared.subsystem.Flow.{Flow}}
 use Rattle.mdp_claims.specs.declared.verdict.Verdict.TheVariants as verdict
-use Rattle.mdp_rows.specs.declared.dir.Dir.{Dir}
-use Rattle.mdp_rows.specs.declared.dir.Dir.TheVariants.{Max, Min}
+use Rattle.mdp_rows.specs.{declared.dir.Dir.{Dir}, declared.dir.Dir.TheVariants.{Max, Min}}
 use Rattle.mdp_cert.specs.Cert.{PlainClaim, upper, reach, reward, mean, witness, PlainBody, bounds, policy, rewards, gains, flow, floor, Certificate, is_body_of}
 use Rattle.mdp_cert.proofs.Growth.{policy-entries, reward-entries, gains-entries}
-use Rattle.mdp_claims.specs.declared.subsystem.Flow.{Flow}
-use Rattle.mdp_subsystem_rules.specs.FlowChecks.{flow_checks, HoldsFlow}
-use Rattle.mdp_subsystem_rules.specs.FloorChecks.{floor_checks, HoldsFloor}
-use Rattle.mdp_subsystem_rules.proofs.FlowRules.{flow_rules, flow_sub_max, flow_within}
-use Rattle.mdp_subsystem_rules.proofs.FloorRules.{floor_rules, floor_sub_min}
+use Rattle.mdp_subsystem_rules.specs.{FlowChecks.{flow_checks, HoldsFlow}, FloorChecks.{floor_checks, HoldsFloor}}
+use Rattle.mdp_subsystem_rules.proofs.{FlowRules.{flow_rules, flow_sub_max, flow_within}, FloorRules.{floor_rules, floor_sub_min}}
 use Rattle.mdp_text.specs.declared.init.Init.{Init}
 use Rattle.mdp_check.specs.Initial.{init_check, start_of}
-use Rattle.mdp_farkas.specs.Initial.{init_fault}
-use Rattle.mdp_check.proofs.Shapes.{flow_shape, floor_shape, start_below}
 use Rattle.mdp_check.specs.Check.{reward_place, labelled_marks, goal_marks, answer_of, verdict_by, body_verdict, after_init, at_goals, at_reward, answer_to, valid_by, IsAccepted, bound_by, IsBound}
-use Rattle.mdp_check.specs.declared.answer.Answer.{Answer}
-use Rattle.mdp_check.specs.declared.answer.Answer.TheVariants.{Yes, Size}
+use Rattle.mdp_check.specs.{declared.answer.Answer.{Answer}, declared.answer.Answer.TheVariants.{Yes, Size}}
+use Rattle.mdp_check.proofs.Shapes.{flow_shape, floor_shape, start_below}
 
 -- ---- one step of the answer after the other
 

@@ -1,27 +1,18 @@
 -- A certificate of bounds is answered yes exactly where it is accepted, and then its claim is true.
 use Rattle.std.proofs.Common.{◌≡◌, ◌↔◌, ℕ, Bool, true, cond, List, length, eqb, eqb-true, eq-eqb, Option, Some, None, refl, ap, ◌∙◌}
 use Rattle.mdp_math.specs.Rational.{ℚ}
-use Rattle.mdp_spec.specs.Mdp.{Mdp, states_of}
-use Rattle.mdp_spec.specs.Labels.{place_of, initial_of}
-use Rattle.mdp_spec.specs.Row.{IsMdp}
-use Rattle.mdp_rows.specs.declared.dir.Dir.{Dir}
-use Rattle.mdp_rows.specs.declared.dir.Dir.TheVariants.{Max, Min}
-use Rattle.mdp_farkas.specs.Initial.{init_fault}
-use Rattle.mdp_farkas.specs.Verdict.{verdict_of}
+use Rattle.mdp_spec.specs.{Mdp.{Mdp, states_of}, Labels.{place_of, initial_of}, Row.{IsMdp}}
+use Rattle.mdp_rows.specs.{declared.dir.Dir.{Dir}, declared.dir.Dir.TheVariants.{Max, Min}}
+use Rattle.mdp_farkas.specs.{Initial.{init_fault}, Verdict.{verdict_of}}
 use Rattle.mdp_claims.specs.declared.verdict.Verdict.{Verdict}
 use Rattle.mdp_claims.specs.declared.verdict.Verdict.TheVariants as verdict
-use Rattle.mdp_bounds.specs.Reach.{bounds_checks, IsReachBounds}
-use Rattle.mdp_bounds.specs.Reward.{reward_bounds_checks, IsRewardBounds}
-use Rattle.mdp_bounds.specs.Mean.{mean_bounds_checks, IsMeanBounds}
-use Rattle.mdp_bounds.proofs.ReachRules.{bounds_rules, bounds_max, bounds_min}
-use Rattle.mdp_bounds.proofs.RewardRules.{reward_bounds_rules, reward_bounds_max, reward_bounds_min}
+use Rattle.mdp_bounds.specs.{Reach.{bounds_checks, IsReachBounds}, Reward.{reward_bounds_checks, IsRewardBounds}, Mean.{mean_bounds_checks, IsMeanBounds}}
+use Rattle.mdp_bounds.proofs.{ReachRules.{bounds_rules, bounds_max, bounds_min}, RewardRules.{reward_bounds_rules, reward_bounds_max, reward_bounds_min}}
 use Rattle.mdp_bounds.proofs.MeanRules.{mean_bounds_rules, mean_bounds_max, mean_bounds_min}
 use Rattle.mdp_cert.specs.Cert.{PlainClaim, upper, reach, reward, mean, witness}
-use Rattle.mdp_bounds_text.specs.Cert.{PlainBounds, probabilities, rewards, gains, Certificate, is_body_of}
-use Rattle.mdp_check.proofs.Accepting.{by_size, yes_verdict, both_yes, of_if_yes, below_names, by_body}
-use Rattle.mdp_check.proofs.BoundsShapes.{are_four, are_five}
-use Rattle.mdp_check.specs.Check.{reward_place, goal_marks, answer_of, after_init}
-use Rattle.mdp_check.specs.BoundsInitial.{bounds_init_check}
+use Rattle.mdp_cert.specs.BoundsCert.{PlainBounds, probabilities, rewards, gains, Certificate, is_body_of}
+use Rattle.mdp_check.proofs.{Accepting.{by_size, yes_verdict, both_yes, of_if_yes, below_names, by_body}, BoundsShapes.{are_four, are_five}}
+use Rattle.mdp_check.specs.{Check.{reward_place, goal_marks, answer_of, after_init}, BoundsInitial.{bounds_init_check}}
 use Rattle.mdp_check.specs.Bounds.{bounds_verdict_by, bounds_verdict, bounds_at_goals, bounds_at_reward, bounds_answer_to, valid_bounds_by, IsBoundsAccepted, between_by, IsBoundsTrue}
 use Rattle.mdp_check.specs.declared.answer.Answer.TheVariants.{Yes, Size}
 

@@ -1,20 +1,16 @@
 -- Answers to certificates of bounds, computed, on the models of Examples.
 use Rattle.std.proofs.Common.{◌≡◌, ℕ, ◌+◌, ◌^◌, List, [], ◌∷◌, refl, pos, Option, Some, None}
 use Rattle.std.specs.Prelude.{codes}
-use Rattle.mdp_math.specs.Gcd.{gcd, gcd_with_fuel}
-use Rattle.mdp_math.specs.Rational.{ℚ, of_int, ratio, le_ℚ, lt_ℚ, neg_ℚ, ◌+ℚ◌, ◌*ℚ◌}
+use Rattle.mdp_math.specs.{Gcd.{gcd, gcd_with_fuel}, Rational.{ℚ, of_int, ratio, le_ℚ, lt_ℚ, neg_ℚ, ◌+ℚ◌, ◌*ℚ◌}}
 use Rattle.mdp_math.specs.Written.{narrow, narrow_ℚ, written_add, written_mul}
 use Rattle.mdp_spec.proofs.Small.{half, nought, one}
 use Rattle.mdp_rows.specs.declared.dir.Dir.TheVariants.{Max, Min}
 use Rattle.mdp_claims.specs.declared.rule.Rule.{Rule}
 use Rattle.mdp_claims.specs.declared.rule.Rule.TheVariants.{BiasOnPolicy, InitialState, RewardOnPolicy, ValueOnEachChoice, ValueOnPolicy}
-use Rattle.mdp_cert.specs.Cert.{reach, reward, mean}
-use Rattle.mdp_bounds_text.specs.Cert.{probabilities, rewards, gains, Certificate}
-use Rattle.mdp_bounds_text.specs.declared.init.BoundsInit.{BoundsInit}
-use Rattle.mdp_bounds_text.specs.declared.init.BoundsInit.TheVariants.{Missing, Between}
+use Rattle.mdp_cert.specs.{Cert.{reach, reward, mean}, BoundsCert.{probabilities, rewards, gains, Certificate}, declared.init.BoundsInit.{BoundsInit}}
+use Rattle.mdp_cert.specs.declared.init.BoundsInit.TheVariants.{Missing, Between}
 use Rattle.mdp_check.proofs.Examples.{three, two, turns}
-use Rattle.mdp_check.specs.Bounds.{bounds_answer_to}
-use Rattle.mdp_check.specs.declared.answer.Answer.{Answer}
+use Rattle.mdp_check.specs.{Bounds.{bounds_answer_to}, declared.answer.Answer.{Answer}}
 use Rattle.mdp_check.specs.declared.answer.Answer.TheVariants.{Yes, No, Wide, NoReward, NoLabel, Size}
 
 abbrev quarter : ℚ

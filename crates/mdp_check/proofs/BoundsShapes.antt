@@ -1,6 +1,5 @@
 -- The lists of a certificate of bounds that fit its claim have an entry for each state.
-use Rattle.std.proofs.Common.{◌≡◌, ℕ, eqb, eqb-true, ◌&&◌, true}
-use Rattle.std.proofs.lemmas.Bool.{and_parts}
+use Rattle.std.proofs.{Common.{◌≡◌, ℕ, eqb, eqb-true, ◌&&◌, true}, lemmas.Bool.{and_parts}}
 
 -- four numbers that are all this one
 pub record AreFour (n a b c d : ℕ) : Type 0 where

@@ -1,21 +1,16 @@
 -- The lists of a subsystem that fit its claim have the shape that its rules ask for, and its initial state is one of the model's.
 use Rattle.std.proofs.Common.{◌≡◌, ℕ, zero, suc, ◌<◌, Bool, true, false, cond, eqb, ltb, ◌&&◌, ◌||◌, List, [], ◌∷◌, length, get_or, Option, Some, None, refl, sym, ap, subst, ◌∙◌, arith}
+use Rattle.std.proofs.{lemmas.Bool.{and_parts, eqb-true, ltb-true}, lemmas.Bool.Decides.{nat_tests}, lemmas.List.Elements.{All-cons}}
 use Rattle.std.specs.List.{All}
-use Rattle.std.proofs.lemmas.Bool.{and_parts, eqb-true, ltb-true}
-use Rattle.std.proofs.lemmas.Bool.Decides.{nat_tests}
-use Rattle.std.proofs.lemmas.List.Elements.{All-cons}
 use Rattle.mdp_math.specs.Rational.{ℚ}
 use Rattle.mdp_rows.specs.declared.dir.Dir.{Dir}
-use Rattle.mdp_spec.specs.Mdp.{Mdp, states_of}
-use Rattle.mdp_spec.specs.Labels.{initial_of}
+use Rattle.mdp_spec.specs.{Mdp.{Mdp, states_of}, Labels.{initial_of}}
 use Rattle.mdp_text.proofs.InitialState.{initial_below}
-use Rattle.mdp_text.specs.declared.init.Init.{Init}
-use Rattle.mdp_text.specs.declared.init.Init.TheVariants.{Missing, Finite, Infinite, Start}
+use Rattle.mdp_text.specs.{declared.init.Init.{Init}, declared.init.Init.TheVariants.{Missing, Finite, Infinite, Start}}
 use Rattle.mdp_cert.specs.Cert.{witness, PlainBody, bounds, policy, rewards, gains, flow, floor, is_init_of, are_kept, are_flows}
 use Rattle.mdp_claims.specs.declared.verdict.Verdict.TheVariants as verdict
 use Rattle.mdp_claims.specs.declared.subsystem.Flow.{Flow}
-use Rattle.mdp_subsystem_rules.specs.Kept.{Ascends}
-use Rattle.mdp_subsystem_rules.specs.Shape.{is_before, no_flow, FlowsAscend, IsFlowShape, IsFloorShape}
+use Rattle.mdp_subsystem_rules.specs.{Kept.{Ascends}, Shape.{is_before, no_flow, FlowsAscend, IsFlowShape, IsFloorShape}}
 use Rattle.mdp_check.specs.Initial.{init_check, start_of, is_subsystem, has_value}
 use Rattle.mdp_farkas.specs.Initial.{init_fault, state_check}
 

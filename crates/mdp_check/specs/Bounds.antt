@@ -1,21 +1,14 @@
 -- What holding a certificate of bounds against a model answers, and what a yes means.
 use Rattle.std.specs.Prelude.{◌≡◌, ℕ, Bool, IsTrue, List, Option, Some, None, ◌==◌, if◌then◌else◌}
-use Rattle.mdp_spec.specs.Mdp.{Mdp, states_of}
-use Rattle.mdp_spec.specs.Labels.{initial_of}
+use Rattle.mdp_spec.specs.{Mdp.{Mdp, states_of}, Labels.{initial_of}}
 use Rattle.mdp_spec.specs.Between.{ReachMaxBetween, ReachMinBetween, RewardMaxBetween, RewardMinBetween, MeanMaxBetween, MeanMinBetween}
 use Rattle.mdp_rows.specs.declared.dir.Dir.TheVariants.{Max, Min}
-use Rattle.mdp_farkas.specs.Initial.{init_fault}
-use Rattle.mdp_farkas.specs.Verdict.{verdict_of}
+use Rattle.mdp_farkas.specs.{Initial.{init_fault}, Verdict.{verdict_of}}
 use Rattle.mdp_claims.specs.declared.verdict.Verdict.{Verdict}
 use Rattle.mdp_claims.specs.declared.verdict.Verdict.TheVariants as verdict
-use Rattle.mdp_bounds.specs.Reach.{bounds_checks, IsReachBounds}
-use Rattle.mdp_bounds.specs.Reward.{reward_bounds_checks, IsRewardBounds}
-use Rattle.mdp_bounds.specs.Mean.{mean_bounds_checks, IsMeanBounds}
-use Rattle.mdp_cert.specs.Cert.{PlainClaim, reach, reward, mean}
-use Rattle.mdp_bounds_text.specs.Cert.{PlainBounds, probabilities, rewards, gains, Certificate, is_body_of}
-use Rattle.mdp_check.specs.Check.{reward_place, goal_marks, answer_of, after_init}
-use Rattle.mdp_check.specs.BoundsInitial.{bounds_init_check}
-use Rattle.mdp_check.specs.declared.answer.Answer.{Answer}
+use Rattle.mdp_bounds.specs.{Reach.{bounds_checks, IsReachBounds}, Reward.{reward_bounds_checks, IsRewardBounds}, Mean.{mean_bounds_checks, IsMeanBounds}}
+use Rattle.mdp_cert.specs.{Cert.{PlainClaim, reach, reward, mean}, BoundsCert.{PlainBounds, probabilities, rewards, gains, Certificate, is_body_of}}
+use Rattle.mdp_check.specs.{Check.{reward_place, goal_marks, answer_of, after_init}, BoundsInitial.{bounds_init_check}, declared.answer.Answer.{Answer}}
 use Rattle.mdp_check.specs.declared.answer.Answer.TheVariants.{NoReward, NoLabel, Size}
 
 -- ---- the answer

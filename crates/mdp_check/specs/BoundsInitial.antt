@@ -2,11 +2,9 @@
 use Rattle.std.specs.Prelude.{ℕ, Bool, false, Option, Some, None, ◌&&◌}
 use Rattle.mdp_math.specs.Rational.{ℚ}
 use Rattle.mdp_farkas.specs.Initial.{init_fault, is_value, state_check}
-use Rattle.mdp_claims.specs.declared.verdict.Verdict.{Verdict}
-use Rattle.mdp_claims.specs.declared.verdict.Verdict.TheVariants.{Yes}
-use Rattle.mdp_bounds_text.specs.Cert.{PlainBounds, probabilities, rewards, gains}
-use Rattle.mdp_bounds_text.specs.declared.init.BoundsInit.{BoundsInit}
-use Rattle.mdp_bounds_text.specs.declared.init.BoundsInit.TheVariants.{Missing, Between}
+use Rattle.mdp_claims.specs.{declared.verdict.Verdict.{Verdict}, declared.verdict.Verdict.TheVariants.{Yes}}
+use Rattle.mdp_cert.specs.{BoundsCert.{PlainBounds, probabilities, rewards, gains}, declared.init.BoundsInit.{BoundsInit}}
+use Rattle.mdp_cert.specs.declared.init.BoundsInit.TheVariants.{Missing, Between}
 use Rattle.mdp_check.specs.Initial.{is_reward}
 
 -- the lower and the upper value of state s in the body are these, which are infinite where there is none; of mean payoffs the gains are the values

@@ -1,10 +1,8 @@
 -- Laws of checking certificates of bounds, over the definitions alone.
 use Rattle.std.specs.Prelude.{◌≡◌, ◌↔◌}
-use Rattle.mdp_spec.specs.Mdp.{Mdp}
-use Rattle.mdp_spec.specs.Row.{IsMdp}
-use Rattle.mdp_bounds_text.specs.Cert.{Certificate}
-use Rattle.mdp_check.specs.Bounds.{bounds_answer_to, IsBoundsAccepted, IsBoundsTrue}
-use Rattle.mdp_check.specs.declared.answer.Answer.TheVariants.{Yes}
+use Rattle.mdp_spec.specs.{Mdp.{Mdp}, Row.{IsMdp}}
+use Rattle.mdp_cert.specs.BoundsCert.{Certificate}
+use Rattle.mdp_check.specs.{Bounds.{bounds_answer_to, IsBoundsAccepted, IsBoundsTrue}, declared.answer.Answer.TheVariants.{Yes}}
 
 -- of a model the answer is yes exactly where the certificate is accepted
 abbrev pub YesAcceptsBounds : Type 0

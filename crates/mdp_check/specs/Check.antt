@@ -1,25 +1,16 @@
 -- What holding a certificate against a model answers, and what a yes means.
 use Rattle.std.specs.Prelude.{◌≡◌, ℕ, Bool, false, IsTrue, List, Option, Some, None, option_map, ◌==◌, if◌then◌else◌}
 use Rattle.std.proofs.Math.ListN.{replicate}
-use Rattle.mdp_spec.specs.Mdp.{Mdp, states_of}
-use Rattle.mdp_spec.specs.Labels.{place_of, marks_of, initial_of}
+use Rattle.mdp_spec.specs.{Mdp.{Mdp, states_of}, Labels.{place_of, marks_of, initial_of}}
 use Rattle.mdp_spec.specs.Bounds.{Above, ReachMax, ReachMin, RewardMax, RewardMin, MeanMax, MeanMin, SubMax, SubMaxWithin, SubMin}
 use Rattle.mdp_rows.specs.declared.dir.Dir.TheVariants.{Max, Min}
 use Rattle.mdp_cert.specs.Cert.{PlainClaim, upper, reach, reward, mean, witness, PlainBody, bounds, policy, rewards, gains, flow, floor, Certificate, is_body_of}
-use Rattle.mdp_farkas.specs.Upper.{upper_checks, IsUpper}
-use Rattle.mdp_farkas.specs.Reach.{reach_checks, IsReach}
-use Rattle.mdp_farkas.specs.Reward.{reward_checks, IsReward}
-use Rattle.mdp_farkas.specs.Mean.{mean_checks, IsMean}
-use Rattle.mdp_farkas.specs.Verdict.{verdict_of}
-use Rattle.mdp_subsystem_rules.specs.Flow.{flow_total}
-use Rattle.mdp_subsystem_rules.specs.Kept.{kept_marks}
-use Rattle.mdp_subsystem_rules.specs.FlowChecks.{flow_checks, HoldsFlow}
-use Rattle.mdp_subsystem_rules.specs.FloorChecks.{floor_checks, HoldsFloor}
+use Rattle.mdp_farkas.specs.{Upper.{upper_checks, IsUpper}, Reach.{reach_checks, IsReach}, Reward.{reward_checks, IsReward}, Mean.{mean_checks, IsMean}}
+use Rattle.mdp_farkas.specs.{Verdict.{verdict_of}, Initial.{init_fault}}
+use Rattle.mdp_subsystem_rules.specs.{Flow.{flow_total}, Kept.{kept_marks}, FlowChecks.{flow_checks, HoldsFlow}, FloorChecks.{floor_checks, HoldsFloor}}
 use Rattle.mdp_claims.specs.declared.verdict.Verdict.{Verdict}
 use Rattle.mdp_claims.specs.declared.verdict.Verdict.TheVariants as verdict
-use Rattle.mdp_check.specs.Initial.{init_check, start_of}
-use Rattle.mdp_farkas.specs.Initial.{init_fault}
-use Rattle.mdp_check.specs.declared.answer.Answer.{Answer}
+use Rattle.mdp_check.specs.{Initial.{init_check, start_of}, declared.answer.Answer.{Answer}}
 use Rattle.mdp_check.specs.declared.answer.Answer.TheVariants.{Yes, No, Wide, NoReward, NoLabel, Size}
 
 -- ---- what the names in a claim stand for

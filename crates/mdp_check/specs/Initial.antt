@@ -2,12 +2,9 @@
 use Rattle.std.specs.Prelude.{ℕ, Bool, true, false, List, length, Option, Some, None, ◌&&◌, nat_lt, if◌then◌else◌}
 use Rattle.mdp_math.specs.Rational.{ℚ}
 use Rattle.mdp_spec.specs.Bounds.{reward_at}
-use Rattle.mdp_cert.specs.Cert.{PlainBody, bounds, policy, rewards, gains, flow, floor}
-use Rattle.mdp_cert.specs.Claims.{reward_same}
-use Rattle.mdp_text.specs.declared.init.Init.{Init}
-use Rattle.mdp_text.specs.declared.init.Init.TheVariants.{Missing, Finite, Infinite, Start}
-use Rattle.mdp_claims.specs.declared.verdict.Verdict.{Verdict}
-use Rattle.mdp_claims.specs.declared.verdict.Verdict.TheVariants.{Yes}
+use Rattle.mdp_cert.specs.{Cert.{PlainBody, bounds, policy, rewards, gains, flow, floor}, Claims.{reward_same}}
+use Rattle.mdp_text.specs.{declared.init.Init.{Init}, declared.init.Init.TheVariants.{Missing, Finite, Infinite, Start}}
+use Rattle.mdp_claims.specs.{declared.verdict.Verdict.{Verdict}, declared.verdict.Verdict.TheVariants.{Yes}}
 use Rattle.mdp_farkas.specs.Initial.{init_fault, is_value, state_check}
 
 -- there is a value of state s, which may be infinite, and it is this one

@@ -1,10 +1,8 @@
 -- Laws of checking, over the definitions alone.
 use Rattle.std.specs.Prelude.{◌≡◌, ◌↔◌}
-use Rattle.mdp_spec.specs.Mdp.{Mdp}
-use Rattle.mdp_spec.specs.Row.{IsMdp}
+use Rattle.mdp_spec.specs.{Mdp.{Mdp}, Row.{IsMdp}}
 use Rattle.mdp_cert.specs.Cert.{Certificate}
-use Rattle.mdp_check.specs.Check.{answer_to, IsAccepted, IsBound}
-use Rattle.mdp_check.specs.declared.answer.Answer.TheVariants.{Yes}
+use Rattle.mdp_check.specs.{Check.{answer_to, IsAccepted, IsBound}, declared.answer.Answer.TheVariants.{Yes}}
 
 -- the answer is yes exactly where the certificate is accepted
 abbrev pub YesIsAccepted : Type 0

@@ -1,17 +1,14 @@
 ghost use Rattle.std.specs.Prelude.{◌≡◌, ◌⊎◌, ◌↔◌, Some, length};
 ghost use Rattle.mdp_spec.specs.Mdp.{states_of};
-ghost use Rattle.mdp_cert.specs.Cert.{plain_claim};
-ghost use Rattle.mdp_bounds_text.specs.Plain.{plain};
+ghost use Rattle.mdp_cert.specs.{Cert.{plain_claim}, BoundsPlain.{plain}};
 ghost use Rattle.mdp_farkas.specs.Verdict.{IfYes, IsYes};
-ghost use Rattle.mdp_check.specs.Check.{reward_place};
-ghost use Rattle.mdp_check.specs.Bounds.{bounds_verdict, bounds_answer_to, AreValidBounds, LiesBetween, IsBoundsAccepted, IsBoundsTrue};
+ghost use Rattle.mdp_check.specs.{Check.{reward_place}, Bounds.{bounds_verdict, bounds_answer_to, AreValidBounds, LiesBetween, IsBoundsAccepted, IsBoundsTrue}};
 
 use crate::answer::{Answer, answer_of};
 use crate::bounds_initial::bounds_init_verdict;
 use crate::checking::{goal_marks, reward_place};
 use mdp_bounds::{holds_bounds_mean, holds_bounds_reach, holds_bounds_reward};
-use mdp_bounds_text::{BoundsBody, BoundsCert};
-use mdp_cert::Claim;
+use mdp_cert::{BoundsBody, BoundsCert, Claim};
 use mdp_farkas::{Verdict, init_denied};
 use mdp_num::Memory;
 use mdp_rows::{Marks, Model};

@@ -1,10 +1,10 @@
 ghost use Rattle.std.specs.Prelude.{◌≡◌};
-ghost use Rattle.mdp_bounds_text.specs.Cert.{plain_body};
+ghost use Rattle.mdp_cert.specs.BoundsCert.{plain_body};
 ghost use Rattle.mdp_check.specs.BoundsInitial.{bounds_init_check, has_bounds};
 ghost use Rattle.mdp_spec.specs.Labels.{initial_of};
 
 use crate::initial::is_reward;
-use mdp_bounds_text::{BoundsBody, BoundsInit};
+use mdp_cert::{BoundsBody, BoundsInit};
 use mdp_farkas::{Verdict, init_denied, is_value, state_verdict};
 use mdp_num::Frac;
 use mdp_rows::Model;

@@ -1,7 +1,6 @@
 ghost use Rattle.std.specs.Prelude.{◌≡◌, ◌⊎◌, ◌↔◌, IfOk, Some, length};
 ghost use Rattle.mdp_spec.specs.Mdp.{states_of};
-ghost use Rattle.mdp_cert.specs.Plain.{plain};
-ghost use Rattle.mdp_cert.specs.Cert.{plain_claim};
+ghost use Rattle.mdp_cert.specs.{Plain.{plain}, Cert.{plain_claim}};
 ghost use Rattle.mdp_farkas.specs.Verdict.{IfYes, IsYes};
 ghost use Rattle.mdp_check.specs.Check.{reward_place, goal_marks, answer_to, body_verdict, IsBound, BoundOf, IsAccepted, IsValidBody};
 

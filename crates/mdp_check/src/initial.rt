@@ -1,6 +1,5 @@
 ghost use Rattle.std.specs.Prelude.{◌≡◌};
-ghost use Rattle.mdp_cert.specs.Cert.{plain_body};
-ghost use Rattle.mdp_cert.specs.Claims.{reward_same};
+ghost use Rattle.mdp_cert.specs.{Cert.{plain_body}, Claims.{reward_same}};
 ghost use Rattle.mdp_check.specs.Initial.{init_check, has_value, is_subsystem, start_of, is_reward};
 ghost use Rattle.mdp_farkas.specs.Initial.{init_fault, state_check, is_value};
 ghost use Rattle.mdp_spec.specs.Labels.{initial_of};

@@ -1,5 +1,4 @@
-ghost use Rattle.mdp_check.specs.Laws.{YesIsAccepted, AcceptedIsBound};
-ghost use Rattle.mdp_check.specs.BoundsLaws.{YesAcceptsBounds, AcceptedBoundsAreTrue};
+ghost use Rattle.mdp_check.specs.{Laws.{YesIsAccepted, AcceptedIsBound}, BoundsLaws.{YesAcceptsBounds, AcceptedBoundsAreTrue}};
 
 /// Laws of checking: yes is answered exactly where a certificate is accepted, and the claim of an accepted certificate is true of the model.
 pub fn checking_law()

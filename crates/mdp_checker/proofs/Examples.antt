@@ -2,8 +2,7 @@
 use Rattle.std.proofs.Common.{◌≡◌, [], ◌∷◌, Ok, Err, refl}
 use Rattle.std.specs.Prelude.{codes}
 use Rattle.mdp_rows.specs.declared.rule.RowRule.TheVariants.{Scaled}
-use Rattle.mdp_job.specs.Words.{rows_of}
-use Rattle.mdp_job.specs.declared.words_error.WordsError.TheVariants.{Number, Rows}
+use Rattle.mdp_job.specs.{Words.{rows_of}, declared.words_error.WordsError.TheVariants.{Number, Rows}}
 use Rattle.mdp_checker.specs.Words.{path_at}
 
 three_words : rows_of (codes "m" ∷ codes "scaled" ∷ codes "c" ∷ []) ≡ Ok Scaled

@@ -4,28 +4,15 @@ use Rattle.std.specs.Io.KnownBytes.{IsAtEnd}
 use Rattle.mdp_spec.specs.Mdp.{Mdp}
 use Rattle.mdp_rows.specs.declared.rule.RowRule.{RowRule}
 use Rattle.mdp_drn.specs.FromSource.{HadLeft}
-use Rattle.mdp_job.specs.Refusal.{PlainRefusal, no_job, no_memory}
-use Rattle.mdp_job.specs.declared.status.Status.{Status}
+use Rattle.mdp_job.specs.{Refusal.{PlainRefusal, no_job, no_memory}, declared.status.Status.{Status}, declared.words_error.WordsError.{WordsError}}
 use Rattle.mdp_job.specs.declared.status.Status.TheVariants as status
-use Rattle.mdp_job.specs.declared.words_error.WordsError.{WordsError}
 use Rattle.mdp_command.proofs.Statuses.{done_text, ends_as}
-use Rattle.mdp_command.specs.Accepted.{IsTrueClaimBy}
-use Rattle.mdp_command.specs.Answered.{yes_text}
-use Rattle.mdp_command.specs.Files.{model_due, IsDueToModel}
-use Rattle.mdp_command.specs.Meaning.{ClaimsTruly}
-use Rattle.mdp_command.specs.Read.{is_of_model}
-use Rattle.mdp_command.specs.Said.{Said, said_status}
-use Rattle.mdp_command.specs.Streams.{Input, Output}
-use Rattle.mdp_command.specs.Written.{WroteAll, Wrote, EndsWith}
-use Rattle.mdp_checking.specs.Due.{IsCheckDue}
-use Rattle.mdp_checking.specs.Kinds.{checker_of}
-use Rattle.mdp_checking.specs.Meanings.{kind_of, meaning_of}
-use Rattle.mdp_checking.specs.Laws.{YesIsAccepted}
-use Rattle.mdp_checking.specs.Shown.{IsCheckRead}
-use Rattle.mdp_checking.specs.declared.kind.CertificateKind.{CertificateKind}
-use Rattle.mdp_checking.specs.declared.kind.CertificateKind.TheVariants.{Exact, Discounted, Bounds, DiscountedBounds}
-use Rattle.mdp_checker.specs.Run.{HasCause, IsDecided, IsAnswered, IsYesTrue, IsYesUnless, IsComplete}
-use Rattle.mdp_checker.specs.Words.{Asked}
+use Rattle.mdp_command.specs.{Accepted.{IsTrueClaimBy}, Answered.{yes_text}, Files.{model_due, IsDueToModel}, Meaning.{ClaimsTruly}, Read.{is_of_model}}
+use Rattle.mdp_command.specs.{Said.{Said, said_status}, Streams.{Input, Output}, Written.{WroteAll, Wrote, EndsWith}, CheckDue.{IsCheckDue}, Kinds.{checker_of}}
+use Rattle.mdp_command.specs.{Meanings.{kind_of, meaning_of}, CheckLaws.{YesIsAccepted}, CheckShown.{IsCheckRead}}
+use Rattle.mdp_command.specs.declared.kind.CertificateKind.{CertificateKind}
+use Rattle.mdp_command.specs.declared.kind.CertificateKind.TheVariants.{Exact, Discounted, Bounds, DiscountedBounds}
+use Rattle.mdp_checker.specs.{Run.{HasCause, IsDecided, IsAnswered, IsYesTrue, IsYesUnless, IsComplete}, Words.{Asked}}
 
 -- ---- what is decided
 

@@ -1,23 +1,13 @@
 -- What a run answers and why, and what is true where it says yes.
-use Rattle.std.specs.Prelude.{◌≡◌, ◌⊎◌, ℕ, List, Some, None, Ok, Err, OnOk, IsTrue}
-use Rattle.std.specs.Io.KnownBytes.{IsAtEnd}
+use Rattle.std.specs.{Prelude.{◌≡◌, ◌⊎◌, ℕ, List, Some, None, Ok, Err, OnOk, IsTrue}, Io.KnownBytes.{IsAtEnd}}
 use Rattle.mdp_rows.specs.declared.rule.RowRule.{RowRule}
 use Rattle.mdp_drn.specs.FromSource.{HadLeft}
 use Rattle.mdp_edge.specs.Faults.{FaultCounted}
-use Rattle.mdp_job.specs.Refusal.{no_job, no_memory}
-use Rattle.mdp_job.specs.declared.status.Status.{Status}
-use Rattle.mdp_job.specs.declared.status.Status.TheVariants.{Done, ReadFault, WriteFault, Memory}
-use Rattle.mdp_job.specs.declared.words_error.WordsError.{WordsError}
-use Rattle.mdp_command.specs.Accepted.{AcceptedBy}
-use Rattle.mdp_command.specs.Answered.{yes_text}
-use Rattle.mdp_command.specs.Meaning.{ClaimsTruly}
-use Rattle.mdp_command.specs.Read.{is_of_model}
-use Rattle.mdp_command.specs.Said.{Said}
-use Rattle.mdp_command.specs.Streams.{Input, HasFailed, Output}
-use Rattle.mdp_command.specs.Written.{WroteAll, Wrote}
-use Rattle.mdp_checking.specs.Kinds.{checker_of}
-use Rattle.mdp_checking.specs.Meanings.{kind_of, meaning_of}
-use Rattle.mdp_checking.specs.Shown.{IsCheckRead}
+use Rattle.mdp_job.specs.{Refusal.{no_job, no_memory}, declared.status.Status.{Status}}
+use Rattle.mdp_job.specs.{declared.status.Status.TheVariants.{Done, ReadFault, WriteFault, Memory}, declared.words_error.WordsError.{WordsError}}
+use Rattle.mdp_command.specs.{Accepted.{AcceptedBy}, Answered.{yes_text}, Meaning.{ClaimsTruly}, Read.{is_of_model}, Said.{Said}}
+use Rattle.mdp_command.specs.{Streams.{Input, HasFailed, Output}, Written.{WroteAll, Wrote}, Kinds.{checker_of}, Meanings.{kind_of, meaning_of}}
+use Rattle.mdp_command.specs.CheckShown.{IsCheckRead}
 use Rattle.mdp_checker.specs.Words.{Asked}
 
 -- ---- why an answer may come

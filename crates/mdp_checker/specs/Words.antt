@@ -1,11 +1,7 @@
 -- The words MODEL ROWS CERT. ROWS is `exact` or `scaled`.
-use Rattle.std.specs.Prelude.{ℕ, List, [], map, Result, Ok, Err}
-use Rattle.std.specs.declared.string.String.{String}
-use Rattle.std.specs.String.{string_bytes}
-use Rattle.std.specs.Global.{Global}
+use Rattle.std.specs.{Prelude.{ℕ, List, [], map, Result, Ok, Err}, declared.string.String.{String}, String.{string_bytes}, Global.{Global}}
 use Rattle.mdp_rows.specs.declared.rule.RowRule.{RowRule}
-use Rattle.mdp_job.specs.Words.{word_at, rows_of}
-use Rattle.mdp_job.specs.declared.words_error.WordsError.{WordsError}
+use Rattle.mdp_job.specs.{Words.{word_at, rows_of}, declared.words_error.WordsError.{WordsError}}
 
 -- the row rule, or why the words are refused
 abbrev pub Asked : Type 0

@@ -1,12 +1,8 @@
-ghost use Rattle.std.specs.Fn.{FnReturnsAt};
-ghost use Rattle.std.specs.Prelude.{◌≡◌};
-ghost use Rattle.mdp_command.specs.Opened.{OnFiles};
-ghost use Rattle.mdp_command.specs.Prelude.{said, input, output};
-ghost use Rattle.mdp_checker.specs.Run.{IsDecided, IsAnswered, IsYesTrue, IsComplete, HasRun};
-ghost use Rattle.mdp_checker.specs.Words.{asked, model_path, cert_path};
+ghost use Rattle.std.specs.{Fn.{FnReturnsAt}, Prelude.{◌≡◌}};
+ghost use Rattle.mdp_command.specs.{Opened.{OnFiles}, Prelude.{said, input, output}};
+ghost use Rattle.mdp_checker.specs.{Run.{IsDecided, IsAnswered, IsYesTrue, IsComplete, HasRun}, Words.{asked, model_path, cert_path}};
 
-use mdp_checking::{check_files, check_law};
-use mdp_command::written;
+use mdp_command::{check_files, check_law, written};
 use mdp_edge::{Sink, Source};
 use mdp_job::{Paths, Refusal, Status, rows_of};
 use std::alloc::Global;

@@ -1,8 +1,7 @@
 -- The rule of a number.
 use Rattle.std.proofs.Common.{◌≡◌, ℕ, zero, suc, ◌+◌, ◌-◌, ◌<◌, ◌≤◌, Bool, true, ◌&&◌, eqb, eqb-true, List, [], ◌∷◌, length, refl, sym, ap, ◌∙◌, arith}
 use Rattle.mdp_math.proofs.Booleans.{and-parts}
-use Rattle.mdp_claims.specs.RuleNumber.{number_of}
-use Rattle.mdp_claims.specs.declared.rule.Rule.{Rule}
+use Rattle.mdp_claims.specs.{RuleNumber.{number_of}, declared.rule.Rule.{Rule}}
 use Rattle.mdp_claims.specs.declared.rule.Rule.TheVariants.{InitialState, ChoiceExists, Probability, GoalValue, ValueOnEachChoice, ValueOnPolicy}
 use Rattle.mdp_claims.specs.declared.rule.Rule.TheVariants.{RankZero, RankFalls, RewardValue, FiniteTargets, RewardOnEachChoice, RewardOnPolicy}
 use Rattle.mdp_claims.specs.declared.rule.Rule.TheVariants.{FiniteRankFalls, PolicyMisses, EachChoiceMisses, GainOnEachChoice, BoundOnEachChoice, GainOnPolicy}

@@ -1,17 +1,14 @@
 -- What was made of a file is what is due to the bytes that its source had.
 use Rattle.std.proofs.Common.{◌≡◌, ℕ, ◌+◌, ◌<◌, ◌≤◌, ◌⊎◌, inl, inr, Bool, cond, List, [], length, Option}
-use Rattle.std.proofs.Common.{Some, None, Result, Err, IfSome, refl, sym, ap, subst, ◌∙◌, lt-ltb, arith, nat_lt}
-use Rattle.std.specs.Prelude.{replicate}
-use Rattle.std.proofs.lemmas.Bool.{le-ltb}
+use Rattle.std.proofs.{Common.{Some, None, Result, Err, IfSome, refl, sym, ap, subst, ◌∙◌, lt-ltb, arith, nat_lt}, lemmas.Bool.{le-ltb}}
 use Rattle.std.proofs.lemmas.List.{length-replicate}
+use Rattle.std.specs.Prelude.{replicate}
 use Rattle.mdp_spec.specs.Mdp.{Mdp}
 use Rattle.mdp_rows.specs.declared.rule.RowRule.{RowRule}
-use Rattle.mdp_drn.specs.FromSource.{HadLeft}
+use Rattle.mdp_drn.specs.{FromSource.{HadLeft}, Reading.{outcome}}
 use Rattle.mdp_drn.specs.Outcome as drn
-use Rattle.mdp_drn.specs.Reading.{outcome}
 use Rattle.mdp_job.specs.Refusal.{PlainRefusal, long_model}
-use Rattle.mdp_command.specs.Files.{most_bytes, model_or_refusal, model_due}
-use Rattle.mdp_command.specs.Read.{IsDueToBytes}
+use Rattle.mdp_command.specs.{Files.{most_bytes, model_or_refusal, model_due}, Read.{IsDueToBytes}}
 
 -- the bytes that a source tells, or none
 abbrev pub or_nothing : Option (List ℕ) → List ℕ

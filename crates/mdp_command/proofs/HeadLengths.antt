@@ -1,6 +1,5 @@
 -- How long the lines are with which a text begins.
-use Rattle.std.proofs.Common.{◌≡◌, ℕ, ◌+◌, List, ◌++◌, length, arith}
-use Rattle.std.proofs.lemmas.List.{length-append}
+use Rattle.std.proofs.{Common.{◌≡◌, ℕ, ◌+◌, List, ◌++◌, length, arith}, lemmas.List.{length-append}}
 use Rattle.mdp_text.specs.Spelling.{line}
 use Rattle.mdp_text.proofs.Lengths.{line_length}
 

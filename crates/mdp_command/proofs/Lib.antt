@@ -3,3 +3,7 @@ pub mod Working
 pub mod Statuses
 pub mod HeadLengths
 pub mod TrueClaims
+mod BoundsExamples
+mod DiscountExamples
+mod KindExamples
+pub mod Accepting

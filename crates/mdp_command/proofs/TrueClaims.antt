@@ -2,8 +2,7 @@
 use Rattle.std.proofs.Common.{◌≡◌, ℕ, ◌≤◌, List, length, Ok}
 use Rattle.mdp_spec.specs.Mdp.{Mdp}
 use Rattle.mdp_rows.specs.declared.rule.RowRule.{RowRule}
-use Rattle.mdp_command.specs.Files.{most_bytes, model_due}
-use Rattle.mdp_command.specs.Accepted.{Checker, IsTrueClaimBy}
+use Rattle.mdp_command.specs.{Files.{most_bytes, model_due}, Accepted.{Checker, IsTrueClaimBy}}
 use Rattle.mdp_command.proofs.Working.{read_of_due}
 
 abbrev pub true_claim_of : (checker : Checker) (rule : RowRule) (m : Mdp) (bytes text : List ℕ) (cert : checker.meaning.Certificate) → model_due rule bytes ≡ Ok m

@@ -8,9 +8,7 @@ use Rattle.mdp_drn.specs.Reading.{outcome, Reads}
 use Rattle.mdp_job.specs.Refusal.{PlainRefusal, read_model, read_certificate, long_model, no_memory}
 use Rattle.mdp_command.proofs.FileBytes.{or_nothing, had_nothing}
 use Rattle.mdp_command.specs.Files.{most_bytes, model_or_refusal, model_due, IsDueToModel}
-use Rattle.mdp_command.specs.Read.{IsDueToBytes, IsRead, IsSaidOfBytes, IsReadAs, IsWorkOnModel, IsWorkOnPair}
-use Rattle.mdp_command.specs.Said.{Said}
-use Rattle.mdp_command.specs.Streams.{Input, IsStill}
+use Rattle.mdp_command.specs.{Read.{IsDueToBytes, IsRead, IsSaidOfBytes, IsReadAs, IsWorkOnModel, IsWorkOnPair}, Said.{Said}, Streams.{Input, IsStill}}
 
 -- ---- the model's bytes
 

@@ -5,8 +5,7 @@ use Rattle.mdp_rows.specs.declared.rule.RowRule.{RowRule}
 use Rattle.mdp_drn.specs.Reading.{Reads}
 use Rattle.mdp_check.specs.Check as check
 use Rattle.mdp_check.specs.declared.answer.Answer.{Answer}
-use Rattle.mdp_command.specs.Files.{most_bytes}
-use Rattle.mdp_command.specs.Meaning.{Meaning, exact_meaning}
+use Rattle.mdp_command.specs.{Files.{most_bytes}, Meaning.{Meaning, exact_meaning}}
 
 -- a checker of certificates of a kind: what is answered to a model and a certificate, and which is accepted
 pub record Checker : Type 1 where

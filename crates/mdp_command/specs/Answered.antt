@@ -1,9 +1,7 @@
 -- What is said of an answer of a checker.
 use Rattle.std.specs.Prelude.{ℕ, List, Ok, Err, codes}
-use Rattle.mdp_check.specs.declared.answer.Answer.{Answer}
-use Rattle.mdp_check.specs.declared.answer.Answer.TheVariants.{Yes, No, Wide, NoReward, NoLabel, Size, Memory}
-use Rattle.mdp_job.specs.Refusal.{query_size, query_reward, query_label, check_wide, denied, no_memory}
-use Rattle.mdp_job.specs.Text.{line}
+use Rattle.mdp_check.specs.{declared.answer.Answer.{Answer}, declared.answer.Answer.TheVariants.{Yes, No, Wide, NoReward, NoLabel, Size, Memory}}
+use Rattle.mdp_job.specs.{Refusal.{query_size, query_reward, query_label, check_wide, denied, no_memory}, Text.{line}}
 use Rattle.mdp_command.specs.Said.{Said}
 
 abbrev pub yes_text : List ℕ

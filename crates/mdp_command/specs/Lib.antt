@@ -8,3 +8,8 @@ pub mod Accepted
 pub mod Answered
 pub mod Written
 pub mod Opened
+pub mod Meanings
+pub mod Kinds
+pub mod CheckDue
+pub mod CheckShown
+pub mod CheckLaws

@@ -4,9 +4,7 @@ use Rattle.mdp_spec.specs.Mdp.{Mdp}
 use Rattle.mdp_rows.specs.declared.rule.RowRule.{RowRule}
 use Rattle.mdp_drn.specs.FromSource.{HadLeft}
 use Rattle.mdp_job.specs.Refusal.{PlainRefusal, model_text, read_model, long_model, read_certificate, no_memory}
-use Rattle.mdp_command.specs.Files.{model_due, IsDueToModel}
-use Rattle.mdp_command.specs.Said.{Said}
-use Rattle.mdp_command.specs.Streams.{Input, HasFailed, IsStill}
+use Rattle.mdp_command.specs.{Files.{model_due, IsDueToModel}, Said.{Said}, Streams.{Input, HasFailed, IsStill}}
 
 -- ---- one source
 

@@ -1,12 +1,7 @@
 -- What a run says: the text of work that was done, or a refusal.
-use Rattle.std.specs.Prelude.{ℕ, List, Result, Ok, Err}
-use Rattle.std.specs.Global.{Vec}
-use Rattle.mdp_job.specs.Refusal.{PlainRefusal, plain_refusal}
-use Rattle.mdp_job.specs.Status.{status_of}
-use Rattle.mdp_job.specs.Text.{text_of}
-use Rattle.mdp_job.specs.declared.refusal.Refusal.{Refusal}
-use Rattle.mdp_job.specs.declared.status.Status.{Status}
-use Rattle.mdp_job.specs.declared.status.Status.TheVariants.{Done}
+use Rattle.std.specs.{Prelude.{ℕ, List, Result, Ok, Err}, Global.{Vec}}
+use Rattle.mdp_job.specs.{Refusal.{PlainRefusal, plain_refusal}, Status.{status_of}, Text.{text_of}, declared.refusal.Refusal.{Refusal}}
+use Rattle.mdp_job.specs.{declared.status.Status.{Status}, declared.status.Status.TheVariants.{Done}}
 
 abbrev pub Said : Type 0
 Said = Result (List ℕ) PlainRefusal

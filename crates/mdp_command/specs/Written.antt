@@ -1,12 +1,8 @@
 -- What a run writes.
 use Rattle.std.specs.Prelude.{◌≡◌, ◌⊎◌, ℕ, List, Err}
-use Rattle.mdp_edge.specs.Bytes.{TookAll, TookPrefix}
-use Rattle.mdp_edge.specs.Faults.{FaultCounted}
-use Rattle.mdp_job.specs.Refusal.{no_memory}
-use Rattle.mdp_job.specs.declared.status.Status.{Status}
-use Rattle.mdp_job.specs.declared.status.Status.TheVariants.{WriteFault}
-use Rattle.mdp_command.specs.Said.{Said, said_text, said_status}
-use Rattle.mdp_command.specs.Streams.{Output}
+use Rattle.mdp_edge.specs.{Bytes.{TookAll, TookPrefix}, Faults.{FaultCounted}}
+use Rattle.mdp_job.specs.{Refusal.{no_memory}, declared.status.Status.{Status}, declared.status.Status.TheVariants.{WriteFault}}
+use Rattle.mdp_command.specs.{Said.{Said, said_text, said_status}, Streams.{Output}}
 
 -- the sink took this text and no more, all that it has taken is settled, and it didn't fail
 pub record WroteAll (out : Output) (text : List ℕ) : Type 0 where

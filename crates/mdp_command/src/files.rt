@@ -1,11 +1,7 @@
-ghost use Rattle.std.specs.Prelude.{◌≡◌, ◌⊎◌, Err, OnOk, IfOk};
-ghost use Rattle.std.specs.Io.KnownBytes.{IsAtEnd};
+ghost use Rattle.std.specs.{Prelude.{◌≡◌, ◌⊎◌, Err, OnOk, IfOk}, Io.KnownBytes.{IsAtEnd}};
 ghost use Rattle.mdp_spec.specs.Row.{IsMdp};
 ghost use Rattle.mdp_job.specs.Refusal.{read_model, read_certificate};
-ghost use Rattle.mdp_command.specs.Files.{model_due, second_due};
-ghost use Rattle.mdp_command.specs.Read.{IsRead};
-ghost use Rattle.mdp_command.specs.Said.{said, plain_error};
-ghost use Rattle.mdp_command.specs.Streams.{input};
+ghost use Rattle.mdp_command.specs.{Files.{model_due, second_due}, Read.{IsRead}, Said.{said, plain_error}, Streams.{input}};
 
 use mdp_drn::{FromError, read_from};
 use mdp_edge::{InError, Source, read_all};

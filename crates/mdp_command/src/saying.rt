@@ -1,8 +1,6 @@
 ghost use Rattle.std.specs.Prelude.{◌≡◌, ◌⊎◌, false, Ok, Err};
 ghost use Rattle.mdp_job.specs.Refusal.{no_memory};
-ghost use Rattle.mdp_command.specs.Answered.{yes_text, said_of};
-ghost use Rattle.mdp_command.specs.Read.{is_of_model};
-ghost use Rattle.mdp_command.specs.Said.{said};
+ghost use Rattle.mdp_command.specs.{Answered.{yes_text, said_of}, Read.{is_of_model}, Said.{said}};
 
 use mdp_check::Answer;
 use mdp_job::Refusal;

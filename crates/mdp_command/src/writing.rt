@@ -1,8 +1,6 @@
 ghost use Rattle.std.specs.Prelude.{◌≡◌, Err};
 ghost use Rattle.mdp_job.specs.Refusal.{plain_refusal};
-ghost use Rattle.mdp_command.specs.Said.{said};
-ghost use Rattle.mdp_command.specs.Streams.{output};
-ghost use Rattle.mdp_command.specs.Written.{WroteText, EndsWith};
+ghost use Rattle.mdp_command.specs.{Said.{said}, Streams.{output}, Written.{WroteText, EndsWith}};
 
 use mdp_edge::{Sink, WriteFault, write_all};
 use mdp_job::{MEMORY_TEXT, Refusal, Status, push_refusal};

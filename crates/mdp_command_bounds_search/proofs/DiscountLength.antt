@@ -1,21 +1,16 @@
 -- The text of a certificate of bounds of discounted rewards has at most 2^30 bytes.
 use Rattle.std.proofs.Common.{◌≡◌, ℕ, ◌+◌, ◌*◌, ◌<◌, ◌≤◌, ◌^◌, true, List, [], ◌∷◌, ◌++◌, length, codes, decimal, Option, Some, None, IfSome, arith, lit<, ltb→lt, T, sym, subst}
-use Rattle.std.specs.Prelude.{IsTrue}
-use Rattle.std.specs.List.{AllByRecursion as Each}
-use Rattle.std.proofs.lemmas.List.{length-append}
-use Rattle.std.proofs.lemmas.List.Elements.{recursion_from_All}
+use Rattle.std.proofs.{lemmas.List.{length-append}, lemmas.List.Elements.{recursion_from_All}}
+use Rattle.std.specs.{Prelude.{IsTrue}, List.{AllByRecursion as Each}}
 use Rattle.mdp_math.specs.Rational.{ℚ}
 use Rattle.mdp_num.specs.Value.{spelling, IsNarrow}
 use Rattle.mdp_text.proofs.Lengths.{number_short, spelling_short, blank_length, line_length, name_short, quoted_length, states_short}
 use Rattle.mdp_text.specs.Spelling.{line, ◌␣◌, quoted, states_text}
-use Rattle.mdp_rows.specs.Name.{is_name}
-use Rattle.mdp_rows.specs.declared.dir.Dir.{Dir}
+use Rattle.mdp_rows.specs.{Name.{is_name}, declared.dir.Dir.{Dir}}
 use Rattle.mdp_cert.specs.Claims.{reward_text}
-use Rattle.mdp_discount_text.specs.Spelling.{claim_text, remainder_text}
-use Rattle.mdp_discount_bounds.specs.Cert.{Certificate, Fits, IsValueNarrow, is_init}
-use Rattle.mdp_discount_bounds.specs.declared.init.InitialBounds.{InitialBounds}
-use Rattle.mdp_discount_bounds_text.specs.Entries.{lower_text, between_columns, IsEntryInWidth, entries_of}
-use Rattle.mdp_discount_bounds_text.specs.Spelling.{version_text, init_text, head_text, text_of}
+use Rattle.mdp_discount_text.specs.{Spelling.{claim_text, remainder_text}, Entries.{lower_text, between_columns, IsEntryInWidth, entries_of}}
+use Rattle.mdp_discount_text.specs.BoundsSpelling.{version_text, init_text, head_text, text_of}
+use Rattle.mdp_discount_bounds.specs.{Cert.{Certificate, Fits, IsValueNarrow, is_init}, declared.init.InitialBounds.{InitialBounds}}
 use Rattle.mdp_command.specs.Files.{most_bytes}
 use Rattle.mdp_command.proofs.HeadLengths.{five_lines}
 use Rattle.mdp_cert.proofs.RunLengths.{lines_of, closed_short}

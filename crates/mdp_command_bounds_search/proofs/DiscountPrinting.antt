@@ -2,25 +2,15 @@
 use Rattle.std.proofs.Common.{◌≡◌, ℕ, ◌<◌, ◌≤◌, ◌⊎◌, inl, inr, Bool, true, ◌&&◌, List, length, Option, Some, None, Ok, Err, IfOk, refl, sym, ap, ap₂, subst, ◌∙◌, lt-ltb}
 use Rattle.mdp_math.specs.Rational.{ℚ}
 use Rattle.mdp_num.specs.OrderView.{equal_decides}
-use Rattle.mdp_spec.specs.Bounds.{reward_at}
-use Rattle.mdp_spec.specs.Labels.{place_of}
-use Rattle.mdp_spec.specs.Mdp.{Mdp}
-use Rattle.mdp_spec.specs.Row.{IsMdp}
+use Rattle.mdp_spec.specs.{Bounds.{reward_at}, Labels.{place_of}, Mdp.{Mdp}, Row.{IsMdp}}
 use Rattle.mdp_rows.specs.declared.dir.Dir.{Dir}
 use Rattle.mdp_claims.specs.declared.verdict.Verdict.TheVariants.{Yes}
-use Rattle.mdp_discount_bounds.specs.Cert.{Certificate, Fits}
-use Rattle.mdp_discount_bounds.specs.Check.{same_value, is_value, init_check, IsAccepted}
-use Rattle.mdp_discount_bounds.specs.Laws.{AcceptedIsBound}
-use Rattle.mdp_discount_bounds_text.specs.Laws.{IsReadBack}
-use Rattle.mdp_discount_bounds_text.specs.Reading.{outcome}
-use Rattle.mdp_discount_bounds_text.specs.Spelling.{text_of}
+use Rattle.mdp_discount_bounds.specs.{Cert.{Certificate, Fits}, Check.{same_value, is_value, init_check, IsAccepted}, Laws.{AcceptedIsBound}}
+use Rattle.mdp_discount_text.specs.{BoundsLaws.{IsReadBack}, Reading.{outcome}, BoundsSpelling.{text_of}}
 use Rattle.mdp_job.specs.Refusal.{no_memory, query_reward}
-use Rattle.mdp_command.specs.Files.{most_bytes}
-use Rattle.mdp_command.specs.Said.{Said}
-use Rattle.mdp_command_bounds_search.specs.DiscountDue.{ClaimsSo, IsNamedDue, IsDiscountBoundsDue}
-use Rattle.mdp_command_bounds_search.specs.DiscountShown.{IsDiscountBoundsPrinted}
-use Rattle.mdp_command_bounds_search.proofs.DiscountLength.{text_short}
-use Rattle.mdp_command_bounds_search.proofs.Printing.{right_line}
+use Rattle.mdp_command.specs.{Files.{most_bytes}, Said.{Said}}
+use Rattle.mdp_command_bounds_search.specs.{DiscountDue.{ClaimsSo, IsNamedDue, IsDiscountBoundsDue}, DiscountShown.{IsDiscountBoundsPrinted}}
+use Rattle.mdp_command_bounds_search.proofs.{DiscountLength.{text_short}, Printing.{right_line}}
 
 -- ---- the line `init`
 

@@ -1,21 +1,14 @@
 -- What is due to `bounds` of a discounted reward is never a term that is too wide, the best values lie between its values, and what is shown of its text.
 use Rattle.std.proofs.Common.{◌≡◌, ℕ, List, Option, Some, None, Ok, Err, IfOk, IsOk, refl, sym, ap, subst, ◌∙◌}
 use Rattle.mdp_math.specs.Rational.{ℚ}
-use Rattle.mdp_spec.specs.Labels.{place_of}
-use Rattle.mdp_spec.specs.Mdp.{Mdp}
-use Rattle.mdp_spec.specs.Row.{IsMdp}
-use Rattle.mdp_rows.specs.declared.dir.Dir.{Dir}
-use Rattle.mdp_rows.specs.declared.rule.RowRule.{RowRule}
+use Rattle.mdp_spec.specs.{Labels.{place_of}, Mdp.{Mdp}, Row.{IsMdp}}
+use Rattle.mdp_rows.specs.{declared.dir.Dir.{Dir}, declared.rule.RowRule.{RowRule}}
 use Rattle.mdp_discount_rules.specs.Rules.{IsFactor}
-use Rattle.mdp_discount_bounds.specs.Between.{DiscountBetween}
-use Rattle.mdp_discount_bounds.specs.Laws.{AcceptedIsBound}
-use Rattle.mdp_discount_bounds_text.specs.Spelling.{text_of}
-use Rattle.mdp_checking.specs.Kinds.{discounted_between}
+use Rattle.mdp_discount_bounds.specs.{Between.{DiscountBetween}, Laws.{AcceptedIsBound}}
+use Rattle.mdp_discount_text.specs.BoundsSpelling.{text_of}
+use Rattle.mdp_command.specs.{Kinds.{discounted_between}, Files.{model_due}, Said.{Said}}
 use Rattle.mdp_command.proofs.TrueClaims.{true_claim_of}
-use Rattle.mdp_command.specs.Files.{model_due}
-use Rattle.mdp_command.specs.Said.{Said}
-use Rattle.mdp_command_bounds_search.specs.DiscountDue.{IsAcceptedText, IsNamedDue}
-use Rattle.mdp_command_bounds_search.specs.DiscountLaws.{IsNeverTooWide, IsAnswerTo, TextLiesBetween}
+use Rattle.mdp_command_bounds_search.specs.{DiscountDue.{IsAcceptedText, IsNamedDue}, DiscountLaws.{IsNeverTooWide, IsAnswerTo, TextLiesBetween}}
 use Rattle.mdp_command_bounds_search.specs.DiscountShown.{IsDiscountBoundsPrinted, IsDiscountBoundsSolved}
 use Rattle.mdp_command_bounds_search.proofs.Solved.{text_is_ok}
 

@@ -2,22 +2,17 @@
 -- `both` has two initial states.
 use Rattle.std.proofs.Common.{◌≡◌, ℕ, List, [], ◌∷◌, Err, refl, pos, Some, None}
 use Rattle.std.specs.Prelude.{codes}
-use Rattle.mdp_math.specs.Gcd.{gcd, gcd_with_fuel}
-use Rattle.mdp_math.specs.Rational.{ℚ, of_int, ratio, neg_ℚ, le_ℚ, lt_ℚ, ◌+ℚ◌, ◌*ℚ◌}
+use Rattle.mdp_math.specs.{Gcd.{gcd, gcd_with_fuel}, Rational.{ℚ, of_int, ratio, neg_ℚ, le_ℚ, lt_ℚ, ◌+ℚ◌, ◌*ℚ◌}}
 use Rattle.mdp_math.specs.Written.{narrow, narrow_ℚ, written_add, written_mul}
 use Rattle.mdp_spec.specs.Mdp.{Entry, Choice, Mdp}
 use Rattle.mdp_spec.proofs.Small.{entry, labelled, number}
 use Rattle.mdp_rows.specs.declared.dir.Dir.TheVariants.{Max, Min}
 use Rattle.mdp_claims.specs.declared.rule.Rule.TheVariants.{ValueOnEachChoice}
 use Rattle.mdp_cert.specs.Cert as claim
-use Rattle.mdp_bounds_text.specs.Cert.{probabilities, rewards, gains, Certificate}
-use Rattle.mdp_bounds_text.specs.declared.init.BoundsInit.TheVariants.{Missing, Between}
-use Rattle.mdp_check.specs.Bounds.{bounds_answer_to}
-use Rattle.mdp_check.specs.declared.answer.Answer.TheVariants.{Yes, No}
-use Rattle.mdp_job.specs.Job.{reach, reward, mean}
-use Rattle.mdp_job.specs.Refusal.{PlainRefusal, query_label, query_reward, query_negative, query_size}
-use Rattle.mdp_command_bounds_search.specs.Certificate.{certificate_of}
-use Rattle.mdp_command_bounds_search.specs.Due.{IsBoundsDue}
+use Rattle.mdp_cert.specs.{BoundsCert.{probabilities, rewards, gains, Certificate}, declared.init.BoundsInit.TheVariants.{Missing, Between}}
+use Rattle.mdp_check.specs.{Bounds.{bounds_answer_to}, declared.answer.Answer.TheVariants.{Yes, No}}
+use Rattle.mdp_job.specs.{Job.{reach, reward, mean}, Refusal.{PlainRefusal, query_label, query_reward, query_negative, query_size}}
+use Rattle.mdp_command_bounds_search.specs.{Certificate.{certificate_of}, Due.{IsBoundsDue}}
 
 abbrev choice : List Entry → Choice
 choice row = record { row = row; rewards = number 1 ∷ neg_ℚ (number 1) ∷ [] }

@@ -1,42 +1,26 @@
 -- What is shown of found bounds: their certificate is one of the query's claim, it is accepted for the model, and its text reads as it.
 use Rattle.std.proofs.Common.{◌≡◌, ℕ, ◌<◌, ◌≤◌, ◌⊎◌, inl, inr, Bool, true, false, cond, ◌&&◌, eqb, List, length, Option, Some, None}
-use Rattle.std.proofs.Common.{Ok, Err, IfOk, refl, sym, ap, ap₂, subst, ◌∙◌, arith, eq-eqb, lt-ltb}
+use Rattle.std.proofs.{Common.{Ok, Err, IfOk, refl, sym, ap, ap₂, subst, ◌∙◌, arith, eq-eqb, lt-ltb}, Math.ListN.{replicate}}
 use Rattle.std.specs.Prelude.{All, option_map}
-use Rattle.std.proofs.Math.ListN.{replicate}
 use Rattle.mdp_math.specs.Rational.{ℚ}
 use Rattle.mdp_num.specs.OrderView.{equal_decides}
-use Rattle.mdp_spec.specs.Bounds.{reward_at}
-use Rattle.mdp_spec.specs.Labels.{place_of, marks_of, initial_of}
-use Rattle.mdp_spec.specs.Mdp.{Mdp, states_of, value_at}
-use Rattle.mdp_spec.specs.Row.{IsMdp}
+use Rattle.mdp_spec.specs.{Bounds.{reward_at}, Labels.{place_of, marks_of, initial_of}, Mdp.{Mdp, states_of, value_at}, Row.{IsMdp}}
 use Rattle.mdp_rows.proofs.FoundNames.{found_among, name_of_reward}
-use Rattle.mdp_rows.specs.Name.{IsName, IsRewardName}
-use Rattle.mdp_rows.specs.declared.dir.Dir.{Dir}
+use Rattle.mdp_rows.specs.{Name.{IsName, IsRewardName}, declared.dir.Dir.{Dir}}
 use Rattle.mdp_farkas.specs.Initial.{init_fault, is_value}
 use Rattle.mdp_claims.specs.declared.verdict.Verdict.TheVariants.{Yes}
-use Rattle.mdp_bounds.specs.Reach.{IsReachBounds}
-use Rattle.mdp_bounds.specs.Reward.{IsRewardBounds}
-use Rattle.mdp_bounds.specs.Mean.{IsMeanBounds}
+use Rattle.mdp_bounds.specs.{Reach.{IsReachBounds}, Reward.{IsRewardBounds}, Mean.{IsMeanBounds}}
 use Rattle.mdp_text.proofs.InitialState.{initial_below}
 use Rattle.mdp_cert.specs.Cert as certificate
-use Rattle.mdp_cert.specs.Cert.{PlainClaim, reach, reward, mean}
-use Rattle.mdp_cert.specs.Claims.{reward_same}
-use Rattle.mdp_bounds_text.proofs.Bodies.{reach-counts, reward-counts, mean-counts}
-use Rattle.mdp_bounds_text.specs.Cert.{PlainBounds, probabilities, rewards, gains, Certificate, Fits, may_be, is_init_of, is_body_of}
-use Rattle.mdp_bounds_text.specs.Laws.{IsReadBack}
-use Rattle.mdp_bounds_text.specs.Reading.{outcome}
-use Rattle.mdp_bounds_text.specs.Spelling.{text_of}
-use Rattle.mdp_check.specs.Bounds.{IsBoundsAccepted}
-use Rattle.mdp_check.specs.BoundsInitial.{bounds_init_check}
-use Rattle.mdp_check.specs.BoundsLaws.{AcceptedBoundsAreTrue}
-use Rattle.mdp_check.specs.Initial.{is_reward}
-use Rattle.mdp_job.specs.Job.{PlainQuery}
-use Rattle.mdp_job.specs.Refusal.{PlainRefusal, no_memory}
-use Rattle.mdp_command.specs.Files.{most_bytes}
-use Rattle.mdp_command.specs.Said.{Said}
+use Rattle.mdp_cert.specs.{Cert.{PlainClaim, reach, reward, mean}, Claims.{reward_same}}
+use Rattle.mdp_cert.specs.{BoundsCert.{PlainBounds, probabilities, rewards, gains, Certificate, Fits, may_be, is_init_of, is_body_of}, BoundsLaws.{IsReadBack}}
+use Rattle.mdp_cert.specs.{BoundsReading.{outcome}, BoundsSpelling.{text_of}}
+use Rattle.mdp_cert.proofs.BoundsBodies.{reach-counts, reward-counts, mean-counts}
+use Rattle.mdp_check.specs.{Bounds.{IsBoundsAccepted}, BoundsInitial.{bounds_init_check}, BoundsLaws.{AcceptedBoundsAreTrue}, Initial.{is_reward}}
+use Rattle.mdp_job.specs.{Job.{PlainQuery}, Refusal.{PlainRefusal, no_memory}}
+use Rattle.mdp_command.specs.{Files.{most_bytes}, Said.{Said}}
 use Rattle.mdp_command_bounds_search.specs.Certificate.{HasValues, init_between, certificate_of, AreBounds}
-use Rattle.mdp_command_bounds_search.specs.Due.{claim_of, fault_of, IsAcceptedText, IsDueBy, IsBoundsDue}
-use Rattle.mdp_command_bounds_search.specs.Shown.{IsBoundsPrinted}
+use Rattle.mdp_command_bounds_search.specs.{Due.{claim_of, fault_of, IsAcceptedText, IsDueBy, IsBoundsDue}, Shown.{IsBoundsPrinted}}
 use Rattle.mdp_command_bounds_search.proofs.TextLength.{text_short}
 
 -- ---- a body has an entry per state

@@ -1,27 +1,15 @@
 -- What is due to `bounds` is never a term that is too wide, the best values lie between its values, and what is shown of its text.
 use Rattle.std.proofs.Common.{◌≡◌, ℕ, Bool, List, Option, Some, None, Ok, Err, IfOk, IsOk, refl, sym, ap, ap₂, subst, ◌∙◌}
 use Rattle.std.specs.Prelude.{option_map}
-use Rattle.mdp_spec.specs.Between.{ReachMaxBetween, ReachMinBetween, RewardMaxBetween, RewardMinBetween}
-use Rattle.mdp_spec.specs.Labels.{place_of, marks_of}
-use Rattle.mdp_spec.specs.Mdp.{Mdp, states_of}
+use Rattle.mdp_spec.specs.{Between.{ReachMaxBetween, ReachMinBetween, RewardMaxBetween, RewardMinBetween}, Labels.{place_of, marks_of}, Mdp.{Mdp, states_of}}
 use Rattle.mdp_spec.specs.Row.{IsMdp}
-use Rattle.mdp_rows.specs.declared.dir.Dir.{Dir}
-use Rattle.mdp_rows.specs.declared.dir.Dir.TheVariants.{Max, Min}
-use Rattle.mdp_rows.specs.declared.rule.RowRule.{RowRule}
-use Rattle.mdp_cert.specs.Cert.{PlainClaim}
-use Rattle.mdp_bounds_text.specs.Cert.{PlainBounds, probabilities, rewards, gains, Certificate}
-use Rattle.mdp_bounds_text.specs.Spelling.{text_of}
-use Rattle.mdp_check.specs.Bounds.{between_by, IsBoundsTrue}
-use Rattle.mdp_check.specs.BoundsLaws.{AcceptedBoundsAreTrue}
-use Rattle.mdp_check.specs.Check.{reward_place, goal_marks}
-use Rattle.mdp_job.specs.Job.{PlainQuery, reach, reward, mean}
-use Rattle.mdp_job.specs.Refusal.{PlainRefusal}
-use Rattle.mdp_checking.specs.Kinds.{between}
+use Rattle.mdp_rows.specs.{declared.dir.Dir.{Dir}, declared.dir.Dir.TheVariants.{Max, Min}, declared.rule.RowRule.{RowRule}}
+use Rattle.mdp_cert.specs.{Cert.{PlainClaim}, BoundsCert.{PlainBounds, probabilities, rewards, gains, Certificate}, BoundsSpelling.{text_of}}
+use Rattle.mdp_check.specs.{Bounds.{between_by, IsBoundsTrue}, BoundsLaws.{AcceptedBoundsAreTrue}, Check.{reward_place, goal_marks}}
+use Rattle.mdp_job.specs.{Job.{PlainQuery, reach, reward, mean}, Refusal.{PlainRefusal}}
+use Rattle.mdp_command.specs.{Kinds.{between}, Files.{model_due}, Said.{Said}}
 use Rattle.mdp_command.proofs.TrueClaims.{true_claim_of}
-use Rattle.mdp_command.specs.Files.{model_due}
-use Rattle.mdp_command.specs.Said.{Said}
-use Rattle.mdp_command_bounds_search.specs.Due.{claim_of, fault_of, IsDueBy, IsAcceptedText}
-use Rattle.mdp_command_bounds_search.specs.Laws.{IsNeverTooWide, LieBetween, IsAnswerTo, TextLiesBetween}
+use Rattle.mdp_command_bounds_search.specs.{Due.{claim_of, fault_of, IsDueBy, IsAcceptedText}, Laws.{IsNeverTooWide, LieBetween, IsAnswerTo, TextLiesBetween}}
 use Rattle.mdp_command_bounds_search.specs.Shown.{IsBoundsPrinted, IsBoundsSolved}
 
 -- ---- never too wide

@@ -1,26 +1,20 @@
 -- The text of a certificate of bounds has at most 2^30 bytes.
 use Rattle.std.proofs.Common.{◌≡◌, ℕ, ◌+◌, ◌*◌, ◌<◌, ◌≤◌, ◌^◌, true, List, [], ◌∷◌, ◌++◌, length}
-use Rattle.std.proofs.Common.{codes, decimal, Option, Some, None, arith, lit<, ltb→lt, T, sym, subst}
-use Rattle.std.specs.List.{AllByRecursion as Each}
-use Rattle.std.proofs.lemmas.Bool.{and_parts}
-use Rattle.std.proofs.lemmas.List.{length-append}
+use Rattle.std.proofs.{Common.{codes, decimal, Option, Some, None, arith, lit<, ltb→lt, T, sym, subst}, lemmas.Bool.{and_parts}, lemmas.List.{length-append}}
 use Rattle.std.proofs.lemmas.List.Elements.{recursion_from_All}
+use Rattle.std.specs.List.{AllByRecursion as Each}
 use Rattle.mdp_math.specs.Rational.{ℚ}
 use Rattle.mdp_num.specs.Value.{spelling, IsNarrow}
 use Rattle.mdp_text.proofs.Lengths.{number_short, spelling_short, blank_length, line_length, name_short, dir_length, quoted_length, states_short}
 use Rattle.mdp_text.specs.Spelling.{line, ◌␣◌, quoted, dir_text, states_text}
-use Rattle.mdp_rows.specs.Name.{is_name}
-use Rattle.mdp_rows.specs.declared.dir.Dir.{Dir}
-use Rattle.mdp_cert.proofs.RunLengths.{lines_of, closed_short}
+use Rattle.mdp_rows.specs.{Name.{is_name}, declared.dir.Dir.{Dir}}
+use Rattle.mdp_cert.proofs.{RunLengths.{lines_of, closed_short}, BoundsBodies.{reach-counts, reward-counts, mean-counts}}
 use Rattle.mdp_cert.specs.Cert.{PlainClaim, upper, reach, reward, mean, witness, are_names, IsValueNarrow}
-use Rattle.mdp_cert.specs.Claims.{Value, fraction_value, reward_value, reward_text}
-use Rattle.mdp_cert.specs.Spelling.{claim_text, spread_text}
-use Rattle.mdp_bounds_text.proofs.Bodies.{reach-counts, reward-counts, mean-counts}
-use Rattle.mdp_bounds_text.specs.Cert.{PlainBounds, probabilities, rewards, gains, Certificate, Fits, is_init_of, is_body_of, IsInitInWidth, IsBodyInWidth}
-use Rattle.mdp_bounds_text.specs.Entries.{ranked_columns, IsRankedInWidth, ranked_of, gains_columns, IsGainsInWidth, gains_of}
-use Rattle.mdp_bounds_text.specs.Spelling.{version_text, init_text, head_text, body_text, text_of}
-use Rattle.mdp_bounds_text.specs.declared.init.BoundsInit.{BoundsInit}
-use Rattle.mdp_bounds_text.specs.declared.init.BoundsInit.TheVariants.{Missing, Between}
+use Rattle.mdp_cert.specs.{Claims.{Value, fraction_value, reward_value, reward_text}, Spelling.{claim_text, spread_text}}
+use Rattle.mdp_cert.specs.BoundsCert.{PlainBounds, probabilities, rewards, gains, Certificate, Fits, is_init_of, is_body_of, IsInitInWidth, IsBodyInWidth}
+use Rattle.mdp_cert.specs.Entries.{ranked_columns, IsRankedInWidth, ranked_of, gains_columns, IsGainsInWidth, gains_of}
+use Rattle.mdp_cert.specs.{BoundsSpelling.{version_text, init_text, head_text, body_text, text_of}, declared.init.BoundsInit.{BoundsInit}}
+use Rattle.mdp_cert.specs.declared.init.BoundsInit.TheVariants.{Missing, Between}
 use Rattle.mdp_command.specs.Files.{most_bytes}
 
 -- ---- the lines before those of the states

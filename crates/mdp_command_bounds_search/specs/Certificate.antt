@@ -1,14 +1,9 @@
 -- The certificate of bounds that the command makes of what its search finds.
 use Rattle.std.specs.Prelude.{◌≡◌, ℕ, IsTrue, Bool, List, length, Option, Some, None}
-use Rattle.mdp_spec.specs.Bounds.{reward_at}
-use Rattle.mdp_spec.specs.Labels.{initial_of}
-use Rattle.mdp_spec.specs.Mdp.{Mdp, states_of, value_at}
-use Rattle.mdp_cert.specs.Cert.{PlainClaim, are_names}
-use Rattle.mdp_bounds_text.specs.Cert.{PlainBounds, probabilities, rewards, gains, Certificate, is_body_of}
-use Rattle.mdp_bounds_text.specs.declared.init.BoundsInit.{BoundsInit}
-use Rattle.mdp_bounds_text.specs.declared.init.BoundsInit.TheVariants.{Missing, Between}
-use Rattle.mdp_check.specs.Bounds.{valid_bounds_by}
-use Rattle.mdp_check.specs.Check.{reward_place, goal_marks}
+use Rattle.mdp_spec.specs.{Bounds.{reward_at}, Labels.{initial_of}, Mdp.{Mdp, states_of, value_at}}
+use Rattle.mdp_cert.specs.{Cert.{PlainClaim, are_names}, BoundsCert.{PlainBounds, probabilities, rewards, gains, Certificate, is_body_of}}
+use Rattle.mdp_cert.specs.{declared.init.BoundsInit.{BoundsInit}, declared.init.BoundsInit.TheVariants.{Missing, Between}}
+use Rattle.mdp_check.specs.{Bounds.{valid_bounds_by}, Check.{reward_place, goal_marks}}
 
 -- a lower and an upper value for each of so many states
 abbrev pub HasValues : ℕ → PlainBounds → Type 0

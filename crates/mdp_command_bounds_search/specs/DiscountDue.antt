@@ -2,12 +2,10 @@
 -- bounds are found is left to the search.
 use Rattle.std.specs.Prelude.{◌≡◌, ℕ, List, Option, Some, None, Ok, Err}
 use Rattle.mdp_math.specs.Rational.{ℚ}
-use Rattle.mdp_spec.specs.Labels.{place_of}
-use Rattle.mdp_spec.specs.Mdp.{Mdp}
+use Rattle.mdp_spec.specs.{Labels.{place_of}, Mdp.{Mdp}}
 use Rattle.mdp_rows.specs.declared.dir.Dir.{Dir}
-use Rattle.mdp_discount_bounds.specs.Cert.{Certificate, Fits}
-use Rattle.mdp_discount_bounds.specs.Check.{IsAccepted}
-use Rattle.mdp_discount_bounds_text.specs.Spelling.{text_of}
+use Rattle.mdp_discount_bounds.specs.{Cert.{Certificate, Fits}, Check.{IsAccepted}}
+use Rattle.mdp_discount_text.specs.BoundsSpelling.{text_of}
 use Rattle.mdp_job.specs.Refusal.{query_reward}
 use Rattle.mdp_command.specs.Said.{Said}
 

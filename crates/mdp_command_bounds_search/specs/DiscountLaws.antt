@@ -1,14 +1,11 @@
 -- Laws of what is due to `bounds` of a discounted reward, over the definitions alone.
 use Rattle.std.specs.Prelude.{◌≡◌, ℕ, List, Some, Ok, IsOk}
 use Rattle.mdp_math.specs.Rational.{ℚ}
-use Rattle.mdp_spec.specs.Labels.{place_of}
-use Rattle.mdp_spec.specs.Mdp.{Mdp}
-use Rattle.mdp_spec.specs.Row.{IsMdp}
+use Rattle.mdp_spec.specs.{Labels.{place_of}, Mdp.{Mdp}, Row.{IsMdp}}
 use Rattle.mdp_rows.specs.declared.dir.Dir.{Dir}
 use Rattle.mdp_discount_rules.specs.Rules.{IsFactor}
-use Rattle.mdp_discount_bounds.specs.Between.{DiscountBetween}
-use Rattle.mdp_discount_bounds.specs.Cert.{Certificate}
-use Rattle.mdp_discount_bounds_text.specs.Spelling.{text_of}
+use Rattle.mdp_discount_bounds.specs.{Between.{DiscountBetween}, Cert.{Certificate}}
+use Rattle.mdp_discount_text.specs.BoundsSpelling.{text_of}
 use Rattle.mdp_command.specs.Said.{Said}
 use Rattle.mdp_command_bounds_search.specs.DiscountDue.{ClaimsSo, IsDiscountBoundsDue}
 

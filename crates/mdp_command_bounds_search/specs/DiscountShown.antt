@@ -2,18 +2,10 @@
 use Rattle.std.specs.Prelude.{◌≡◌, ℕ, ◌≤◌, List, length, Ok}
 use Rattle.mdp_math.specs.Rational.{ℚ}
 use Rattle.mdp_spec.specs.Mdp.{Mdp}
-use Rattle.mdp_rows.specs.declared.dir.Dir.{Dir}
-use Rattle.mdp_rows.specs.declared.rule.RowRule.{RowRule}
-use Rattle.mdp_discount_bounds.specs.Cert.{Certificate}
-use Rattle.mdp_discount_bounds.specs.Check.{IsAccepted, IsBound}
-use Rattle.mdp_discount_bounds_text.specs.Reading.{outcome}
-use Rattle.mdp_discount_bounds_text.specs.Spelling.{text_of}
-use Rattle.mdp_command.specs.Accepted.{IsTrueClaimBy}
-use Rattle.mdp_command.specs.Files.{most_bytes}
-use Rattle.mdp_command.specs.Read.{IsWorkOnModel}
-use Rattle.mdp_command.specs.Said.{Said}
-use Rattle.mdp_command.specs.Streams.{Input}
-use Rattle.mdp_checking.specs.Kinds.{discounted_between}
+use Rattle.mdp_rows.specs.{declared.dir.Dir.{Dir}, declared.rule.RowRule.{RowRule}}
+use Rattle.mdp_discount_bounds.specs.{Cert.{Certificate}, Check.{IsAccepted, IsBound}}
+use Rattle.mdp_discount_text.specs.{Reading.{outcome}, BoundsSpelling.{text_of}}
+use Rattle.mdp_command.specs.{Accepted.{IsTrueClaimBy}, Files.{most_bytes}, Read.{IsWorkOnModel}, Said.{Said}, Streams.{Input}, Kinds.{discounted_between}}
 use Rattle.mdp_command_bounds_search.specs.DiscountDue.{ClaimsSo, IsDiscountBoundsDue}
 
 -- the text of a certificate of this claim for the model, which reads as it; all rules hold, and the claim is true

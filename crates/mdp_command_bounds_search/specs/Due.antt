@@ -1,16 +1,11 @@
 -- What is due to the command `bounds`, to the direction, the query and the model. It's no function of them: which bounds are found is left to the search.
 use Rattle.std.specs.Prelude.{◌≡◌, ℕ, Option, Some, None, Ok, Err, if◌then◌else◌}
-use Rattle.mdp_spec.specs.Labels.{place_of}
-use Rattle.mdp_spec.specs.Mdp.{Mdp}
-use Rattle.mdp_rows.specs.Negative.{has_negative}
-use Rattle.mdp_rows.specs.declared.dir.Dir.{Dir}
+use Rattle.mdp_spec.specs.{Labels.{place_of}, Mdp.{Mdp}}
+use Rattle.mdp_rows.specs.{Negative.{has_negative}, declared.dir.Dir.{Dir}}
 use Rattle.mdp_cert.specs.Cert as certificate
-use Rattle.mdp_cert.specs.Cert.{PlainClaim}
-use Rattle.mdp_bounds_text.specs.Cert.{Certificate, Fits}
-use Rattle.mdp_bounds_text.specs.Spelling.{text_of}
+use Rattle.mdp_cert.specs.{Cert.{PlainClaim}, BoundsCert.{Certificate, Fits}, BoundsSpelling.{text_of}}
 use Rattle.mdp_check.specs.Bounds.{IsBoundsAccepted}
-use Rattle.mdp_job.specs.Job.{PlainQuery, reach, reward, mean}
-use Rattle.mdp_job.specs.Refusal.{PlainRefusal, query_reward, query_label, query_negative}
+use Rattle.mdp_job.specs.{Job.{PlainQuery, reach, reward, mean}, Refusal.{PlainRefusal, query_reward, query_label, query_negative}}
 use Rattle.mdp_command.specs.Said.{Said}
 
 -- ---- a query that doesn't fit the model

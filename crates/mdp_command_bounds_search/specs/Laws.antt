@@ -1,14 +1,9 @@
 -- Laws of what is due to `bounds`, over the definitions alone.
 use Rattle.std.specs.Prelude.{◌≡◌, ℕ, List, Some, None, Ok, IsOk}
 use Rattle.mdp_spec.specs.Between.{ReachMaxBetween, ReachMinBetween, RewardMaxBetween, RewardMinBetween, MeanMaxBetween, MeanMinBetween}
-use Rattle.mdp_spec.specs.Labels.{place_of, marks_of}
-use Rattle.mdp_spec.specs.Mdp.{Mdp, states_of}
-use Rattle.mdp_spec.specs.Row.{IsMdp}
-use Rattle.mdp_rows.specs.declared.dir.Dir.{Dir}
-use Rattle.mdp_rows.specs.declared.dir.Dir.TheVariants.{Max, Min}
-use Rattle.mdp_bounds_text.specs.Cert.{PlainBounds, probabilities, rewards, gains}
-use Rattle.mdp_bounds_text.specs.Spelling.{text_of}
-use Rattle.mdp_bounds_text.specs.declared.init.BoundsInit.{BoundsInit}
+use Rattle.mdp_spec.specs.{Labels.{place_of, marks_of}, Mdp.{Mdp, states_of}, Row.{IsMdp}}
+use Rattle.mdp_rows.specs.{declared.dir.Dir.{Dir}, declared.dir.Dir.TheVariants.{Max, Min}}
+use Rattle.mdp_cert.specs.{BoundsCert.{PlainBounds, probabilities, rewards, gains}, BoundsSpelling.{text_of}, declared.init.BoundsInit.{BoundsInit}}
 use Rattle.mdp_job.specs.Job.{PlainQuery, reach, reward, mean}
 use Rattle.mdp_command.specs.Said.{Said}
 use Rattle.mdp_command_bounds_search.specs.Due.{claim_of, fault_of, IsBoundsDue}

@@ -1,20 +1,11 @@
 -- What is shown of the text that `bounds` prints.
 use Rattle.std.specs.Prelude.{◌≡◌, ℕ, ◌≤◌, List, length, Ok}
 use Rattle.mdp_spec.specs.Mdp.{Mdp}
-use Rattle.mdp_rows.specs.declared.dir.Dir.{Dir}
-use Rattle.mdp_rows.specs.declared.rule.RowRule.{RowRule}
-use Rattle.mdp_cert.specs.Cert.{PlainClaim}
-use Rattle.mdp_bounds_text.specs.Cert.{Certificate}
-use Rattle.mdp_bounds_text.specs.Reading.{outcome}
-use Rattle.mdp_bounds_text.specs.Spelling.{text_of}
+use Rattle.mdp_rows.specs.{declared.dir.Dir.{Dir}, declared.rule.RowRule.{RowRule}}
+use Rattle.mdp_cert.specs.{Cert.{PlainClaim}, BoundsCert.{Certificate}, BoundsReading.{outcome}, BoundsSpelling.{text_of}}
 use Rattle.mdp_check.specs.Bounds.{IsBoundsAccepted, IsBoundsTrue}
 use Rattle.mdp_job.specs.Job.{PlainQuery}
-use Rattle.mdp_command.specs.Accepted.{IsTrueClaimBy}
-use Rattle.mdp_command.specs.Files.{most_bytes}
-use Rattle.mdp_command.specs.Read.{IsWorkOnModel}
-use Rattle.mdp_command.specs.Said.{Said}
-use Rattle.mdp_command.specs.Streams.{Input}
-use Rattle.mdp_checking.specs.Kinds.{between}
+use Rattle.mdp_command.specs.{Accepted.{IsTrueClaimBy}, Files.{most_bytes}, Read.{IsWorkOnModel}, Said.{Said}, Streams.{Input}, Kinds.{between}}
 use Rattle.mdp_command_bounds_search.specs.Due.{claim_of, IsBoundsDue}
 
 -- the text of a certificate of this claim for the model, which reads as it; all rules hold, and the claim is true

@@ -1,11 +1,10 @@
 ghost use Rattle.std.specs.Prelude.{◌≡◌, ◌⊎◌, Some, None, OnOk, IfOk, IfErr};
-ghost use Rattle.mdp_bounds_text.specs.Cert.{plain_body};
+ghost use Rattle.mdp_cert.specs.BoundsCert.{plain_body};
 ghost use Rattle.mdp_command.specs.Prelude.{plain_query, no_memory, plain_refusal};
 ghost use Rattle.mdp_job.specs.Job.{reach, reward, mean};
-ghost use Rattle.mdp_command_bounds_search.specs.Certificate.{AreBounds};
-ghost use Rattle.mdp_command_bounds_search.specs.Due.{claim_of, fault_of};
+ghost use Rattle.mdp_command_bounds_search.specs.{Certificate.{AreBounds}, Due.{claim_of, fault_of}};
 
-use mdp_bounds_text::BoundsBody;
+use mdp_cert::BoundsBody;
 use mdp_job::{Query, Refusal};
 use mdp_rows::{Dir, Model};
 use mdp_search_bounds::{bounds_mean, bounds_reach, bounds_reward};

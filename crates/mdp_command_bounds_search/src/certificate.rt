@@ -1,14 +1,10 @@
 ghost use Rattle.std.specs.Prelude.{◌≡◌, IfOk, All};
-ghost use Rattle.mdp_spec.specs.Labels.{initial_of};
-ghost use Rattle.mdp_spec.specs.Mdp.{states_of};
-ghost use Rattle.mdp_cert.specs.Cert.{plain_claim, IsValueNarrow};
-ghost use Rattle.mdp_bounds_text.specs.Cert.{plain_body, IsInitInWidth, IsBodyInWidth, Fits};
-ghost use Rattle.mdp_bounds_text.specs.Plain.{plain};
+ghost use Rattle.mdp_spec.specs.{Labels.{initial_of}, Mdp.{states_of}};
+ghost use Rattle.mdp_cert.specs.{Cert.{plain_claim, IsValueNarrow}, BoundsCert.{plain_body, IsInitInWidth, IsBodyInWidth, Fits}, BoundsPlain.{plain}};
 ghost use Rattle.mdp_job.specs.Job.{plain_query};
-ghost use Rattle.mdp_command_bounds_search.specs.Certificate.{HasValues, init_between, certificate_of, AreBounds};
-ghost use Rattle.mdp_command_bounds_search.specs.Due.{claim_of};
+ghost use Rattle.mdp_command_bounds_search.specs.{Certificate.{HasValues, init_between, certificate_of, AreBounds}, Due.{claim_of}};
 
-use mdp_bounds_text::{BoundsBody, BoundsCert, BoundsInit, Claim};
+use mdp_cert::{BoundsBody, BoundsCert, BoundsInit, Claim};
 use mdp_job::Query;
 use mdp_num::Frac;
 use mdp_rows::{Dir, Model};

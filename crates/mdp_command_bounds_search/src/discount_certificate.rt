@@ -1,12 +1,8 @@
 ghost use Rattle.std.specs.Prelude.{◌≡◌, Some, length, IfOk, IfSome, IsTrue, All};
-ghost use Rattle.mdp_spec.specs.Labels.{initial_of, place_of};
-ghost use Rattle.mdp_spec.specs.Mdp.{states_of};
+ghost use Rattle.mdp_spec.specs.{Labels.{initial_of, place_of}, Mdp.{states_of}};
 ghost use Rattle.mdp_claims.specs.declared.verdict.Verdict.TheVariants.{Yes};
 ghost use Rattle.mdp_discount_rules.specs.Rules.{IsFactor};
-ghost use Rattle.mdp_discount_bounds.specs.Cert.{IsValueNarrow, is_init, Fits};
-ghost use Rattle.mdp_discount_bounds.specs.Check.{init_check, IsAccepted};
-ghost use Rattle.mdp_discount_bounds.specs.Checks.{IsDiscountBounds};
-ghost use Rattle.mdp_discount_bounds.specs.Plain.{plain};
+ghost use Rattle.mdp_discount_bounds.specs.{Cert.{IsValueNarrow, is_init, Fits}, Check.{init_check, IsAccepted}, Checks.{IsDiscountBounds}, Plain.{plain}};
 ghost use Rattle.mdp_command_bounds_search.specs.DiscountDue.{ClaimsSo};
 
 use mdp_discount_bounds::{DiscountBounds, DiscountBoundsCert, InitialBounds};

@@ -2,19 +2,18 @@ ghost use Rattle.std.specs.Prelude.{◌≡◌, ◌⊎◌, Ok, Err, OnOk, IfOk};
 ghost use Rattle.mdp_command.specs.Prelude.{IsAtEnd, no_memory, said, input};
 ghost use Rattle.mdp_discount_rules.specs.Rules.{IsFactor};
 ghost use Rattle.mdp_discount_bounds.specs.Plain.{plain};
-ghost use Rattle.mdp_discount_bounds_text.specs.Spelling.{text_of};
-ghost use Rattle.mdp_command_bounds_search.specs.DiscountDue.{IsDiscountBoundsDue};
-ghost use Rattle.mdp_command_bounds_search.specs.DiscountShown.{IsDiscountBoundsPrinted, IsDiscountBoundsRead};
+ghost use Rattle.mdp_discount_text.specs.BoundsSpelling.{text_of};
+ghost use Rattle.mdp_command_bounds_search.specs.{DiscountDue.{IsDiscountBoundsDue}, DiscountShown.{IsDiscountBoundsPrinted, IsDiscountBoundsRead}};
 
 use crate::discount_certificate::certificate_of;
 use mdp_command::read_model;
 use mdp_discount_bounds::{DiscountBoundsCert, discount_bounds_law};
-use mdp_discount_bounds_text::{discount_bounds_text_law, write_discount_bounds};
+use mdp_discount_text::{discount_bounds_text_law, write_discount_bounds};
 use mdp_edge::Source;
 use mdp_job::Refusal;
 use mdp_num::Frac;
 use mdp_rows::{Dir, Model, RowRule};
-use mdp_search_discount_bounds::bounds_discount;
+use mdp_search_bounds::bounds_discount;
 use std::alloc::Global;
 
 /// The text of a certificate.

@@ -1,13 +1,11 @@
 ghost use Rattle.std.specs.Prelude.{◌≡◌, ◌⊎◌, Ok, Err, OnOk, IfOk};
 ghost use Rattle.mdp_command.specs.Prelude.{IsAtEnd, plain_query, no_memory, said, input};
-ghost use Rattle.mdp_bounds_text.specs.Plain.{plain};
-ghost use Rattle.mdp_bounds_text.specs.Spelling.{text_of};
-ghost use Rattle.mdp_command_bounds_search.specs.Due.{claim_of, IsBoundsDue};
-ghost use Rattle.mdp_command_bounds_search.specs.Shown.{IsBoundsPrinted, IsBoundsRead};
+ghost use Rattle.mdp_cert.specs.{BoundsPlain.{plain}, BoundsSpelling.{text_of}};
+ghost use Rattle.mdp_command_bounds_search.specs.{Due.{claim_of, IsBoundsDue}, Shown.{IsBoundsPrinted, IsBoundsRead}};
 
 use crate::bounding::bounds_of_query;
 use crate::certificate::{certificate_of, claim_of};
-use mdp_bounds_text::{BoundsCert, bounds_text_law, write_bounds};
+use mdp_cert::{BoundsCert, bounds_text_law, write_bounds};
 use mdp_check::bounds_checking_law;
 use mdp_command::read_model;
 use mdp_edge::Source;

@@ -1,25 +1,18 @@
 -- A text that is due to `bounds` within a number of steps is that of bounds.
 use Rattle.std.proofs.Common.{◌≡◌, ℕ, ◌*◌, ◌^◌, ◌⊎◌, inl, inr, nat_lt, List, Option, Some, None, Ok, Err, IfOk, pos, refl, sym, arith}
 use Rattle.mdp_math.specs.Result.{◌>>=◌}
-use Rattle.mdp_spec.specs.Labels.{place_of}
-use Rattle.mdp_spec.specs.Mdp.{Mdp, states_of}
-use Rattle.mdp_spec.specs.Row.{IsMdp}
+use Rattle.mdp_spec.specs.{Labels.{place_of}, Mdp.{Mdp, states_of}, Row.{IsMdp}}
 use Rattle.mdp_spec.proofs.Hits.{pow_by-pos}
-use Rattle.mdp_rows.specs.declared.dir.Dir.{Dir}
-use Rattle.mdp_rows.specs.declared.dir.Dir.TheVariants.{Max, Min}
-use Rattle.mdp_horizon.specs.Objective.{Objective}
-use Rattle.mdp_horizon.specs.Objective.Objective.{until as until_objective, total as total_objective}
-use Rattle.mdp_horizon.proofs.Turns.{ok_same, ok_part}
-use Rattle.mdp_horizon_bounds.specs.Columns.{bounds_of}
-use Rattle.mdp_horizon_bounds.specs.Spelling.{PlainClaim, bounds_text}
-use Rattle.mdp_horizon_bounds.specs.Spelling.PlainClaim.{until as until_claim, total as total_claim}
-use Rattle.mdp_horizon_bounds.proofs.Between.{bounds-max, bounds-min}
+use Rattle.mdp_rows.specs.{declared.dir.Dir.{Dir}, declared.dir.Dir.TheVariants.{Max, Min}}
+use Rattle.mdp_horizon.specs.{Objective.{Objective}, Objective.Objective.{until as until_objective, total as total_objective}, Columns.{bounds_of}}
+use Rattle.mdp_horizon.specs.{BoundsSpelling.{PlainClaim, bounds_text}, BoundsSpelling.PlainClaim.{until as until_claim, total as total_claim}}
+use Rattle.mdp_horizon.proofs.{Turns.{ok_same, ok_part}, Between.{bounds-max, bounds-min}}
 use Rattle.mdp_command_horizon.specs.BoundsDue.{said_of_bounds, IsUntilBoundsDue, IsTotalBoundsDue}
 use Rattle.mdp_command_horizon.specs.BoundsShown.{AreBetween, AreUntilBoundsPrinted, AreTotalBoundsPrinted}
+use Rattle.mdp_command_horizon.specs.Due.{most_choices, states_with, states_that_stay, stay_word, name_at}
 use Rattle.mdp_job.specs.Refusal.{no_memory}
 use Rattle.mdp_command.specs.Said.{Said}
 use Rattle.mdp_command_horizon.proofs.Printing.{not_long}
-use Rattle.mdp_command_horizon.specs.Due.{most_choices, states_with, states_that_stay, stay_word, name_at}
 
 between_of : (dir : Dir) (m : Mdp) (o : Objective) (steps digits : ℕ) → IsMdp m → AreBetween dir m o steps (bounds_of dir (pos (10 ^ digits)) m o steps)
 between_of Max m o steps digits mdp = bounds-max (10 ^ digits) m o steps (pow_by-pos 10 digits (omega arith)) mdp

@@ -2,20 +2,14 @@
 use Rattle.std.proofs.Common.{◌≡◌, ℕ, ◌*◌, ◌<◌, Bool, true, false, if◌then◌else◌, nat_lt, List, length, Option, Some, None, Result, Ok, Err, IfOk, replicate, refl, sym, ap, ◌∙◌}
 use Rattle.std.proofs.lemmas.List.{length-map, length-replicate}
 use Rattle.mdp_math.specs.Result.{◌>>=◌}
-use Rattle.mdp_spec.specs.Labels.{place_of, marks_of}
-use Rattle.mdp_spec.specs.Mdp.{Mdp, states_of}
-use Rattle.mdp_spec.specs.Row.{IsMdp}
-use Rattle.mdp_rows.specs.declared.dir.Dir.{Dir}
-use Rattle.mdp_rows.specs.declared.dir.Dir.TheVariants.{Max, Min}
-use Rattle.mdp_rows.specs.declared.rule.RowRule.{RowRule}
+use Rattle.mdp_spec.specs.{Labels.{place_of, marks_of}, Mdp.{Mdp, states_of}, Row.{IsMdp}}
+use Rattle.mdp_rows.specs.{declared.dir.Dir.{Dir}, declared.dir.Dir.TheVariants.{Max, Min}, declared.rule.RowRule.{RowRule}}
 use Rattle.mdp_check.proofs.Accepting.{below_names}
-use Rattle.mdp_horizon.specs.Laws.{AnswersAreGreatest, AnswersAreLeast, TotalsAreGreatest, TotalsAreLeast}
-use Rattle.mdp_horizon.specs.Spelling.{until_text, total_text}
+use Rattle.mdp_horizon.specs.{Laws.{AnswersAreGreatest, AnswersAreLeast, TotalsAreGreatest, TotalsAreLeast}, Spelling.{until_text, total_text}}
 use Rattle.mdp_horizon.specs.Written.{Place, Answer, written_until, written_total}
 use Rattle.mdp_horizon.proofs.Turns.{ok_same, ok_part}
 use Rattle.mdp_job.specs.Refusal.{query_steps}
-use Rattle.mdp_command.specs.Files.{model_due}
-use Rattle.mdp_command.specs.Said.{Said}
+use Rattle.mdp_command.specs.{Files.{model_due}, Said.{Said}}
 use Rattle.mdp_command.proofs.Working.{read_of_due}
 use Rattle.mdp_command_horizon.specs.Due.{most_choices, said_of_end, said_within, marks_at, states_with, states_that_stay, stay_word, said_of_marks, IsHorizonDue, name_at, said_of_name, IsHorizonRewardDue}
 use Rattle.mdp_command_horizon.specs.Shown.{IsShownOf, IsBest, IsHorizonPrinted, IsHorizonShown, IsBestTotal, IsHorizonRewardPrinted, IsHorizonRewardShown}

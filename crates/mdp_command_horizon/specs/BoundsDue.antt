@@ -1,14 +1,10 @@
 -- What is due to `bounds` of a bounded until and of a total reward, and to the model: the values that are rounded outward in units of 10^-digits.
 use Rattle.std.specs.Prelude.{◌≡◌, ℕ, ◌*◌, ◌^◌, List, Option, Ok, Err, pos, nat_lt, if◌then◌else◌}
 use Rattle.mdp_math.specs.Result.{◌>>=◌}
-use Rattle.mdp_spec.specs.Labels.{place_of}
-use Rattle.mdp_spec.specs.Mdp.{Mdp, states_of}
+use Rattle.mdp_spec.specs.{Labels.{place_of}, Mdp.{Mdp, states_of}}
 use Rattle.mdp_rows.specs.declared.dir.Dir.{Dir}
-use Rattle.mdp_horizon.specs.Objective.{Objective}
-use Rattle.mdp_horizon.specs.Objective.Objective.{until as until_objective, total as total_objective}
-use Rattle.mdp_horizon_bounds.specs.Columns.{bounds_of}
-use Rattle.mdp_horizon_bounds.specs.Spelling.{PlainClaim, bounds_text}
-use Rattle.mdp_horizon_bounds.specs.Spelling.PlainClaim.{until as until_claim, total as total_claim}
+use Rattle.mdp_horizon.specs.{Objective.{Objective}, Objective.Objective.{until as until_objective, total as total_objective}, Columns.{bounds_of}}
+use Rattle.mdp_horizon.specs.{BoundsSpelling.{PlainClaim, bounds_text}, BoundsSpelling.PlainClaim.{until as until_claim, total as total_claim}}
 use Rattle.mdp_job.specs.Refusal.{query_steps}
 use Rattle.mdp_command.specs.Said.{Said}
 use Rattle.mdp_command_horizon.specs.Due.{most_choices, states_with, states_that_stay, stay_word, name_at}

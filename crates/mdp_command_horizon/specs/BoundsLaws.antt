@@ -1,10 +1,8 @@
 -- Laws of what is due to `bounds` within a number of steps, over the definitions alone.
 use Rattle.std.specs.Prelude.{ℕ, List, Option, Ok}
-use Rattle.mdp_spec.specs.Mdp.{Mdp}
-use Rattle.mdp_spec.specs.Row.{IsMdp}
+use Rattle.mdp_spec.specs.{Mdp.{Mdp}, Row.{IsMdp}}
 use Rattle.mdp_rows.specs.declared.dir.Dir.{Dir}
-use Rattle.mdp_command_horizon.specs.BoundsDue.{IsUntilBoundsDue, IsTotalBoundsDue}
-use Rattle.mdp_command_horizon.specs.BoundsShown.{AreUntilBoundsPrinted, AreTotalBoundsPrinted}
+use Rattle.mdp_command_horizon.specs.{BoundsDue.{IsUntilBoundsDue, IsTotalBoundsDue}, BoundsShown.{AreUntilBoundsPrinted, AreTotalBoundsPrinted}}
 
 -- a text that is due is that of bounds
 abbrev pub UntilTextIsBetween : Type 0

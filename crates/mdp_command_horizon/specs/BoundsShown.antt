@@ -1,22 +1,11 @@
 -- What is shown of the text that answers `bounds` of a bounded until, or of a total reward.
 use Rattle.std.specs.Prelude.{◌≡◌, ℕ, List, Bool, Option, Some, Ok}
-use Rattle.mdp_spec.specs.Labels.{place_of}
-use Rattle.mdp_spec.specs.Mdp.{Mdp}
-use Rattle.mdp_rows.specs.declared.dir.Dir.{Dir}
-use Rattle.mdp_rows.specs.declared.dir.Dir.TheVariants.{Max, Min}
-use Rattle.mdp_rows.specs.declared.rule.RowRule.{RowRule}
-use Rattle.mdp_horizon.specs.Between.{MaxBetween, MinBetween}
-use Rattle.mdp_horizon.specs.Objective.{Objective}
-use Rattle.mdp_horizon.specs.Objective.Objective.{until as until_objective, total as total_objective}
-use Rattle.mdp_horizon_bounds.specs.Columns.{Bounds}
-use Rattle.mdp_horizon_bounds.specs.Spelling.{bounds_text}
-use Rattle.mdp_horizon_bounds.specs.Spelling.PlainClaim.{until as until_claim, total as total_claim}
-use Rattle.mdp_command.specs.Read.{IsWorkOnModel}
-use Rattle.mdp_command.specs.Said.{Said}
-use Rattle.mdp_command.specs.Streams.{Input}
-use Rattle.mdp_command_horizon.specs.BoundsDue.{IsUntilBoundsDue, IsTotalBoundsDue}
-use Rattle.mdp_command_horizon.specs.Due.{states_with, states_that_stay, stay_word}
-use Rattle.mdp_command_horizon.specs.Shown.{IsShownOf}
+use Rattle.mdp_spec.specs.{Labels.{place_of}, Mdp.{Mdp}}
+use Rattle.mdp_rows.specs.{declared.dir.Dir.{Dir}, declared.dir.Dir.TheVariants.{Max, Min}, declared.rule.RowRule.{RowRule}}
+use Rattle.mdp_horizon.specs.{Between.{MaxBetween, MinBetween}, Objective.{Objective}, Objective.Objective.{until as until_objective, total as total_objective}}
+use Rattle.mdp_horizon.specs.{Columns.{Bounds}, BoundsSpelling.{bounds_text}, BoundsSpelling.PlainClaim.{until as until_claim, total as total_claim}}
+use Rattle.mdp_command.specs.{Read.{IsWorkOnModel}, Said.{Said}, Streams.{Input}}
+use Rattle.mdp_command_horizon.specs.{BoundsDue.{IsUntilBoundsDue, IsTotalBoundsDue}, Due.{states_with, states_that_stay, stay_word}, Shown.{IsShownOf}}
 
 -- the greatest, or the least, values within so many steps lie between the lower and the upper ones, and what the table comes to does
 abbrev pub AreBetween : Dir → Mdp → Objective → ℕ → Bounds → Type 0

@@ -1,6 +1,5 @@
 -- The values of the program's types.
-use Rattle.std.specs.Prelude.{ℕ, List, Option, option_map}
-use Rattle.std.specs.Borrow.{Bor}
+use Rattle.std.specs.{Prelude.{ℕ, List, Option, option_map}, Borrow.{Bor}}
 use Rattle.mdp_horizon.specs.Errors.{HorizonError}
 use Rattle.mdp_wide.specs.declared.unfinished.Unfinished.TheVariants as error
 use Rattle.mdp_job.specs.Refusal.{PlainRefusal, horizon_wide, no_memory}

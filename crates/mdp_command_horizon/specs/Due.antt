@@ -1,11 +1,9 @@
 -- What is due to the command `horizon` and to the model: of a bounded until, and of the total reward of a name.
 use Rattle.std.specs.Prelude.{◌≡◌, ℕ, ◌*◌, ◌^◌, Bool, true, List, Option, Some, None, Result, Ok, Err, replicate, codes, nat_lt, if◌then◌else◌}
 use Rattle.mdp_math.specs.Result.{◌>>=◌}
-use Rattle.mdp_spec.specs.Labels.{place_of, marks_of}
-use Rattle.mdp_spec.specs.Mdp.{Mdp, states_of}
+use Rattle.mdp_spec.specs.{Labels.{place_of, marks_of}, Mdp.{Mdp, states_of}}
 use Rattle.mdp_rows.specs.declared.dir.Dir.{Dir}
-use Rattle.mdp_horizon.specs.Spelling.{until_text, total_text}
-use Rattle.mdp_horizon.specs.Written.{Place, Answer, written_until, written_total}
+use Rattle.mdp_horizon.specs.{Spelling.{until_text, total_text}, Written.{Place, Answer, written_until, written_total}}
 use Rattle.mdp_job.specs.Refusal.{PlainRefusal, query_label, query_reward, query_steps, horizon_wide}
 use Rattle.mdp_command.specs.Said.{Said}
 

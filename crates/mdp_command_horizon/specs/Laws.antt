@@ -1,10 +1,8 @@
 -- Laws of what is due to the command, over the definitions alone.
 use Rattle.std.specs.Prelude.{ℕ, List, Option, Ok}
-use Rattle.mdp_spec.specs.Mdp.{Mdp}
-use Rattle.mdp_spec.specs.Row.{IsMdp}
+use Rattle.mdp_spec.specs.{Mdp.{Mdp}, Row.{IsMdp}}
 use Rattle.mdp_rows.specs.declared.dir.Dir.{Dir}
-use Rattle.mdp_command_horizon.specs.Due.{IsHorizonDue, IsHorizonRewardDue}
-use Rattle.mdp_command_horizon.specs.Shown.{IsHorizonPrinted, IsHorizonRewardPrinted}
+use Rattle.mdp_command_horizon.specs.{Due.{IsHorizonDue, IsHorizonRewardDue}, Shown.{IsHorizonPrinted, IsHorizonRewardPrinted}}
 
 -- a text that is due is that of best values and a best table
 abbrev pub TextIsAnswer : Type 0

@@ -1,18 +1,11 @@
 -- What is shown of the text that answers a bounded until, or a total reward.
 use Rattle.std.specs.Prelude.{◌≡◌, ℕ, ◌≤◌, Bool, List, length, Option, Some, Ok}
-use Rattle.mdp_spec.specs.Labels.{place_of}
-use Rattle.mdp_spec.specs.Mdp.{Mdp}
-use Rattle.mdp_rows.specs.declared.dir.Dir.{Dir}
-use Rattle.mdp_rows.specs.declared.dir.Dir.TheVariants.{Max, Min}
-use Rattle.mdp_rows.specs.declared.rule.RowRule.{RowRule}
+use Rattle.mdp_spec.specs.{Labels.{place_of}, Mdp.{Mdp}}
+use Rattle.mdp_rows.specs.{declared.dir.Dir.{Dir}, declared.dir.Dir.TheVariants.{Max, Min}, declared.rule.RowRule.{RowRule}}
 use Rattle.mdp_drn.specs.Reading.{Reads}
-use Rattle.mdp_horizon.specs.Bounds.{BoundedMax, BoundedMin, TotalMax, TotalMin}
-use Rattle.mdp_horizon.specs.Spelling.{until_text, total_text}
+use Rattle.mdp_horizon.specs.{Bounds.{BoundedMax, BoundedMin, TotalMax, TotalMin}, Spelling.{until_text, total_text}}
 use Rattle.mdp_horizon.specs.Written.{Answer, written_until, written_total}
-use Rattle.mdp_command.specs.Files.{most_bytes}
-use Rattle.mdp_command.specs.Read.{IsWorkOnModel}
-use Rattle.mdp_command.specs.Said.{Said}
-use Rattle.mdp_command.specs.Streams.{Input}
+use Rattle.mdp_command.specs.{Files.{most_bytes}, Read.{IsWorkOnModel}, Said.{Said}, Streams.{Input}}
 use Rattle.mdp_command_horizon.specs.Due.{states_with, states_that_stay, stay_word, IsHorizonDue, IsHorizonRewardDue}
 
 -- the model's bytes read as a model for which the text is printed

@@ -1,12 +1,9 @@
 ghost use Rattle.std.specs.Prelude.{◌≡◌, ◌⊎◌, ◌≤◌, ◌*◌, ◌^◌, length, true, replicate, Ok, Err, OnOk, IfOk};
-ghost use Rattle.mdp_command.specs.Prelude.{IsAtEnd, no_memory, said, input};
+ghost use Rattle.mdp_command.specs.{Prelude.{IsAtEnd, no_memory, said, input}, Said.{plain_error}};
 ghost use Rattle.mdp_spec.specs.Mdp.{states_of};
-ghost use Rattle.mdp_command.specs.Said.{plain_error};
-ghost use Rattle.mdp_horizon.specs.Answer.{plain};
-ghost use Rattle.mdp_horizon.specs.Spelling.{until_text};
+ghost use Rattle.mdp_horizon.specs.{Answer.{plain}, Spelling.{until_text}};
 ghost use Rattle.mdp_command_horizon.specs.Due.{states_with, states_that_stay, stay_word, said_of_marks, IsHorizonDue};
-ghost use Rattle.mdp_command_horizon.specs.Shown.{IsHorizonPrinted, IsHorizonRead};
-ghost use Rattle.mdp_command_horizon.specs.Code.{names_of};
+ghost use Rattle.mdp_command_horizon.specs.{Shown.{IsHorizonPrinted, IsHorizonRead}, Code.{names_of}};
 
 use crate::laws::horizon_law;
 use crate::tables::{is_too_long, refusal_of};

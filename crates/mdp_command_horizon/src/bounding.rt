@@ -1,20 +1,16 @@
 ghost use Rattle.std.specs.Prelude.{◌≡◌, ◌⊎◌, ◌<◌, ◌≤◌, length, Ok, Err, OnOk};
 ghost use Rattle.mdp_command.specs.Prelude.{IsAtEnd, no_memory, said, input};
 ghost use Rattle.mdp_spec.specs.Mdp.{states_of};
-ghost use Rattle.mdp_horizon.specs.Objective.Objective.{until as until_objective, total as total_objective};
-ghost use Rattle.mdp_horizon_bounds.specs.Answer.{plain};
-ghost use Rattle.mdp_horizon_bounds.specs.Spelling.{plain_claim, bounds_text};
-ghost use Rattle.mdp_horizon_bounds.specs.Spelling.PlainClaim.{until as until_claim, total as total_claim};
+ghost use Rattle.mdp_horizon.specs.{Objective.Objective.{until as until_objective, total as total_objective}, BoundsAnswer.{plain}};
+ghost use Rattle.mdp_horizon.specs.{BoundsSpelling.{plain_claim, bounds_text}, BoundsSpelling.PlainClaim.{until as until_claim, total as total_claim}};
 ghost use Rattle.mdp_command_horizon.specs.BoundsDue.{said_of_bounds, IsUntilBoundsDue, IsTotalBoundsDue};
-ghost use Rattle.mdp_command_horizon.specs.BoundsShown.{AreUntilBoundsRead, AreTotalBoundsRead};
-ghost use Rattle.mdp_command_horizon.specs.Code.{names_of};
-ghost use Rattle.mdp_command_horizon.specs.Due.{stay_word};
+ghost use Rattle.mdp_command_horizon.specs.{BoundsShown.{AreUntilBoundsRead, AreTotalBoundsRead}, Code.{names_of}, Due.{stay_word}};
 
 use crate::answering::{states_that_stay, states_with, stay_word};
 use crate::tables::is_too_long;
 use mdp_command::read_model;
 use mdp_edge::Source;
-use mdp_horizon_bounds::{Claim, HorizonBounds, total_bounds, until_bounds, write_horizon_bounds};
+use mdp_horizon::{Claim, HorizonBounds, total_bounds, until_bounds, write_horizon_bounds};
 use mdp_job::Refusal;
 use mdp_rows::{Dir, Marks, Model, RowRule};
 use std::alloc::Global;

@@ -1,10 +1,8 @@
 ghost use Rattle.std.specs.Prelude.{◌≡◌, ◌⊎◌, ◌<◌, length, Ok, Err, OnOk, IfOk};
 ghost use Rattle.mdp_command.specs.Prelude.{IsAtEnd, no_memory, said, input};
 ghost use Rattle.mdp_spec.specs.Mdp.{states_of};
-ghost use Rattle.mdp_horizon.specs.Answer.{plain};
-ghost use Rattle.mdp_horizon.specs.Spelling.{total_text};
-ghost use Rattle.mdp_command_horizon.specs.Due.{said_of_name, IsHorizonRewardDue};
-ghost use Rattle.mdp_command_horizon.specs.Shown.{IsHorizonRewardPrinted, IsHorizonRewardRead};
+ghost use Rattle.mdp_horizon.specs.{Answer.{plain}, Spelling.{total_text}};
+ghost use Rattle.mdp_command_horizon.specs.{Due.{said_of_name, IsHorizonRewardDue}, Shown.{IsHorizonRewardPrinted, IsHorizonRewardRead}};
 
 use crate::laws::horizon_reward_law;
 use crate::tables::{is_too_long, refusal_of};

@@ -1,5 +1,4 @@
-ghost use Rattle.mdp_command_horizon.specs.BoundsLaws.{UntilTextIsBetween, TotalTextIsBetween};
-ghost use Rattle.mdp_command_horizon.specs.Laws.{TextIsAnswer, RewardTextIsAnswer};
+ghost use Rattle.mdp_command_horizon.specs.{BoundsLaws.{UntilTextIsBetween, TotalTextIsBetween}, Laws.{TextIsAnswer, RewardTextIsAnswer}};
 
 use mdp_horizon::{total_law, until_law};
 

@@ -1,8 +1,7 @@
 ghost use Rattle.std.specs.Prelude.{◌≡◌, ◌*◌, nat_lt};
 ghost use Rattle.mdp_spec.specs.Mdp.{states_of};
 ghost use Rattle.mdp_job.specs.Refusal.{plain_refusal};
-ghost use Rattle.mdp_command_horizon.specs.Due.{most_choices};
-ghost use Rattle.mdp_command_horizon.specs.Code.{refused};
+ghost use Rattle.mdp_command_horizon.specs.{Due.{most_choices}, Code.{refused}};
 
 use mdp_horizon::{HorizonError, HorizonPlace};
 use mdp_job::Refusal;

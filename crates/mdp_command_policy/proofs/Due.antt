@@ -1,31 +1,19 @@
 -- One thing is due to the value of a policy.
 use Rattle.std.proofs.Common.{◌≡◌, ℕ, ◌⊎◌, inl, inr, Bool, true, false, List, length, Option, Some, None, Result, Ok, Err, refl, sym, ap, subst, ◌∙◌, arith}
-use Rattle.std.specs.Prelude.{slice_index_or, ◌==◌}
 use Rattle.std.proofs.lemmas.List.FromFn.{fill_by_all}
+use Rattle.std.specs.Prelude.{slice_index_or, ◌==◌}
 use Rattle.mdp_math.specs.Result.{◌>>=◌}
 use Rattle.mdp_math.proofs.Booleans.{same_truth}
-use Rattle.mdp_spec.specs.Labels.{place_of, marks_of}
-use Rattle.mdp_spec.specs.Mdp.{Mdp, states_of}
-use Rattle.mdp_spec.specs.Tree.{is_marked, IsPolicy}
-use Rattle.mdp_wide.specs.declared.too_wide.Kind.{Kind}
-use Rattle.mdp_wide.specs.declared.too_wide.Part.{Part}
-use Rattle.mdp_wide.specs.declared.too_wide.Part.TheVariants.{Whole}
-use Rattle.mdp_wide.specs.Errors.{SolveError}
+use Rattle.mdp_spec.specs.{Labels.{place_of, marks_of}, Mdp.{Mdp, states_of}, Tree.{is_marked, IsPolicy}}
+use Rattle.mdp_wide.specs.{declared.too_wide.Kind.{Kind}, declared.too_wide.Part.{Part}, declared.too_wide.Part.TheVariants.{Whole}, Errors.{SolveError}}
+use Rattle.mdp_wide.specs.{declared.too_wide.TooWide.{TooWide}, Term.{WideTerm, shown}}
 use Rattle.mdp_wide.specs.declared.unfinished.Unfinished.TheVariants as error
-use Rattle.mdp_wide.specs.declared.too_wide.TooWide.{TooWide}
-use Rattle.mdp_graph.specs.Sets.{marked}
-use Rattle.mdp_graph.specs.Layers.{AreReached}
-use Rattle.mdp_graph.specs.Reach.{row_step}
+use Rattle.mdp_graph.specs.{Sets.{marked}, Layers.{AreReached}, Reach.{row_step}}
 use Rattle.mdp_policy_iteration.specs.Places.{Place}
-use Rattle.mdp_wide.specs.Term.{WideTerm, shown}
 use Rattle.mdp_reach.specs.Query.{policy_rows}
-use Rattle.mdp_policy.specs.Answer.{IsValueOf, IsTermAt, Gives}
-use Rattle.mdp_policy.specs.Spelling.{value_text}
-use Rattle.mdp_policy.specs.Text.{policy_outcome}
-use Rattle.mdp_policy.specs.Written.{Answer, written_value}
+use Rattle.mdp_policy.specs.{Answer.{IsValueOf, IsTermAt, Gives}, Spelling.{value_text}, Text.{policy_outcome}, Written.{Answer, written_value}}
 use Rattle.mdp_job.specs.Refusal.{PlainRefusal, too_wide, no_memory}
-use Rattle.mdp_command.specs.Files.{second_due}
-use Rattle.mdp_command.specs.Said.{Said}
+use Rattle.mdp_command.specs.{Files.{second_due}, Said.{Said}}
 use Rattle.mdp_command_policy.specs.Due.{choices_or_refusal, choices_due, TakesNoChoice, term_at, said_of_end, IsValueDue, IsChoiceDue, IsLabelDue, IsSizeDue, IsTextDue, IsPolicyDue}
 
 -- ---- the marks are determined

@@ -1,3 +1,6 @@
 pub mod Ranks
 pub mod Due
 pub mod Printing
+pub mod ChainDue
+pub mod ChainPrinting
+mod ChainExamples

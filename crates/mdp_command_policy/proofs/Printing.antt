@@ -1,30 +1,22 @@
 -- A text that is due is that of a policy's probabilities, and of changes that are better.
 use Rattle.std.proofs.Common.{◌≡◌, ℕ, ◌≤◌, inl, inr, Bool, true, false, nat_lt, List, length, Option, Some, None, Result, Ok, Err, IfOk, refl, ◌∙◌}
-use Rattle.std.specs.Prelude.{◌==◌}
 use Rattle.std.proofs.lemmas.Bool.{ltb-false}
-use Rattle.mdp_spec.specs.Labels.{place_of, marks_of}
-use Rattle.mdp_spec.specs.Mdp.{Mdp, states_of}
-use Rattle.mdp_spec.specs.Row.{IsMdp}
-use Rattle.mdp_spec.specs.Tree.{is_marked, IsPolicy}
+use Rattle.std.specs.Prelude.{◌==◌}
+use Rattle.mdp_spec.specs.{Labels.{place_of, marks_of}, Mdp.{Mdp, states_of}, Row.{IsMdp}, Tree.{is_marked, IsPolicy}}
 use Rattle.mdp_rows.specs.declared.rule.RowRule.{RowRule}
 use Rattle.mdp_elim.specs.Laws.{GivesSolutions}
-use Rattle.mdp_graph.specs.Laws.{RowsFall, RowsStay}
-use Rattle.mdp_graph.specs.Reach.{row_step}
+use Rattle.mdp_graph.specs.{Laws.{RowsFall, RowsStay}, Reach.{row_step}}
 use Rattle.mdp_policy_iteration.specs.Places.{Place}
 use Rattle.mdp_policy_iteration.proofs.Results.{ok_part}
 use Rattle.mdp_reach.specs.Query.{policy_rows, AreMaxRanks}
 use Rattle.mdp_text.specs.declared.error.Refusal as text
-use Rattle.mdp_policy.specs.Answer.{IsValueOf}
-use Rattle.mdp_policy.specs.Text.{policy_outcome, IsReadFromText}
-use Rattle.mdp_policy.specs.Written.{Answer}
+use Rattle.mdp_policy.specs.{Answer.{IsValueOf}, Text.{policy_outcome, IsReadFromText}, Written.{Answer}}
 use Rattle.mdp_policy.proofs.Facts.{IsValued, written_valued}
 use Rattle.mdp_job.specs.Refusal.{PlainRefusal}
-use Rattle.mdp_command.specs.Files.{most_bytes, model_due, second_due}
-use Rattle.mdp_command.specs.Said.{Said}
+use Rattle.mdp_command.specs.{Files.{most_bytes, model_due, second_due}, Said.{Said}}
 use Rattle.mdp_command.proofs.Working.{read_of_due}
 use Rattle.mdp_command_policy.specs.Due.{choices_or_refusal, choices_due, said_of_end, IsChoiceDue, IsLabelDue, IsSizeDue, IsTextDue, IsPolicyDue}
-use Rattle.mdp_command_policy.specs.Laws.{TextIsValue}
-use Rattle.mdp_command_policy.specs.Shown.{IsValuePrinted, IsPolicyPrinted, IsPolicyShown}
+use Rattle.mdp_command_policy.specs.{Laws.{TextIsValue}, Shown.{IsValuePrinted, IsPolicyPrinted, IsPolicyShown}}
 use Rattle.mdp_command_policy.proofs.Ranks.{ranks_of, least_ranks}
 
 -- ---- the policy's text

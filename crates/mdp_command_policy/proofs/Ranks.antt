@@ -1,11 +1,8 @@
 -- States that are marked as reached have least ranks.
 use Rattle.std.proofs.Common.{◌≡◌, ℕ, zero, suc, ◌+◌, ◌<◌, ◌≤◌, Bool, true, false, nat_lt, List, map, refl, sym, subst, T, lt-ltb, ltb→lt, arith}
-use Rattle.std.specs.Prelude.{slice_index}
-use Rattle.std.specs.List.{range_with_len}
-use Rattle.std.proofs.lemmas.Bool.{ltb-false}
-use Rattle.std.proofs.lemmas.List.FromFn.{length-map-range_with_len, get_or-map-range_with_len}
-use Rattle.mdp_graph.specs.Sets.{marked}
-use Rattle.mdp_graph.specs.Layers.{reached, AreReached, AreLeastRanks}
+use Rattle.std.proofs.{lemmas.Bool.{ltb-false}, lemmas.List.FromFn.{length-map-range_with_len, get_or-map-range_with_len}}
+use Rattle.std.specs.{Prelude.{slice_index}, List.{range_with_len}}
+use Rattle.mdp_graph.specs.{Sets.{marked}, Layers.{reached, AreReached, AreLeastRanks}}
 
 -- ---- the least number that passes
 

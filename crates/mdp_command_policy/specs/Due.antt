@@ -1,20 +1,13 @@
 -- What is due to the value of a policy: to the label, to the model and to the bytes of the policy's text.
 use Rattle.std.specs.Prelude.{◌≡◌, ◌⊎◌, ℕ, ◌<◌, ◌≤◌, Bool, true, false, List, length, slice_index, Option, Some, None, Result, Ok, Err, ◌==◌}
 use Rattle.mdp_math.specs.Result.{◌>>=◌}
-use Rattle.mdp_spec.specs.Labels.{place_of, marks_of}
-use Rattle.mdp_spec.specs.Mdp.{Mdp, states_of, choices_at}
-use Rattle.mdp_spec.specs.Tree.{IsPolicy}
-use Rattle.mdp_wide.specs.declared.too_wide.Part.TheVariants.{Whole}
+use Rattle.mdp_spec.specs.{Labels.{place_of, marks_of}, Mdp.{Mdp, states_of, choices_at}, Tree.{IsPolicy}}
+use Rattle.mdp_wide.specs.{declared.too_wide.Part.TheVariants.{Whole}, Term.{WideTerm}}
 use Rattle.mdp_policy_iteration.specs.Places.{Place}
-use Rattle.mdp_wide.specs.Term.{WideTerm}
 use Rattle.mdp_text.specs.declared.error.Refusal as text
-use Rattle.mdp_policy.specs.Answer.{IsValueOf}
-use Rattle.mdp_policy.specs.Spelling.{value_text}
-use Rattle.mdp_policy.specs.Text.{policy_outcome}
-use Rattle.mdp_policy.specs.Written.{Answer}
+use Rattle.mdp_policy.specs.{Answer.{IsValueOf}, Spelling.{value_text}, Text.{policy_outcome}, Written.{Answer}}
 use Rattle.mdp_job.specs.Refusal.{PlainRefusal, query_size, query_label, query_choice, too_wide, policy_text}
-use Rattle.mdp_command.specs.Files.{second_due}
-use Rattle.mdp_command.specs.Said.{Said}
+use Rattle.mdp_command.specs.{Files.{second_due}, Said.{Said}}
 
 -- ---- the policy
 

@@ -1,10 +1,8 @@
 -- Laws of what is due to the value of a policy, over the definitions alone.
 use Rattle.std.specs.Prelude.{◌≡◌, ℕ, List, Ok}
-use Rattle.mdp_spec.specs.Mdp.{Mdp}
-use Rattle.mdp_spec.specs.Row.{IsMdp}
+use Rattle.mdp_spec.specs.{Mdp.{Mdp}, Row.{IsMdp}}
 use Rattle.mdp_command.specs.Said.{Said}
-use Rattle.mdp_command_policy.specs.Due.{IsPolicyDue}
-use Rattle.mdp_command_policy.specs.Shown.{IsPolicyPrinted}
+use Rattle.mdp_command_policy.specs.{Due.{IsPolicyDue}, Shown.{IsPolicyPrinted}}
 
 -- what is due is one thing
 abbrev pub IsDueOnce : Type 0

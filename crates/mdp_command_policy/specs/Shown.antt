@@ -1,20 +1,11 @@
 -- What is shown of the text that gives the value of a policy.
 use Rattle.std.specs.Prelude.{◌≡◌, ℕ, ◌≤◌, List, length, Some, None, Ok}
-use Rattle.mdp_spec.specs.Bounds.{ReachMax}
-use Rattle.mdp_spec.specs.Labels.{place_of, marks_of}
-use Rattle.mdp_spec.specs.Mdp.{Mdp}
+use Rattle.mdp_spec.specs.{Bounds.{ReachMax}, Labels.{place_of, marks_of}, Mdp.{Mdp}}
 use Rattle.mdp_rows.specs.declared.rule.RowRule.{RowRule}
 use Rattle.mdp_drn.specs.Reading.{Reads}
-use Rattle.mdp_policy.specs.Answer.{IsValueOf}
-use Rattle.mdp_policy.specs.Bounds.{PolicyBound, SomeTreePasses, DeepTreesStayBelow}
-use Rattle.mdp_policy.specs.Spelling.{value_text}
-use Rattle.mdp_policy.specs.Text.{FitsText, policy_text}
-use Rattle.mdp_policy.specs.Written.{Answer}
-use Rattle.mdp_policy.specs.declared.value.Change.{Change}
-use Rattle.mdp_command.specs.Files.{most_bytes}
-use Rattle.mdp_command.specs.Read.{IsWorkOnPair}
-use Rattle.mdp_command.specs.Said.{Said}
-use Rattle.mdp_command.specs.Streams.{Input}
+use Rattle.mdp_policy.specs.{Answer.{IsValueOf}, Bounds.{PolicyBound, SomeTreePasses, DeepTreesStayBelow}, Spelling.{value_text}, Text.{FitsText, policy_text}}
+use Rattle.mdp_policy.specs.{Written.{Answer}, declared.value.Change.{Change}}
+use Rattle.mdp_command.specs.{Files.{most_bytes}, Read.{IsWorkOnPair}, Said.{Said}, Streams.{Input}}
 use Rattle.mdp_command_policy.specs.Due.{IsPolicyDue}
 
 -- the text of the value of a policy, with the states of the label as goals

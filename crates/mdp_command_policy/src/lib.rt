@@ -1,8 +1,14 @@
-//! The command `policy`: the probabilities with which a given policy reaches a label, and where another choice is better.
+//! The commands of a given policy: `policy`, the probabilities with which it reaches a label, and where another choice is better; and `chain`, the model
+//! in which each state keeps only the choice that the policy names.
 #![tactic(auto)]
 
+mod chain_laws;
+mod chaining;
+mod choices;
 mod laws;
 mod valuing;
 
+pub use chain_laws::command_chain_law;
+pub use chaining::chain_file;
 pub use laws::policy_law;
 pub use valuing::policy_file;

@@ -1,13 +1,8 @@
 ghost use Rattle.std.specs.Prelude.{◌≡◌, ◌⊎◌, ◌==◌, length, true, false, Err, OnOk, IfOk, IsTrue};
-ghost use Rattle.mdp_command.specs.Prelude.{IsAtEnd, no_memory, read_certificate, said, input};
-ghost use Rattle.mdp_spec.specs.Mdp.{states_of};
-ghost use Rattle.mdp_spec.specs.Tree.{IsPolicy};
-ghost use Rattle.mdp_command.specs.Read.{IsReadAs, is_of_model};
-ghost use Rattle.mdp_policy.specs.Answer.{plain};
-ghost use Rattle.mdp_policy.specs.Spelling.{value_text};
-ghost use Rattle.mdp_policy.specs.Text.{policy_outcome};
-ghost use Rattle.mdp_command_policy.specs.Due.{choices_or_refusal, TakesNoChoice, IsValueDue, IsSizeDue, IsTextDue, IsPolicyDue};
-ghost use Rattle.mdp_command_policy.specs.Shown.{IsPolicyRead};
+ghost use Rattle.mdp_command.specs.{Prelude.{IsAtEnd, no_memory, read_certificate, said, input}, Read.{IsReadAs, is_of_model}};
+ghost use Rattle.mdp_spec.specs.{Mdp.{states_of}, Tree.{IsPolicy}};
+ghost use Rattle.mdp_policy.specs.{Answer.{plain}, Spelling.{value_text}, Text.{policy_outcome}};
+ghost use Rattle.mdp_command_policy.specs.{Due.{choices_or_refusal, TakesNoChoice, IsValueDue, IsSizeDue, IsTextDue, IsPolicyDue}, Shown.{IsPolicyRead}};
 
 use crate::laws::policy_law;
 use mdp_cert::CertError;

@@ -1,24 +1,18 @@
 -- The certificate of a mean payoff and its text, and what is due to a name that isn't there, computed on `gamble`: state 0, with the label `init`, stays
 -- for 1 in each step, or moves to 1, which earns 4 in each step, or to 2, which earns nothing, with 1/2 each.
 use Rattle.std.proofs.Common.{◌≡◌, List, [], ◌∷◌, ◌++◌, None, Ok, Err, refl, pos}
-use Rattle.std.specs.Prelude.{codes}
-use Rattle.std.specs.Fmt.{digits}
-use Rattle.mdp_math.specs.Gcd.{gcd, gcd_with_fuel}
-use Rattle.mdp_math.specs.Rational.{ℚ, of_int, ratio, neg_ℚ}
+use Rattle.std.specs.{Prelude.{codes}, Fmt.{digits}}
+use Rattle.mdp_math.specs.{Gcd.{gcd, gcd_with_fuel}, Rational.{ℚ, of_int, ratio, neg_ℚ}}
 use Rattle.mdp_num.specs.Value.{spelling}
 use Rattle.mdp_spec.specs.Mdp.{Entry, Choice, Mdp}
 use Rattle.mdp_spec.proofs.Small.{entry, number}
 use Rattle.mdp_rows.specs.declared.dir.Dir.TheVariants.{Max, Min}
 use Rattle.mdp_wide.specs.declared.too_wide.Part.TheVariants as part
-use Rattle.mdp_wide.specs.declared.too_wide.Kind.TheVariants.{Check}
-use Rattle.mdp_wide.specs.Term.{WideTerm}
+use Rattle.mdp_wide.specs.{declared.too_wide.Kind.TheVariants.{Check}, Term.{WideTerm}}
 use Rattle.mdp_mean.specs.Query as averaged
-use Rattle.mdp_cert.specs.Runs.{longest_runs}
-use Rattle.mdp_text.specs.Spelling.{line}
-use Rattle.mdp_cert.specs.Spelling.{run_text, run_lines, text_in}
-use Rattle.mdp_text.specs.declared.init.Init.TheVariants.{Missing}
-use Rattle.mdp_job.specs.Job.{mean}
-use Rattle.mdp_job.specs.Refusal.{query_reward, query_label, too_wide}
+use Rattle.mdp_cert.specs.{Runs.{longest_runs}, Spelling.{run_text, run_lines, text_in}}
+use Rattle.mdp_text.specs.{Spelling.{line}, declared.init.Init.TheVariants.{Missing}}
+use Rattle.mdp_job.specs.{Job.{mean}, Refusal.{query_reward, query_label, too_wide}}
 use Rattle.mdp_command.specs.Said.{Said}
 use Rattle.mdp_command_solve.specs.Due.{mean_certificate_of, said_of_mean_end, IsQueryDue}
 

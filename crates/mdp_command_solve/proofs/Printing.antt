@@ -1,50 +1,31 @@
 -- What is shown of a solved query: its answer has an entry per state, and its certificate belongs to the model.
 use Rattle.std.proofs.Common.{◌≡◌, ℕ, ◌<◌, ◌≤◌, ◌⊎◌, inl, inr, Bool, true, false, cond, ◌&&◌, not, eqb, nat_lt, List, length, Option, Some, None}
-use Rattle.std.proofs.Common.{Result, Ok, Err, IfOk, refl, sym, ap, ap₂, subst, ◌∙◌, arith, eq-eqb, lt-ltb}
-use Rattle.std.specs.Prelude.{option_map}
-use Rattle.std.proofs.Math.ListN.{replicate}
+use Rattle.std.proofs.{Common.{Result, Ok, Err, IfOk, refl, sym, ap, ap₂, subst, ◌∙◌, arith, eq-eqb, lt-ltb}, Math.ListN.{replicate}}
 use Rattle.std.proofs.lemmas.List.FromFn.{length-map-range_with_len}
+use Rattle.std.specs.Prelude.{option_map}
 use Rattle.mdp_math.specs.Rational.{ℚ}
 use Rattle.mdp_num.specs.OrderView.{equal_decides}
-use Rattle.mdp_spec.specs.Bounds.{reward_at}
-use Rattle.mdp_spec.specs.Labels.{place_of, marks_of, initial_of}
-use Rattle.mdp_spec.specs.Mdp.{Mdp, states_of, value_at}
-use Rattle.mdp_spec.specs.Row.{IsMdp}
-use Rattle.mdp_rows.specs.declared.dir.Dir.{Dir}
-use Rattle.mdp_rows.specs.declared.dir.Dir.TheVariants.{Max, Min}
+use Rattle.mdp_spec.specs.{Bounds.{reward_at}, Labels.{place_of, marks_of, initial_of}, Mdp.{Mdp, states_of, value_at}, Row.{IsMdp}}
+use Rattle.mdp_rows.specs.{declared.dir.Dir.{Dir}, declared.dir.Dir.TheVariants.{Max, Min}}
 use Rattle.mdp_graph.specs.Laws.{RestMeets}
-use Rattle.mdp_policy_iteration.specs.Iteration.{EndsWith}
-use Rattle.mdp_policy_iteration.specs.Laws.{EndsAtBest, first}
-use Rattle.mdp_policy_iteration.specs.Path.{Found, Refusal, path_step}
-use Rattle.mdp_farkas.specs.Reach.{MeetsReach, IsReach, reach_checks}
-use Rattle.mdp_farkas.specs.Reward.{MeetsReward, IsReward, reward_checks}
-use Rattle.mdp_farkas.specs.Mean.{MeetsMean, IsMean}
-use Rattle.mdp_farkas.specs.Verdict.{verdict_of}
-use Rattle.mdp_claims.specs.declared.verdict.Verdict.{Verdict}
-use Rattle.mdp_claims.specs.declared.verdict.Verdict.TheVariants.{Yes, No, Wide}
-use Rattle.mdp_reach.specs.Problem.{reach_problem}
-use Rattle.mdp_reach.specs.Query.{Answer, AreRanks, Held, AfterPath, EndsSo}
-use Rattle.mdp_reach.proofs.Nodes.{reach-count}
-use Rattle.mdp_reach.proofs.Starts.{start-solvable}
+use Rattle.mdp_policy_iteration.specs.{Iteration.{EndsWith}, Laws.{EndsAtBest, first}, Path.{Found, Refusal, path_step}}
+use Rattle.mdp_farkas.specs.{Reach.{MeetsReach, IsReach, reach_checks}, Reward.{MeetsReward, IsReward, reward_checks}, Mean.{MeetsMean, IsMean}}
+use Rattle.mdp_farkas.specs.{Verdict.{verdict_of}, Initial.{init_fault}}
+use Rattle.mdp_claims.specs.{declared.verdict.Verdict.{Verdict}, declared.verdict.Verdict.TheVariants.{Yes, No, Wide}}
+use Rattle.mdp_reach.specs.{Problem.{reach_problem}, Query.{Answer, AreRanks, Held, AfterPath, EndsSo}}
+use Rattle.mdp_reach.proofs.{Nodes.{reach-count}, Starts.{start-solvable}}
 use Rattle.mdp_reward.specs.Query as rewarded
 use Rattle.mdp_mean.specs.Query as averaged
-use Rattle.mdp_text.specs.declared.init.Init.{Init}
+use Rattle.mdp_text.specs.{declared.init.Init.{Init}, Heads.{init_of, init_by}}
 use Rattle.mdp_cert.specs.Cert as certificate
-use Rattle.mdp_cert.specs.Cert.{PlainClaim, PlainBody, Certificate, may_be_infinite, is_witness, is_init_of, is_body_of, Fits}
-use Rattle.mdp_cert.specs.Claims.{reward_same}
-use Rattle.mdp_cert.specs.Reading.{outcome}
-use Rattle.mdp_cert.specs.Spelling.{text_of}
-use Rattle.mdp_cert.specs.Laws.{IsReadBack}
-use Rattle.mdp_check.specs.Initial.{has_value, is_subsystem, init_check}
-use Rattle.mdp_farkas.specs.Initial.{init_fault}
-use Rattle.mdp_check.specs.Check.{labelled_marks, IsAccepted}
+use Rattle.mdp_cert.specs.{Cert.{PlainClaim, PlainBody, Certificate, may_be_infinite, is_witness, is_init_of, is_body_of, Fits}, Claims.{reward_same}}
+use Rattle.mdp_cert.specs.{Reading.{outcome}, Spelling.{text_of}, Laws.{IsReadBack}}
+use Rattle.mdp_check.specs.{Initial.{has_value, is_subsystem, init_check}, Check.{labelled_marks, IsAccepted}}
 use Rattle.mdp_check.proofs.Accepting.{accepted_is_bound}
 use Rattle.mdp_job.specs.Refusal.{no_memory}
-use Rattle.mdp_command.specs.Files.{most_bytes}
-use Rattle.mdp_command.specs.Said.{Said}
+use Rattle.mdp_command.specs.{Files.{most_bytes}, Said.{Said}}
 use Rattle.mdp_command_solve.specs.Due.{certificate_of, reward_certificate_of, mean_certificate_of}
 use Rattle.mdp_command_solve.specs.Solved.{IsClaimPrinted, IsReachPrinted, IsRewardPrinted, IsMeanPrinted}
-use Rattle.mdp_text.specs.Heads.{init_of, init_by}
 use Rattle.mdp_text.proofs.InitialState.{initial_below}
 use Rattle.mdp_command_solve.proofs.TextLength.{text_short}
 

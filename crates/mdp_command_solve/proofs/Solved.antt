@@ -1,19 +1,13 @@
 -- One thing is due to a query; and what is made of it, from what was read of the model's source.
 use Rattle.std.proofs.Common.{◌≡◌, ℕ, Bool, true, false, List, [], Option, Some, None, Result, Ok, Err, IfOk, refl, sym, ap, subst, ◌∙◌}
-use Rattle.std.specs.Str.{bytes_eq}
 use Rattle.std.proofs.lemmas.List.Quantifiers.{position-Some}
-use Rattle.mdp_spec.specs.Labels.{place_of, marks_of}
-use Rattle.mdp_spec.specs.Mdp.{Mdp}
-use Rattle.mdp_spec.specs.Row.{IsMdp}
-use Rattle.mdp_rows.specs.Limits.{IsModel}
-use Rattle.mdp_rows.specs.Negative.{has_negative}
-use Rattle.mdp_rows.specs.declared.dir.Dir.{Dir}
-use Rattle.mdp_rows.specs.declared.dir.Dir.TheVariants.{Max, Min}
+use Rattle.std.specs.Str.{bytes_eq}
+use Rattle.mdp_spec.specs.{Labels.{place_of, marks_of}, Mdp.{Mdp}, Row.{IsMdp}}
+use Rattle.mdp_rows.specs.{Limits.{IsModel}, Negative.{has_negative}, declared.dir.Dir.{Dir}, declared.dir.Dir.TheVariants.{Max, Min}}
 use Rattle.mdp_rows.specs.declared.rule.RowRule.{RowRule}
 use Rattle.mdp_drn.specs.Laws.{ReadsAsModel}
 use Rattle.mdp_wide.specs.Term.{WideTerm}
-use Rattle.mdp_reach.specs.Query.{Answer, EndsSo}
-use Rattle.mdp_reach.specs.Laws.{AnswersMeetRules, AnswersAreGreatest, AnswersAreLeast}
+use Rattle.mdp_reach.specs.{Query.{Answer, EndsSo}, Laws.{AnswersMeetRules, AnswersAreGreatest, AnswersAreLeast}}
 use Rattle.mdp_reach.proofs.OneEnd.{one_query_end}
 use Rattle.mdp_reward.proofs.OneEnd as reward_end
 use Rattle.mdp_reward.specs.Laws as reward_law
@@ -22,13 +16,9 @@ use Rattle.mdp_mean.specs.Laws as mean_law
 use Rattle.mdp_mean.specs.Query as averaged
 use Rattle.mdp_cert.specs.Cert as certificate
 use Rattle.mdp_cert.specs.Cert.{PlainClaim}
-use Rattle.mdp_job.specs.Job.{PlainQuery, reach, reward, mean}
-use Rattle.mdp_job.specs.Refusal.{PlainRefusal}
-use Rattle.mdp_command.proofs.Working.{read_of_due}
-use Rattle.mdp_command.specs.Accepted.{exact}
-use Rattle.mdp_command.proofs.TrueClaims.{true_claim_of}
-use Rattle.mdp_command.specs.Files.{model_due}
-use Rattle.mdp_command.specs.Said.{Said}
+use Rattle.mdp_job.specs.{Job.{PlainQuery, reach, reward, mean}, Refusal.{PlainRefusal}}
+use Rattle.mdp_command.proofs.{Working.{read_of_due}, TrueClaims.{true_claim_of}}
+use Rattle.mdp_command.specs.{Accepted.{exact}, Files.{model_due}, Said.{Said}}
 use Rattle.mdp_command_solve.specs.Due.{said_of_end, said_of_reward_end, said_of_mean_end, IsReachDue, IsRewardEnd, IsRewardDue, IsMeanDue, IsQueryDue, IsSolveDue}
 use Rattle.mdp_command_solve.specs.Laws.{IsBest, IsAnswerTo, IsBestReward, IsRewardAnswerTo, IsBestMean, IsMeanAnswerTo}
 use Rattle.mdp_command_solve.specs.Solved.{IsClaimPrinted, IsPrinted, IsClaimSolved, IsSolved}

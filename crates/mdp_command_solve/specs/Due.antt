@@ -1,24 +1,18 @@
 -- What is due to a query and to the model.
 use Rattle.std.specs.Prelude.{◌≡◌, ℕ, Bool, true, false, List, Option, Some, None, Result, Ok, Err}
 use Rattle.mdp_math.specs.Rational.{ℚ}
-use Rattle.mdp_spec.specs.Bounds.{reward_at}
-use Rattle.mdp_spec.specs.Labels.{place_of, marks_of, initial_of}
-use Rattle.mdp_spec.specs.Mdp.{Mdp, states_of, value_at}
-use Rattle.mdp_rows.specs.Negative.{has_negative}
-use Rattle.mdp_rows.specs.declared.dir.Dir.{Dir}
+use Rattle.mdp_spec.specs.{Bounds.{reward_at}, Labels.{place_of, marks_of, initial_of}, Mdp.{Mdp, states_of, value_at}}
+use Rattle.mdp_rows.specs.{Negative.{has_negative}, declared.dir.Dir.{Dir}}
 use Rattle.mdp_policy_iteration.specs.Ends.{capped}
 use Rattle.mdp_wide.specs.Term.{WideTerm}
 use Rattle.mdp_reach.specs.Query.{Answer, EndsSo}
 use Rattle.mdp_reward.specs.Query as rewarded
 use Rattle.mdp_mean.specs.Query as averaged
 use Rattle.mdp_cert.specs.Cert as certificate
-use Rattle.mdp_cert.specs.Cert.{PlainClaim, PlainBody, Certificate}
-use Rattle.mdp_cert.specs.Spelling.{text_of}
+use Rattle.mdp_cert.specs.{Cert.{PlainClaim, PlainBody, Certificate}, Spelling.{text_of}}
 use Rattle.mdp_text.specs.Heads.{init_by}
-use Rattle.mdp_job.specs.Job.{PlainQuery, reach, reward, mean}
-use Rattle.mdp_job.specs.Refusal.{PlainRefusal, query_reward, query_label, query_negative, too_wide}
-use Rattle.mdp_command.specs.Files.{IsDueToModel}
-use Rattle.mdp_command.specs.Said.{Said}
+use Rattle.mdp_job.specs.{Job.{PlainQuery, reach, reward, mean}, Refusal.{PlainRefusal, query_reward, query_label, query_negative, too_wide}}
+use Rattle.mdp_command.specs.{Files.{IsDueToModel}, Said.{Said}}
 
 -- ---- the certificate of an answer
 

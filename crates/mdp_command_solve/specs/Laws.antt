@@ -1,22 +1,14 @@
 -- Laws of what is due to a query, over the definitions alone.
 use Rattle.std.specs.Prelude.{◌≡◌, ℕ, Bool, false, List, Some, Ok}
-use Rattle.mdp_spec.specs.Labels.{place_of, marks_of}
-use Rattle.mdp_spec.specs.Mdp.{Mdp}
-use Rattle.mdp_spec.specs.Bounds.{ReachMax, ReachMin, RewardMax, RewardMin, MeanMax, MeanMin}
-use Rattle.mdp_rows.specs.Negative.{has_negative}
-use Rattle.mdp_rows.specs.declared.dir.Dir.{Dir}
-use Rattle.mdp_rows.specs.declared.dir.Dir.TheVariants.{Max, Min}
-use Rattle.mdp_rows.specs.declared.rule.RowRule.{RowRule}
-use Rattle.mdp_farkas.specs.Reach.{IsReach}
-use Rattle.mdp_farkas.specs.Reward.{IsReward}
-use Rattle.mdp_farkas.specs.Mean.{IsMean}
+use Rattle.mdp_spec.specs.{Labels.{place_of, marks_of}, Mdp.{Mdp}, Bounds.{ReachMax, ReachMin, RewardMax, RewardMin, MeanMax, MeanMin}}
+use Rattle.mdp_rows.specs.{Negative.{has_negative}, declared.dir.Dir.{Dir}, declared.dir.Dir.TheVariants.{Max, Min}, declared.rule.RowRule.{RowRule}}
+use Rattle.mdp_farkas.specs.{Reach.{IsReach}, Reward.{IsReward}, Mean.{IsMean}}
 use Rattle.mdp_reach.specs.Query.{Answer}
 use Rattle.mdp_reward.specs.Query as rewarded
 use Rattle.mdp_mean.specs.Query as averaged
 use Rattle.mdp_cert.specs.Spelling.{text_of}
 use Rattle.mdp_job.specs.Job.{PlainQuery, reach, reward, mean}
-use Rattle.mdp_command.specs.Files.{model_due}
-use Rattle.mdp_command.specs.Said.{Said}
+use Rattle.mdp_command.specs.{Files.{model_due}, Said.{Said}}
 use Rattle.mdp_command_solve.specs.Due.{certificate_of, reward_certificate_of, mean_certificate_of, IsSolveDue}
 
 -- what is due to a query and to the model's bytes is one thing

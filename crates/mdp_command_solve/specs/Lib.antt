@@ -1,3 +1,16 @@
 pub mod Due
 pub mod Solved
 pub mod Laws
+pub mod DrillDue
+pub mod DrillFound
+pub mod DrillPieces
+pub mod Drilled
+pub mod DrillLaws
+pub mod WitnessCertificate
+pub mod WitnessDue
+pub mod WitnessShown
+pub mod WitnessLaws
+pub mod WitnessCode
+pub mod DiscountDue
+pub mod DiscountShown
+pub mod DiscountLaws

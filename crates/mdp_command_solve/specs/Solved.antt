@@ -1,19 +1,12 @@
 -- What is shown of the text that solves a query.
 use Rattle.std.specs.Prelude.{◌≡◌, ◌≤◌, ℕ, List, length, Ok}
 use Rattle.mdp_spec.specs.Mdp.{Mdp}
-use Rattle.mdp_rows.specs.declared.dir.Dir.{Dir}
-use Rattle.mdp_rows.specs.declared.rule.RowRule.{RowRule}
+use Rattle.mdp_rows.specs.{declared.dir.Dir.{Dir}, declared.rule.RowRule.{RowRule}}
 use Rattle.mdp_cert.specs.Cert as certificate
-use Rattle.mdp_cert.specs.Cert.{PlainClaim, Certificate}
-use Rattle.mdp_cert.specs.Reading.{outcome}
-use Rattle.mdp_cert.specs.Spelling.{text_of}
+use Rattle.mdp_cert.specs.{Cert.{PlainClaim, Certificate}, Reading.{outcome}, Spelling.{text_of}}
 use Rattle.mdp_check.specs.Check.{IsAccepted, IsBound}
 use Rattle.mdp_job.specs.Job.{PlainQuery, reach, reward, mean}
-use Rattle.mdp_command.specs.Accepted.{IsTrueClaim}
-use Rattle.mdp_command.specs.Files.{most_bytes}
-use Rattle.mdp_command.specs.Read.{IsWorkOnModel}
-use Rattle.mdp_command.specs.Said.{Said}
-use Rattle.mdp_command.specs.Streams.{Input}
+use Rattle.mdp_command.specs.{Accepted.{IsTrueClaim}, Files.{most_bytes}, Read.{IsWorkOnModel}, Said.{Said}, Streams.{Input}}
 use Rattle.mdp_command_solve.specs.Due.{IsQueryDue}
 
 -- the text of a certificate of this claim for the model, which reads as it; all rules hold, and the claim is true

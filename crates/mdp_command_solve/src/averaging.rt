@@ -1,8 +1,7 @@
 ghost use Rattle.std.specs.Prelude.{◌≡◌, ◌⊎◌, Err, IfOk};
 ghost use Rattle.mdp_spec.specs.Labels.{place_of};
 ghost use Rattle.mdp_command.specs.Prelude.{no_memory, said};
-ghost use Rattle.mdp_command_solve.specs.Due.{IsMeanDue};
-ghost use Rattle.mdp_command_solve.specs.Solved.{IsMeanPrinted};
+ghost use Rattle.mdp_command_solve.specs.{Due.{IsMeanDue}, Solved.{IsMeanPrinted}};
 
 use crate::certificate::mean_certificate_of;
 use mdp_cert::text_law;

@@ -4,8 +4,7 @@ ghost use Rattle.mdp_rows.specs.Name.{IsName};
 ghost use Rattle.mdp_reach.specs.Query as query;
 ghost use Rattle.mdp_reward.specs.Query as rewarded;
 ghost use Rattle.mdp_mean.specs.Query as averaged;
-ghost use Rattle.mdp_cert.specs.Cert.{Fits};
-ghost use Rattle.mdp_cert.specs.Plain.{plain};
+ghost use Rattle.mdp_cert.specs.{Cert.{Fits}, Plain.{plain}};
 ghost use Rattle.mdp_command_solve.specs.Due.{certificate_of, reward_certificate_of, mean_certificate_of};
 
 use mdp_cert::{Body, Cert, Claim};

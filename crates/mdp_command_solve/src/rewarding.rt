@@ -1,8 +1,7 @@
 ghost use Rattle.std.specs.Prelude.{◌≡◌, ◌⊎◌, Err, IfOk};
 ghost use Rattle.mdp_spec.specs.Labels.{place_of};
 ghost use Rattle.mdp_command.specs.Prelude.{no_memory, said};
-ghost use Rattle.mdp_command_solve.specs.Due.{IsRewardDue};
-ghost use Rattle.mdp_command_solve.specs.Solved.{IsRewardPrinted};
+ghost use Rattle.mdp_command_solve.specs.{Due.{IsRewardDue}, Solved.{IsRewardPrinted}};
 
 use crate::certificate::reward_certificate_of;
 use mdp_cert::text_law;

@@ -1,7 +1,6 @@
 ghost use Rattle.std.specs.Prelude.{◌≡◌, ◌⊎◌, Err, OnOk, IfOk};
 ghost use Rattle.mdp_command.specs.Prelude.{IsAtEnd, plain_query, no_memory, said, input};
-ghost use Rattle.mdp_command_solve.specs.Due.{IsQueryDue};
-ghost use Rattle.mdp_command_solve.specs.Solved.{IsPrinted, IsSolveRead};
+ghost use Rattle.mdp_command_solve.specs.{Due.{IsQueryDue}, Solved.{IsPrinted, IsSolveRead}};
 
 use crate::averaging::solve_payoff;
 use crate::reaching::solve_label;

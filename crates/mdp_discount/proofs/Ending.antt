@@ -3,23 +3,12 @@ use Rattle.std.proofs.Common.{◌≡◌, ℕ, List, take, Result, Ok, Err, ◌�
 use Rattle.mdp_math.specs.Rational.{ℚ}
 use Rattle.mdp_spec.specs.Mdp.{Mdp, states_of}
 use Rattle.mdp_rows.specs.declared.dir.Dir.{Dir}
-use Rattle.mdp_wide.specs.declared.too_wide.Part.TheVariants.{Whole}
-use Rattle.mdp_wide.specs.declared.too_wide.TooWide.{TooWide}
-use Rattle.mdp_wide.specs.Errors.{SolveError}
+use Rattle.mdp_wide.specs.{declared.too_wide.Part.TheVariants.{Whole}, declared.too_wide.TooWide.{TooWide}, Errors.{SolveError}, Term.{shown}}
 use Rattle.mdp_wide.specs.declared.unfinished.Unfinished.TheVariants as error
-use Rattle.mdp_policy_iteration.specs.Iteration.{EndsWith}
-use Rattle.mdp_policy_iteration.specs.Path.{Found, Refusal, path_step}
-use Rattle.mdp_policy_iteration.specs.Laws.{first}
-use Rattle.mdp_policy_iteration.specs.Ends.{Ends, capped}
-use Rattle.mdp_wide.specs.Term.{shown}
-use Rattle.mdp_policy_iteration.specs.Queries.{Solves, term_of}
-use Rattle.mdp_policy_iteration.specs.declared.solution.Solution.{Solution}
-use Rattle.mdp_policy_iteration.specs.declared.solution.WideAt.{WideAt}
-use Rattle.mdp_discount.specs.Problem.{discount_problem}
-use Rattle.mdp_discount_rules.specs.Plain.{plain}
-use Rattle.mdp_discount.specs.Query.{start_of, AfterFound, EndsSo}
-use Rattle.mdp_discount.specs.Code.{found_of, PathEnds}
-use Rattle.mdp_discount_rules.specs.declared.cert.DiscountCert.{DiscountCert}
+use Rattle.mdp_policy_iteration.specs.{Iteration.{EndsWith}, Path.{Found, Refusal, path_step}, Laws.{first}, Ends.{Ends, capped}, Queries.{Solves, term_of}}
+use Rattle.mdp_policy_iteration.specs.{declared.solution.Solution.{Solution}, declared.solution.WideAt.{WideAt}}
+use Rattle.mdp_discount.specs.{Problem.{discount_problem}, Query.{start_of, AfterFound, EndsSo}, Code.{found_of, PathEnds}}
+use Rattle.mdp_discount_rules.specs.{Plain.{plain}, declared.cert.DiscountCert.{DiscountCert}}
 
 module _ (dir : Dir) (m : Mdp) (r : ℕ) (f : ℚ) (start : List ℕ) (same : start ≡ start_of m) where
   begun : (end : Result Found Refusal) → EndsWith (path_step (discount_problem dir m r f)) (first start) end → EndsWith (path_step (discount_problem dir m r f)) (first (start_of m)) end

@@ -1,16 +1,12 @@
 -- The discounted rows in the code, state by state and choice by choice.
 use Rattle.std.proofs.Common.{◌≡◌, ℕ, ◌<◌, Bool, true, false, true≢false, List, length, cond, Option, Some, None, refl, sym, ◌∙◌, ap, zero-add}
-use Rattle.std.specs.Prelude.{slice_index_or}
-use Rattle.std.specs.Option.{option_map, is_some}
-use Rattle.std.proofs.lemmas.List.FromFn.{get_or-map-range_with_len, length-map-range_with_len}
-use Rattle.std.proofs.Math.ListN.{get_or-map}
-use Rattle.std.proofs.lemmas.List.{length-map}
+use Rattle.std.proofs.{lemmas.List.FromFn.{get_or-map-range_with_len, length-map-range_with_len}, Math.ListN.{get_or-map}, lemmas.List.{length-map}}
+use Rattle.std.specs.{Prelude.{slice_index_or}, Option.{option_map, is_some}}
 use Rattle.mdp_math.specs.Rational.{ℚ}
 use Rattle.mdp_math.proofs.Options.{Some_same}
 use Rattle.mdp_spec.specs.Mdp.{Mdp, Entry, states_of, choices_at, row_at}
 use Rattle.mdp_rows.specs.declared.row.Row.{Row}
-use Rattle.mdp_discount.specs.Problem.{discounted_row, row_fits}
-use Rattle.mdp_discount.specs.ScaledView.{row_in, rows_in, scaled_row, scaled_rows, AreScaled}
+use Rattle.mdp_discount.specs.{Problem.{discounted_row, row_fits}, ScaledView.{row_in, rows_in, scaled_row, scaled_rows, AreScaled}}
 use Rattle.mdp_discount.specs.declared.scaled.StateRows.{StateRows}
 
 module _ (m : Mdp) (f : ℚ) (states : List StateRows) (made : AreScaled m f states) where

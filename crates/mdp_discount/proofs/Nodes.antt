@@ -1,27 +1,18 @@
 -- The nodes of the problem of the discounted reward.
 use Rattle.std.proofs.Common.{◌≡◌, ℕ, ◌+◌, ◌<◌, ◌≤◌, Bool, true, false, true≢false, List, [], ◌∷◌, length, map, refl, sym, ◌∙◌, ap, ap₂, subst, not, arith, Option, Some, None, cond}
-use Rattle.std.proofs.Common.{zero-add, ltb, ltb-true, ltb-false, pos}
-use Rattle.std.specs.List.{range_with_len}
-use Rattle.std.specs.Prelude.{slice_index_or}
-use Rattle.std.proofs.lemmas.List.FromFn.{get_or-map-range_with_len, length-map-range_with_len}
-use Rattle.std.proofs.lemmas.List.{get_or_append_left, length-append}
-use Rattle.std.proofs.Math.Seq.{get_or-append_seam}
+use Rattle.std.proofs.{Common.{zero-add, ltb, ltb-true, ltb-false, pos}, lemmas.List.FromFn.{get_or-map-range_with_len, length-map-range_with_len}}
+use Rattle.std.proofs.{lemmas.List.{get_or_append_left, length-append}, Math.Seq.{get_or-append_seam}}
+use Rattle.std.specs.{List.{range_with_len}, Prelude.{slice_index_or}}
 use Rattle.mdp_math.specs.Rational.{ℚ, ◌+ℚ◌, ◌*ℚ◌, ◌-ℚ◌}
-use Rattle.mdp_math.proofs.Ring.{◌⊕◌, ◌⊗◌, ⊖, lit, ring}
-use Rattle.mdp_math.proofs.Laws.{rat_ring}
-use Rattle.mdp_num.specs.Equal.{eq_ℚ}
-use Rattle.mdp_num.specs.OrderView.{equal_decides}
-use Rattle.mdp_spec.specs.Mdp.{Mdp, states_of, row_at, choices_at, value_at}
+use Rattle.mdp_math.proofs.{Ring.{◌⊕◌, ◌⊗◌, ⊖, lit, ring}, Laws.{rat_ring}}
+use Rattle.mdp_num.specs.{Equal.{eq_ℚ}, OrderView.{equal_decides}}
+use Rattle.mdp_spec.specs.{Mdp.{Mdp, states_of, row_at, choices_at, value_at}, Row.{IsMdp, row_sum}, Unit.{reward_of}}
 use Rattle.mdp_spec.specs.Mdp as model
-use Rattle.mdp_spec.specs.Row.{IsMdp, row_sum}
-use Rattle.mdp_spec.specs.Unit.{reward_of}
 use Rattle.mdp_rows.specs.declared.dir.Dir.{Dir}
 use Rattle.mdp_policy_iteration.specs.Problem.{Problem, Node, given, Choice, Move, go, stop, worth, no_choice, count, node_at, choices_of, choice_at, goes_on, amount, row_from, move_by, fits_by}
-use Rattle.mdp_policy_iteration.specs.Problem.{LeadsWithin, IsProblem, IsCandidate}
+use Rattle.mdp_policy_iteration.specs.{Problem.{LeadsWithin, IsProblem, IsCandidate}, Code.{CanTake, move_at, fits_at}}
 use Rattle.mdp_policy_iteration.specs.Problem as path
-use Rattle.mdp_policy_iteration.specs.Code.{CanTake, move_at, fits_at}
-use Rattle.mdp_discount_rules.specs.Rules.{IsFactor, discounted}
-use Rattle.mdp_discount_rules.specs.Checks.{written_discounted}
+use Rattle.mdp_discount_rules.specs.{Rules.{IsFactor, discounted}, Checks.{written_discounted}}
 use Rattle.mdp_discount.specs.Problem.{0ℚ, 1ℚ, discounted_row, row_fits, discount_choice, discount_node, discount_problem}
 use Rattle.mdp_discount_rules.proofs.DiscountRules.{written_discounted-some}
 use Rattle.mdp_discount.proofs.ScaledRows.{discounted-row, discounted-sum}

@@ -3,22 +3,15 @@ use Rattle.std.proofs.Common.{◌≡◌, ℕ, ◌<◌, List, Option, Some, None,
 use Rattle.mdp_math.specs.Rational.{ℚ}
 use Rattle.mdp_spec.specs.Mdp.{Mdp, states_of}
 use Rattle.mdp_rows.specs.declared.dir.Dir.{Dir}
-use Rattle.mdp_policy_iteration.specs.Path.{Found, Refusal, path_step}
-use Rattle.mdp_policy_iteration.specs.Laws.{EndsAtBest, first}
-use Rattle.mdp_policy_iteration.specs.Iteration.{EndsWith}
+use Rattle.mdp_policy_iteration.specs.{Path.{Found, Refusal, path_step}, Laws.{EndsAtBest, first}, Iteration.{EndsWith}}
 use Rattle.mdp_wide.specs.Term.{WideTerm}
 use Rattle.mdp_policy_iteration.proofs.Iterations.{one_end}
 use Rattle.mdp_farkas.specs.Verdict.{verdict_of}
-use Rattle.mdp_claims.specs.declared.verdict.Verdict.{Verdict}
-use Rattle.mdp_claims.specs.declared.verdict.Verdict.TheVariants.{Yes, No, Wide}
-use Rattle.mdp_discount.specs.Problem.{discount_problem}
-use Rattle.mdp_discount_rules.specs.Checks.{written_greatest, discount_checks, IsDiscount}
-use Rattle.mdp_discount_rules.specs.Cert.{Certificate}
-use Rattle.mdp_discount.specs.Query.{start_of, cut_found, answer_of, Held, AfterRemainder, AfterPath}
-use Rattle.mdp_discount.specs.Code.{IsFound}
+use Rattle.mdp_claims.specs.{declared.verdict.Verdict.{Verdict}, declared.verdict.Verdict.TheVariants.{Yes, No, Wide}}
+use Rattle.mdp_discount.specs.{Problem.{discount_problem}, Query.{start_of, cut_found, answer_of, Held, AfterRemainder, AfterPath}, Code.{IsFound}}
 use Rattle.mdp_discount.specs.Laws.{HasOneEnd, CanAsk, AnswersMeetRules, AnswersAreBest}
-use Rattle.mdp_discount_rules.proofs.Discount.{discount_of_rules}
-use Rattle.mdp_discount_rules.proofs.DiscountRules.{is_of_yes}
+use Rattle.mdp_discount_rules.specs.{Checks.{written_greatest, discount_checks, IsDiscount}, Cert.{Certificate}}
+use Rattle.mdp_discount_rules.proofs.{Discount.{discount_of_rules}, DiscountRules.{is_of_yes}}
 use Rattle.mdp_discount.proofs.Solving.{start-solvable, found-is}
 
 module _ (dir : Dir) (m : Mdp) (r : ℕ) (name : List ℕ) (f : ℚ) where

@@ -1,20 +1,12 @@
 -- A row is taken f times entry by entry.
 use Rattle.std.proofs.Common.{◌≡◌, ℕ, zero, suc, ◌<◌, Bool, true, false, true≢false, not, ◌&&◌, cond, List, [], ◌∷◌, ◌++◌, length, drop, map, get_or, Option, Some, None, refl, sym}
-use Rattle.std.proofs.Common.{◌∙◌, ap, ap₂, arith, append_assoc}
-use Rattle.std.specs.List.{All, AllByRecursion, filter}
-use Rattle.std.proofs.lemmas.List.Elements.{All-from_recursion, recursion_from_All}
-use Rattle.mdp_math.proofs.Options.{Some_same}
-use Rattle.std.specs.Option.{is_some}
-use Rattle.std.proofs.lemmas.List.Elements.{filter-append}
-use Rattle.mdp_math.specs.Rational.{ℚ, neg_ℚ, ◌-ℚ◌}
-use Rattle.mdp_math.specs.Written.{written_mul}
-use Rattle.mdp_math.proofs.Written.{written_mul-some, written_add-some}
-use Rattle.mdp_num.specs.Written.{written_sub}
-use Rattle.mdp_num.specs.Equal.{eq_ℚ}
-use Rattle.mdp_spec.specs.Mdp.{Entry}
-use Rattle.mdp_spec.specs.Row.{entries}
-use Rattle.mdp_discount.specs.Problem.{0ℚ, 1ℚ, scaled, has_value, scaled_entries, discounted_row, products_fit, row_fits}
-use Rattle.mdp_discount.specs.ScaledView.{products}
+use Rattle.std.proofs.{Common.{◌∙◌, ap, ap₂, arith, append_assoc}, lemmas.List.Elements.{All-from_recursion, recursion_from_All, filter-append}}
+use Rattle.std.specs.{List.{All, AllByRecursion, filter}, Option.{is_some}}
+use Rattle.mdp_math.proofs.{Options.{Some_same}, Written.{written_mul-some, written_add-some}}
+use Rattle.mdp_math.specs.{Rational.{ℚ, neg_ℚ, ◌-ℚ◌}, Written.{written_mul}}
+use Rattle.mdp_num.specs.{Written.{written_sub}, Equal.{eq_ℚ}}
+use Rattle.mdp_spec.specs.{Mdp.{Entry}, Row.{entries}}
+use Rattle.mdp_discount.specs.{Problem.{0ℚ, 1ℚ, scaled, has_value, scaled_entries, discounted_row, products_fit, row_fits}, ScaledView.{products}}
 
 pub entries-more : (ts : List ℕ) (ps : List ℚ) (t : ℕ) (p : ℚ) → length ts ≡ length ps → entries (ts ++ t ∷ []) (ps ++ p ∷ []) ≡ entries ts ps ++ record { target = t; prob = p } ∷ []
 entries-more [] [] t p e = refl

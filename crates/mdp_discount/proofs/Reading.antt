@@ -1,21 +1,16 @@
 -- What a choice of the discounted reward reads: the targets of its row in the model. The node behind the states is missing: its value is given.
 use Rattle.std.proofs.Common.{◌≡◌, ℕ, ◌<◌, ◌⊎◌, inl, inr, Bool, true, List, length, Option, None, if◌then◌else◌, ap, ap₂, subst, arith}
-use Rattle.std.specs.List.{All}
 use Rattle.std.proofs.lemmas.List.Elements.{All-from_recursion, recursion_from_All}
-use Rattle.mdp_math.specs.Rational.{ℚ}
-use Rattle.mdp_math.specs.Written.{written_add, written_mul, ◌>>=◌}
+use Rattle.std.specs.List.{All}
+use Rattle.mdp_math.specs.{Rational.{ℚ}, Written.{written_add, written_mul, ◌>>=◌}}
 use Rattle.mdp_num.specs.Equal.{eq_ℚ}
-use Rattle.mdp_spec.specs.Mdp.{Entry, Mdp, states_of, choices_at, choice_at, row_at}
-use Rattle.mdp_spec.specs.Row.{entries}
-use Rattle.mdp_spec.specs.Unit.{reward_of}
+use Rattle.mdp_spec.specs.{Mdp.{Entry, Mdp, states_of, choices_at, choice_at, row_at}, Row.{entries}, Unit.{reward_of}}
 use Rattle.mdp_rows.specs.declared.dir.Dir.{Dir}
-use Rattle.mdp_policy_iteration.specs.Problem.{Problem}
-use Rattle.mdp_policy_iteration.specs.Reads.{IsGiven, AgreeAt, LeadsTo, Reads}
+use Rattle.mdp_policy_iteration.specs.{Problem.{Problem}, Reads.{IsGiven, AgreeAt, LeadsTo, Reads}}
 use Rattle.mdp_policy_iteration.proofs.Reading.{HoldTarget, entries-among, reads-by}
 use Rattle.mdp_elim.proofs.Others.{written_sum-agree}
 use Rattle.mdp_discount.specs.Problem.{0ℚ, scaled, has_value, discounted_row, discount_choice, discount_problem}
-use Rattle.mdp_discount.proofs.ScaledRows.{discounted-each}
-use Rattle.mdp_discount.proofs.Nodes.{node-count, end-node, state-choice}
+use Rattle.mdp_discount.proofs.{ScaledRows.{discounted-each}, Nodes.{node-count, end-node, state-choice}}
 
 module _ (dir : Dir) (m : Mdp) (r : ℕ) (f : ℚ) (s c : ℕ) (nodes : List ℕ) (held : All (HoldTarget nodes) (row_at m s c)) where
   abbrev p : Problem

@@ -1,21 +1,13 @@
 -- A row taken f times, with what is left to a node behind the states, is a distribution again, and sums up f times what the row does, and what is
 -- left times the node's value.
 use Rattle.std.proofs.Common.{◌≡◌, ℕ, suc, ◌+◌, ◌<◌, ◌≤◌, ⊎_elim, Bool, true, false, true≢false, not, cond, List, [], ◌∷◌, ◌++◌, map, refl, sym, ◌∙◌, ap, ap₂, arith, pos}
-use Rattle.std.specs.Prelude.{nat_le, IsTrue}
-use Rattle.std.specs.List.{Any, AllByRecursion, filter}
-use Rattle.std.proofs.lemmas.Bool.{le-leb, leb-true}
-use Rattle.std.proofs.lemmas.List.Elements.{All-from_recursion, recursion_from_All}
-use Rattle.mdp_math.specs.Rational.{ℚ, ◌+ℚ◌, ◌*ℚ◌, ◌-ℚ◌, ◌<ℚ◌}
-use Rattle.mdp_math.specs.Sum.{sum_of}
-use Rattle.mdp_math.proofs.Ring.{◌⊕◌, ◌⊗◌, ⊖, lit, ring}
-use Rattle.mdp_math.proofs.Laws.{rat_ring}
-use Rattle.mdp_math.proofs.Booleans.{and-parts, and-both}
-use Rattle.mdp_math.proofs.Order.{0ℚ, 1ℚ, lt_or_eq_ℚ, mul-pos_ℚ, sub-pos}
+use Rattle.std.proofs.{lemmas.Bool.{le-leb, leb-true}, lemmas.List.Elements.{All-from_recursion, recursion_from_All}}
+use Rattle.std.specs.{Prelude.{nat_le, IsTrue}, List.{Any, AllByRecursion, filter}}
+use Rattle.mdp_math.specs.{Rational.{ℚ, ◌+ℚ◌, ◌*ℚ◌, ◌-ℚ◌, ◌<ℚ◌}, Sum.{sum_of}}
+use Rattle.mdp_math.proofs.{Ring.{◌⊕◌, ◌⊗◌, ⊖, lit, ring}, Laws.{rat_ring}, Booleans.{and-parts, and-both}, Order.{0ℚ, 1ℚ, lt_or_eq_ℚ, mul-pos_ℚ, sub-pos}}
 use Rattle.mdp_math.proofs.Sums.{sum_of-append, sum_of-scale, sum_of-map, sum_of-same}
-use Rattle.mdp_num.specs.Equal.{eq_ℚ}
-use Rattle.mdp_num.specs.OrderView.{equal_decides}
-use Rattle.mdp_spec.specs.Mdp.{Entry, value_at}
-use Rattle.mdp_spec.specs.Row.{ascends_from, IsRow, row_sum}
+use Rattle.mdp_num.specs.{Equal.{eq_ℚ}, OrderView.{equal_decides}}
+use Rattle.mdp_spec.specs.{Mdp.{Entry, value_at}, Row.{ascends_from, IsRow, row_sum}}
 use Rattle.mdp_discount_rules.specs.Rules.{IsFactor}
 use Rattle.mdp_discount.specs.Problem.{scaled, has_value, left_over, scaled_entries, discounted_row}
 

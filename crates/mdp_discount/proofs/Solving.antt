@@ -1,28 +1,20 @@
 -- The problem of the discounted reward is solvable from any policy, and what is found solves the discounted reward.
 use Rattle.std.proofs.Common.{◌≡◌, ◌⊎◌, inl, ℕ, zero, suc, ◌+◌, ◌<◌, ◌≤◌, Bool, true, false, List, []}
 use Rattle.std.proofs.Common.{◌∷◌, length, take, replicate, refl, sym, ◌∙◌, ap, subst, arith, ltb, ltb-true, ltb-false}
-use Rattle.std.specs.Prelude.{slice_index, slice_index_or}
-use Rattle.std.specs.List.{Any}
 use Rattle.std.proofs.lemmas.List.{get_or-take, get_or-replicate, length-replicate}
+use Rattle.std.specs.{Prelude.{slice_index, slice_index_or}, List.{Any}}
 use Rattle.mdp_math.specs.Rational.{ℚ, ◌+ℚ◌, ◌*ℚ◌}
 use Rattle.mdp_math.proofs.Sums.{sum_of-same_all}
-use Rattle.mdp_spec.specs.Mdp.{Mdp, Entry, states_of, row_at, choices_at, value_at}
+use Rattle.mdp_spec.specs.{Mdp.{Mdp, Entry, states_of, row_at, choices_at, value_at}, Row.{IsMdp, IsRow, row_sum}, Unit.{reward_of}}
 use Rattle.mdp_spec.specs.Mdp as model
-use Rattle.mdp_spec.specs.Row.{IsMdp, IsRow, row_sum}
-use Rattle.mdp_spec.specs.Unit.{reward_of}
-use Rattle.mdp_rows.specs.declared.dir.Dir.{Dir}
+use Rattle.mdp_rows.specs.{declared.dir.Dir.{Dir}, Better.{IsAsGood}}
 use Rattle.mdp_elim.specs.System.{is_active}
 use Rattle.mdp_policy_iteration.specs.Problem.{Problem, Node, given, decision, Choice, Move, worth, count, node_at, choice_at, goes_on, row_from, rows_of, active_of, taken, IsCandidate, IsPolicy}
+use Rattle.mdp_policy_iteration.specs.{Code.{CanTake}, Values.{CanLeave}, Laws.{IsSolvable, IsBestFrom}}
 use Rattle.mdp_policy_iteration.specs.Problem as path
-use Rattle.mdp_policy_iteration.specs.Code.{CanTake}
-use Rattle.mdp_policy_iteration.specs.Values.{CanLeave}
-use Rattle.mdp_rows.specs.Better.{IsAsGood}
-use Rattle.mdp_policy_iteration.specs.Laws.{IsSolvable, IsBestFrom}
 use Rattle.mdp_policy_iteration.proofs.Chain.{row-at, active-at, active-below}
 use Rattle.mdp_discount_rules.specs.Rules.{IsFactor, discounted}
-use Rattle.mdp_discount.specs.Problem.{0ℚ, discount_problem}
-use Rattle.mdp_discount.specs.Query.{start_of}
-use Rattle.mdp_discount.specs.Code.{IsFound}
+use Rattle.mdp_discount.specs.{Problem.{0ℚ, discount_problem}, Query.{start_of}, Code.{IsFound}}
 use Rattle.mdp_discount.proofs.ScaledRows.{leads-out}
 use Rattle.mdp_discount.proofs.Nodes.{node-count, state-candidate, state-node, end-node, is-end, state-choices, state-choice, state-can, state-move, end-move, goes-state, goes-row}
 use Rattle.mdp_discount.proofs.Nodes.{worth-is, discount-known}

@@ -1,26 +1,14 @@
 -- What the code's contracts say beside the definitions.
-use Rattle.std.specs.Prelude.{◌≡◌, ℕ, ◌<◌, List, length, take, slice_index, Option, Result, Ok, Err, Vec}
-use Rattle.std.specs.Global.{Global}
+use Rattle.std.specs.{Prelude.{◌≡◌, ℕ, ◌<◌, List, length, take, slice_index, Option, Result, Ok, Err, Vec}, Global.{Global}}
 use Rattle.mdp_math.specs.Rational.{ℚ}
-use Rattle.mdp_spec.specs.Mdp.{Mdp, states_of, choices_at, value_at}
-use Rattle.mdp_spec.specs.Tree.{IsPolicy}
-use Rattle.mdp_rows.specs.declared.dir.Dir.{Dir}
-use Rattle.mdp_wide.specs.declared.too_wide.Kind.{Kind}
-use Rattle.mdp_wide.specs.declared.too_wide.Part.TheVariants.{Whole}
-use Rattle.mdp_wide.specs.Errors.{SolveError}
+use Rattle.mdp_spec.specs.{Mdp.{Mdp, states_of, choices_at, value_at}, Tree.{IsPolicy}}
+use Rattle.mdp_rows.specs.{declared.dir.Dir.{Dir}, Better.{IsAsGood}}
+use Rattle.mdp_wide.specs.{declared.too_wide.Kind.{Kind}, declared.too_wide.Part.TheVariants.{Whole}, Errors.{SolveError}, Term.{shown}}
 use Rattle.mdp_wide.specs.declared.unfinished.Unfinished.TheVariants as solve
-use Rattle.mdp_policy_iteration.specs.Iteration.{EndsWith}
-use Rattle.mdp_policy_iteration.specs.Path.{Found, Refusal, path_step}
-use Rattle.mdp_policy_iteration.specs.Laws.{first}
-use Rattle.mdp_rows.specs.Better.{IsAsGood}
-use Rattle.mdp_policy_iteration.specs.Ends.{capped}
-use Rattle.mdp_wide.specs.Term.{shown}
-use Rattle.mdp_policy_iteration.specs.Queries.{term_of}
-use Rattle.mdp_policy_iteration.specs.declared.solution.Solution.{Solution}
-use Rattle.mdp_policy_iteration.specs.declared.solution.WideAt.{WideAt}
+use Rattle.mdp_policy_iteration.specs.{Iteration.{EndsWith}, Path.{Found, Refusal, path_step}, Laws.{first}, Ends.{capped}, Queries.{term_of}}
+use Rattle.mdp_policy_iteration.specs.{declared.solution.Solution.{Solution}, declared.solution.WideAt.{WideAt}}
 use Rattle.mdp_discount_rules.specs.Rules.{discounted}
-use Rattle.mdp_discount.specs.Problem.{discount_problem}
-use Rattle.mdp_discount.specs.Query.{start_of, cut_found, cut_refusal}
+use Rattle.mdp_discount.specs.{Problem.{discount_problem}, Query.{start_of, cut_found, cut_refusal}}
 
 -- what was found in round n
 abbrev pub found_of : ℕ → Solution → Found

@@ -1,14 +1,10 @@
 -- What holds of the search for discounted rewards.
 use Rattle.std.specs.Prelude.{◌≡◌, ℕ, ◌<◌, List, length, Result, Ok}
 use Rattle.mdp_math.specs.Rational.{ℚ}
-use Rattle.mdp_spec.specs.Mdp.{Mdp}
-use Rattle.mdp_spec.specs.Row.{IsMdp}
+use Rattle.mdp_spec.specs.{Mdp.{Mdp}, Row.{IsMdp}}
 use Rattle.mdp_rows.specs.declared.dir.Dir.{Dir}
 use Rattle.mdp_wide.specs.Term.{WideTerm}
-use Rattle.mdp_discount_rules.specs.Rules.{IsFactor}
-use Rattle.mdp_discount_rules.specs.Bounds.{DiscountBound}
-use Rattle.mdp_discount_rules.specs.Checks.{IsDiscount}
-use Rattle.mdp_discount_rules.specs.Cert.{Certificate}
+use Rattle.mdp_discount_rules.specs.{Rules.{IsFactor}, Bounds.{DiscountBound}, Checks.{IsDiscount}, Cert.{Certificate}}
 use Rattle.mdp_discount.specs.Query.{EndsSo}
 
 -- ---- the query

@@ -1,15 +1,11 @@
 -- The discounted reward of name r as a stochastic shortest path problem (Bertsekas and Tsitsiklis 1991): with a discount factor f a process stops in
 -- each step with probability 1 - f. The states are nodes, each of which goes on by all its choices, and there is one node more, which is worth 0:
 -- a choice leads by its row with f times the probabilities, and to that node with what is left.
-use Rattle.std.specs.Prelude.{ℕ, Bool, true, not, ◌&&◌, List, [], ◌∷◌, ◌++◌, length, map, None, if◌then◌else◌, pos}
-use Rattle.std.specs.List.{filter, list_all, range_with_len}
+use Rattle.std.specs.{Prelude.{ℕ, Bool, true, not, ◌&&◌, List, [], ◌∷◌, ◌++◌, length, map, None, if◌then◌else◌, pos}, List.{filter, list_all, range_with_len}}
 use Rattle.std.specs.Option.{is_some}
-use Rattle.mdp_math.specs.Rational.{ℚ, of_int, ◌*ℚ◌, ◌-ℚ◌}
-use Rattle.mdp_math.specs.Written.{written_mul}
-use Rattle.mdp_num.specs.Equal.{eq_ℚ}
-use Rattle.mdp_num.specs.Written.{written_sub}
-use Rattle.mdp_spec.specs.Mdp.{Entry, Mdp, states_of, choices_at, choice_at, row_at, value_at}
-use Rattle.mdp_spec.specs.Unit.{reward_of}
+use Rattle.mdp_math.specs.{Rational.{ℚ, of_int, ◌*ℚ◌, ◌-ℚ◌}, Written.{written_mul}}
+use Rattle.mdp_num.specs.{Equal.{eq_ℚ}, Written.{written_sub}}
+use Rattle.mdp_spec.specs.{Mdp.{Entry, Mdp, states_of, choices_at, choice_at, row_at, value_at}, Unit.{reward_of}}
 use Rattle.mdp_rows.specs.declared.dir.Dir.{Dir}
 use Rattle.mdp_policy_iteration.specs.Problem.{Problem, Node, given, decision, Choice, go}
 use Rattle.mdp_discount_rules.specs.Checks.{written_discounted}

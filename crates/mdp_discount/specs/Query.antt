@@ -1,23 +1,15 @@
 -- The query of the greatest or the least discounted reward of name r: its start, its path, its remainder, its certificate.
 use Rattle.std.specs.Prelude.{◌≡◌, ℕ, ◌+◌, List, take, replicate, Option, Some, None, Result, Ok, Err}
 use Rattle.mdp_math.specs.Rational.{ℚ}
-use Rattle.mdp_spec.specs.Mdp.{Mdp, states_of, value_at}
-use Rattle.mdp_spec.specs.Labels.{initial_of}
+use Rattle.mdp_spec.specs.{Mdp.{Mdp, states_of, value_at}, Labels.{initial_of}}
 use Rattle.mdp_rows.specs.declared.dir.Dir.{Dir}
-use Rattle.mdp_wide.specs.declared.too_wide.Part.TheVariants.{Whole}
-use Rattle.mdp_wide.specs.declared.too_wide.Kind.TheVariants.{Compare}
-use Rattle.mdp_policy_iteration.specs.Iteration.{EndsWith}
-use Rattle.mdp_policy_iteration.specs.Path.{Found, Refusal, path_step}
-use Rattle.mdp_policy_iteration.specs.Laws.{first}
-use Rattle.mdp_wide.specs.Term.{WideTerm}
-use Rattle.mdp_policy_iteration.specs.Queries.{term_of, term_of_check}
+use Rattle.mdp_wide.specs.{declared.too_wide.Part.TheVariants.{Whole}, declared.too_wide.Kind.TheVariants.{Compare}, Term.{WideTerm}}
+use Rattle.mdp_policy_iteration.specs.{Iteration.{EndsWith}, Path.{Found, Refusal, path_step}, Laws.{first}, Queries.{term_of, term_of_check}}
 use Rattle.mdp_farkas.specs.Verdict.{verdict_of}
-use Rattle.mdp_claims.specs.declared.verdict.Verdict.{Verdict}
-use Rattle.mdp_claims.specs.declared.verdict.Verdict.TheVariants.{Yes, No, Wide}
+use Rattle.mdp_claims.specs.{declared.verdict.Verdict.{Verdict}, declared.verdict.Verdict.TheVariants.{Yes, No, Wide}}
 use Rattle.mdp_text.specs.Heads.{init_by}
-use Rattle.mdp_discount_rules.specs.Checks.{written_greatest, discount_checks}
+use Rattle.mdp_discount_rules.specs.{Checks.{written_greatest, discount_checks}, Cert.{Certificate}}
 use Rattle.mdp_discount.specs.Problem.{discount_problem}
-use Rattle.mdp_discount_rules.specs.Cert.{Certificate}
 
 -- choice 0 everywhere, and at the node behind the states
 abbrev pub start_of : Mdp → List ℕ

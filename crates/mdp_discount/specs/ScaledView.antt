@@ -1,15 +1,10 @@
 -- The discounted rows in the code, without where their slices lie: for each state and choice the row, or nothing where a term is past width.
-use Rattle.std.specs.Prelude.{◌≡◌, ℕ, List, map, length, Option, Some, None, if◌then◌else◌}
-use Rattle.std.specs.List.{range_with_len}
-use Rattle.std.specs.Option.{option_map}
+use Rattle.std.specs.{Prelude.{◌≡◌, ℕ, List, map, length, Option, Some, None, if◌then◌else◌}, List.{range_with_len}, Option.{option_map}}
 use Rattle.std.specs.Coded.{Coded, Coded-set, coded_list, coded_option}
 use Rattle.mdp_math.specs.Rational.{ℚ}
-use Rattle.mdp_spec.specs.Mdp.{Entry, Mdp, states_of, choices_at, row_at}
-use Rattle.mdp_spec.specs.Row.{entries}
-use Rattle.mdp_rows.specs.Code.{entry_code}
-use Rattle.mdp_rows.specs.declared.row.Row.{Row}
-use Rattle.mdp_discount.specs.Problem.{scaled_entries, discounted_row, products_fit, row_fits}
-use Rattle.mdp_discount.specs.declared.scaled.Entries.{Entries}
+use Rattle.mdp_spec.specs.{Mdp.{Entry, Mdp, states_of, choices_at, row_at}, Row.{entries}}
+use Rattle.mdp_rows.specs.{Code.{entry_code}, declared.row.Row.{Row}}
+use Rattle.mdp_discount.specs.{Problem.{scaled_entries, discounted_row, products_fit, row_fits}, declared.scaled.Entries.{Entries}}
 use Rattle.mdp_discount.specs.declared.scaled.StateRows.{StateRows}
 
 abbrev pub row_in : Row → List Entry

@@ -1,9 +1,7 @@
-ghost use Rattle.std.specs.Prelude.{◌≡◌, ◌<◌, length};
-ghost use Rattle.std.specs.Option.{option_map};
+ghost use Rattle.std.specs.{Prelude.{◌≡◌, ◌<◌, length}, Option.{option_map}};
 ghost use Rattle.mdp_spec.specs.Mdp.{states_of, choices_at, row_at};
 ghost use Rattle.mdp_discount_rules.specs.Rules.{IsFactor};
-ghost use Rattle.mdp_discount.specs.Problem.{discount_problem};
-ghost use Rattle.mdp_discount.specs.ScaledView.{row_in, scaled_row, AreScaled, AreScaled-prop};
+ghost use Rattle.mdp_discount.specs.{Problem.{discount_problem}, ScaledView.{row_in, scaled_row, AreScaled, AreScaled-prop}};
 
 use crate::scaled::StateRows;
 use mdp_discount_rules::earned;

@@ -1,11 +1,7 @@
-ghost use Rattle.std.specs.Prelude.{◌≡◌, ◌<◌, ◌++◌, ◌∷◌, [], length, IfOk, OnOk, IfSome};
-ghost use Rattle.std.specs.List.{All, filter};
-ghost use Rattle.std.specs.Option.{option_map};
-ghost use Rattle.mdp_spec.specs.Mdp.{states_of};
-ghost use Rattle.mdp_spec.specs.Row.{entries};
+ghost use Rattle.std.specs.{Prelude.{◌≡◌, ◌<◌, ◌++◌, ◌∷◌, [], length, IfOk, OnOk, IfSome}, List.{All, filter}, Option.{option_map}};
+ghost use Rattle.mdp_spec.specs.{Mdp.{states_of}, Row.{entries}};
 ghost use Rattle.mdp_discount_rules.specs.Rules.{IsFactor};
-ghost use Rattle.mdp_discount.specs.Problem.{has_value};
-ghost use Rattle.mdp_discount.specs.ScaledView.{row_in, rows_in, entries_in, products, scaled_row, scaled_rows, AreScaled};
+ghost use Rattle.mdp_discount.specs.{Problem.{has_value}, ScaledView.{row_in, rows_in, entries_in, products, scaled_row, scaled_rows, AreScaled}};
 
 use bumpalo::Bump;
 use mdp_num::Frac;

@@ -1,14 +1,8 @@
 ghost use Rattle.std.specs.Prelude.{◌≡◌, ◌<◌, ℕ, [], length, slice_index_or, take, IfOk};
-ghost use Rattle.mdp_policy_iteration.specs.Ends.{capped};
-ghost use Rattle.mdp_wide.specs.declared.too_wide.Part.TheVariants.{Whole};
-ghost use Rattle.mdp_wide.specs.Term.{shown};
-ghost use Rattle.mdp_policy_iteration.specs.Queries.{Solves, term_of};
-ghost use Rattle.mdp_discount_rules.specs.Rules.{IsFactor};
-ghost use Rattle.mdp_discount_rules.specs.Bounds.{DiscountBound};
-ghost use Rattle.mdp_discount_rules.specs.Checks.{IsDiscount};
-ghost use Rattle.mdp_discount_rules.specs.Plain.{plain};
-ghost use Rattle.mdp_discount.specs.Query.{EndsSo, AfterFound};
-ghost use Rattle.mdp_discount.specs.Code.{PathEnds, IsFound, found_of, cut_term, wide_after};
+ghost use Rattle.mdp_policy_iteration.specs.{Ends.{capped}, Queries.{Solves, term_of}};
+ghost use Rattle.mdp_wide.specs.{declared.too_wide.Part.TheVariants.{Whole}, Term.{shown}};
+ghost use Rattle.mdp_discount_rules.specs.{Rules.{IsFactor}, Bounds.{DiscountBound}, Checks.{IsDiscount}, Plain.{plain}};
+ghost use Rattle.mdp_discount.specs.{Query.{EndsSo, AfterFound}, Code.{PathEnds, IsFound, found_of, cut_term, wide_after}};
 
 use crate::problem::Discounted;
 use crate::scaled::scaled_states;

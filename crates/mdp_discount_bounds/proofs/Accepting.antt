@@ -1,20 +1,13 @@
 -- A check says yes exactly of what is accepted, and the claim of what is accepted is true.
-use Rattle.std.proofs.Common.{◌≡◌, ℕ, Bool, true, false, cond, length, eqb, Option, Some, None, refl, ◌∙◌, ap}
-use Rattle.std.proofs.lemmas.Bool.Decides.{Decides-eqb}
-use Rattle.mdp_spec.specs.Mdp.{Mdp, states_of}
-use Rattle.mdp_spec.specs.Row.{IsMdp}
-use Rattle.mdp_spec.specs.Labels.{place_of, initial_of}
+use Rattle.std.proofs.{Common.{◌≡◌, ℕ, Bool, true, false, cond, length, eqb, Option, Some, None, refl, ◌∙◌, ap}, lemmas.Bool.Decides.{Decides-eqb}}
+use Rattle.mdp_spec.specs.{Mdp.{Mdp, states_of}, Row.{IsMdp}, Labels.{place_of, initial_of}}
 use Rattle.mdp_claims.specs.declared.verdict.Verdict.{Verdict}
 use Rattle.mdp_claims.specs.declared.verdict.Verdict.TheVariants as verdict
-use Rattle.mdp_discount_rules.specs.Check.{answer_of, then_verdict}
-use Rattle.mdp_discount_rules.specs.declared.answer.DiscountAnswer.TheVariants.{Yes, Size}
+use Rattle.mdp_discount_rules.specs.{Check.{answer_of, then_verdict}, declared.answer.DiscountAnswer.TheVariants.{Yes, Size}}
 use Rattle.mdp_discount_rules.proofs.Accepting.{place_below, both-yes}
-use Rattle.mdp_discount_bounds.specs.Cert.{Certificate}
-use Rattle.mdp_discount_bounds.specs.Check.{init_check, checks_of, at_reward, answer_to, IsAccepted}
-use Rattle.mdp_discount_bounds.specs.Checks.{IsDiscountBounds}
+use Rattle.mdp_discount_bounds.specs.{Cert.{Certificate}, Check.{init_check, checks_of, at_reward, answer_to, IsAccepted}, Checks.{IsDiscountBounds}}
 use Rattle.mdp_discount_bounds.specs.Laws.{YesIsAccepted, AcceptedIsBound}
-use Rattle.mdp_discount_bounds.proofs.Between.{between_of_rules}
-use Rattle.mdp_discount_bounds.proofs.Rules.{bounds_rules}
+use Rattle.mdp_discount_bounds.proofs.{Between.{between_of_rules}, Rules.{bounds_rules}}
 
 module _ (m : Mdp) (c : Certificate) (known : IsMdp m) (above : length c.upper ≡ length c.lower) (each : length c.choices ≡ length c.lower) where
   checked : (r : ℕ) → length c.lower ≡ states_of m → place_of c.name m.names ≡ Some r

@@ -1,29 +1,15 @@
 -- Values that meet the rules bound what policies earn: each half of the rules, of the values that are there, is the half of mdp_discount_rules.
 use Rattle.std.proofs.Common.{◌≡◌, ℕ, ◌<◌, ◌≤◌, false, true≢false, List, [], ◌∷◌, Option, Some, None, length, slice_index, refl, sym, subst, ◌∙◌, arith}
-use Rattle.std.specs.List.{All}
-use Rattle.std.specs.Option.{IfSome}
-use Rattle.mdp_math.specs.Rational.{ℚ, neg_ℚ, ◌+ℚ◌, ◌*ℚ◌, ◌-ℚ◌, ◌≤ℚ◌}
-use Rattle.mdp_math.specs.Power.{pow_ℚ}
-use Rattle.mdp_math.proofs.Ring.{◌⊕◌, ⊖}
-use Rattle.mdp_math.proofs.Linear.{linear, known}
-use Rattle.mdp_spec.specs.Mdp.{Mdp, states_of, choices_at, choice_at, row_at, value_at}
-use Rattle.mdp_spec.specs.Row.{IsMdp, row_sum}
-use Rattle.mdp_spec.specs.Unit.{reward_of}
-use Rattle.mdp_spec.specs.Tree.{Tree, IsStrategy, unfolded, is_marked}
-use Rattle.mdp_spec.specs.Bounds.{reward_at, finite_part, infinite}
-use Rattle.mdp_spec.specs.RewardRules.{StaysFinite}
-use Rattle.mdp_spec.proofs.Values.{part_of_some, finite_of_some, infinite_of_none}
-use Rattle.mdp_spec.proofs.Keeping.{Keeps, HasChoice, Follows, keeps_of_Fits, keeps_unfolded}
-use Rattle.mdp_rows.specs.declared.dir.Dir.{Dir}
-use Rattle.mdp_rows.specs.declared.dir.Dir.TheVariants.{Max, Min}
-use Rattle.mdp_rows.specs.Better.{IsAsGood}
-use Rattle.mdp_discount_rules.specs.Disc.{disc}
-use Rattle.mdp_discount_rules.specs.Bounds.{BetterByAtMost}
-use Rattle.mdp_discount_rules.specs.Rules.{IsFactor}
-use Rattle.mdp_discount_rules.proofs.Directions.{NoBetter}
-use Rattle.mdp_discount_rules.proofs.Discount.{half_by}
-use Rattle.mdp_discount_bounds.specs.Rules.{left_for, Allows}
-use Rattle.mdp_discount_bounds.specs.Laws.{RulesBetween}
+use Rattle.std.specs.{List.{All}, Option.{IfSome}}
+use Rattle.mdp_math.specs.{Rational.{ℚ, neg_ℚ, ◌+ℚ◌, ◌*ℚ◌, ◌-ℚ◌, ◌≤ℚ◌}, Power.{pow_ℚ}}
+use Rattle.mdp_math.proofs.{Ring.{◌⊕◌, ⊖}, Linear.{linear, known}}
+use Rattle.mdp_spec.specs.{Mdp.{Mdp, states_of, choices_at, choice_at, row_at, value_at}, Row.{IsMdp, row_sum}, Unit.{reward_of}}
+use Rattle.mdp_spec.specs.{Tree.{Tree, IsStrategy, unfolded, is_marked}, Bounds.{reward_at, finite_part, infinite}, RewardRules.{StaysFinite}}
+use Rattle.mdp_spec.proofs.{Values.{part_of_some, finite_of_some, infinite_of_none}, Keeping.{Keeps, HasChoice, Follows, keeps_of_Fits, keeps_unfolded}}
+use Rattle.mdp_rows.specs.{declared.dir.Dir.{Dir}, declared.dir.Dir.TheVariants.{Max, Min}, Better.{IsAsGood}}
+use Rattle.mdp_discount_rules.specs.{Disc.{disc}, Bounds.{BetterByAtMost}, Rules.{IsFactor}}
+use Rattle.mdp_discount_rules.proofs.{Directions.{NoBetter}, Discount.{half_by}}
+use Rattle.mdp_discount_bounds.specs.{Rules.{left_for, Allows}, Laws.{RulesBetween}}
 use Rattle.mdp_discount_bounds.proofs.Greatest.{lower_near, upper_near}
 
 -- where what is left is as good as the reward, the reward and what comes later are no better than the value

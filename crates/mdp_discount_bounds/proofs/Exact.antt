@@ -2,9 +2,7 @@
 use Rattle.std.proofs.Common.{ℕ, Option, Some, None}
 use Rattle.std.specs.Option.{IfSome}
 use Rattle.mdp_math.specs.Rational.{ℚ, ◌≤ℚ◌}
-use Rattle.mdp_spec.specs.Mdp.{value_at}
-use Rattle.mdp_spec.specs.Tree.{Tree, unfolded}
-use Rattle.mdp_spec.specs.Bounds.{reward_at}
+use Rattle.mdp_spec.specs.{Mdp.{value_at}, Tree.{Tree, unfolded}, Bounds.{reward_at}}
 use Rattle.mdp_spec.proofs.Keeping.{unfolded_is_strategy}
 use Rattle.mdp_rows.specs.declared.dir.Dir.TheVariants.{Max, Min}
 use Rattle.mdp_discount_rules.specs.Disc.{disc}

@@ -1,18 +1,12 @@
 -- The greatest magnitude of two lists of values: what the code computes is it, and no value is farther from 0.
-use Rattle.std.proofs.Common.{◌≡◌, ℕ, ◌<◌, cond, List, [], ◌∷◌, ◌++◌, length, map, Option, refl, sym, subst, ◌∙◌}
-use Rattle.std.specs.List.{AllByRecursion}
-use Rattle.std.specs.Prelude.{unwrap_or}
-use Rattle.std.proofs.lemmas.List.{length-map}
+use Rattle.std.proofs.{Common.{◌≡◌, ℕ, ◌<◌, cond, List, [], ◌∷◌, ◌++◌, length, map, Option, refl, sym, subst, ◌∙◌}, lemmas.List.{length-map}}
 use Rattle.std.proofs.lemmas.List.Elements.{All-from_recursion, recursion_from_All}
-use Rattle.mdp_math.specs.Rational.{ℚ, neg_ℚ, ◌≤ℚ◌}
-use Rattle.mdp_math.specs.Written.{cmp_ℚ}
-use Rattle.mdp_math.proofs.Order.{≤ℚ_trans}
-use Rattle.mdp_math.proofs.Extremes.{greatest-ge}
-use Rattle.mdp_spec.specs.Mdp.{value_at}
-use Rattle.mdp_spec.specs.Bounds.{finite_part}
+use Rattle.std.specs.{List.{AllByRecursion}, Prelude.{unwrap_or}}
+use Rattle.mdp_math.specs.{Rational.{ℚ, neg_ℚ, ◌≤ℚ◌}, Written.{cmp_ℚ}}
+use Rattle.mdp_math.proofs.{Order.{≤ℚ_trans}, Extremes.{greatest-ge}}
+use Rattle.mdp_spec.specs.{Mdp.{value_at}, Bounds.{finite_part}}
 use Rattle.mdp_farkas.specs.Compare.{0ℚ}
-use Rattle.mdp_rows.specs.Better.{is_better}
-use Rattle.mdp_rows.specs.declared.dir.Dir.TheVariants.{Max}
+use Rattle.mdp_rows.specs.{Better.{is_better}, declared.dir.Dir.TheVariants.{Max}}
 use Rattle.mdp_bounds.specs.Mean.{exact_best}
 use Rattle.mdp_bounds.proofs.Spreading.{greatest_exact}
 use Rattle.mdp_discount_rules.specs.Rules.{magnitude}

@@ -4,24 +4,17 @@ use Rattle.std.proofs.lemmas.List.Elements.{All-from_recursion, recursion_from_A
 use Rattle.mdp_math.specs.Rational.{ℚ}
 use Rattle.mdp_math.proofs.Options.{Some_same}
 use Rattle.mdp_num.specs.OrderView.{equal_decides}
-use Rattle.mdp_spec.specs.Mdp.{Mdp, states_of, choices_at}
-use Rattle.mdp_spec.specs.Row.{IsMdp}
-use Rattle.mdp_farkas.specs.Reach.{other}
-use Rattle.mdp_farkas.specs.Verdict.{Check, verdict_of, InWidth, at_choices, IsYes, IfYes}
-use Rattle.mdp_claims.specs.declared.verdict.Fault.{Fault}
-use Rattle.mdp_claims.specs.declared.verdict.Verdict.{Verdict}
-use Rattle.mdp_claims.specs.declared.verdict.Verdict.TheVariants.{No}
+use Rattle.mdp_spec.specs.{Mdp.{Mdp, states_of, choices_at}, Row.{IsMdp}}
+use Rattle.mdp_farkas.specs.{Reach.{other}, Verdict.{Check, verdict_of, InWidth, at_choices, IsYes, IfYes}}
+use Rattle.mdp_claims.specs.{declared.verdict.Fault.{Fault}, declared.verdict.Verdict.{Verdict}, declared.verdict.Verdict.TheVariants.{No}}
 use Rattle.mdp_farkas.proofs.Holds.{Each, Holds, Sound, each_of_yes, yes_of_each, told_of_each, if_yes, holds_of_sound, never_no}
 use Rattle.mdp_farkas.proofs.Holds.{each_append, each_left, each_right, each_flat, each_flat_at, each_map, each_map_at}
-use Rattle.mdp_rows.specs.declared.dir.Dir.{Dir}
-use Rattle.mdp_rows.specs.declared.dir.Dir.TheVariants.{Max, Min}
+use Rattle.mdp_rows.specs.{declared.dir.Dir.{Dir}, declared.dir.Dir.TheVariants.{Max, Min}}
 use Rattle.mdp_bounds.specs.Says.{covering_rewards}
 use Rattle.mdp_discount_rules.specs.Rules.{IsFactor}
-use Rattle.mdp_discount_bounds.specs.Between.{DiscountMaxBetween, DiscountMinBetween, DiscountBetween}
-use Rattle.mdp_discount_bounds.specs.Rules.{greatest_magnitude, MeetsDiscountBetween}
+use Rattle.mdp_discount_bounds.specs.{Between.{DiscountMaxBetween, DiscountMinBetween, DiscountBetween}, Rules.{greatest_magnitude, MeetsDiscountBetween}}
 use Rattle.mdp_discount_bounds.specs.Checks.{each_check, policy_check, remainder_check, bounds_at, state_checks, discount_bounds_checks, IsDiscountBounds}
-use Rattle.mdp_discount_bounds.proofs.Values.{allows_of, of_allows}
-use Rattle.mdp_discount_bounds.proofs.Between.{between_of_rules}
+use Rattle.mdp_discount_bounds.proofs.{Values.{allows_of, of_allows}, Between.{between_of_rules}}
 
 module _ (dir : Dir) (m : Mdp) (r : ℕ) (f : ℚ) (lower upper : List (Option ℚ)) (remainder : ℚ) (policy : List ℕ) (known : IsMdp m) where
   abbrev checks : List Check

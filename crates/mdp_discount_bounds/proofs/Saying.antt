@@ -4,8 +4,7 @@ use Rattle.mdp_spec.specs.Mdp.{choices_at}
 use Rattle.mdp_farkas.specs.Reach.{other}
 use Rattle.mdp_claims.specs.declared.rule.Rule.TheVariants.{ChoiceExists, DiscountedOnEachChoice, DiscountedOnPolicy, RemainderIsGreatest}
 use Rattle.mdp_bounds.specs.Says.{covering_rewards}
-use Rattle.mdp_discount_bounds.specs.Rules.{Allows}
-use Rattle.mdp_discount_bounds.specs.Laws.{DiscountMeetsSays}
+use Rattle.mdp_discount_bounds.specs.{Rules.{Allows}, Laws.{DiscountMeetsSays}}
 
 -- what holds of the policy's choice holds of c, where the policy takes c
 taken : (P : ℕ → Type 0) (policy : List ℕ) (s c : ℕ) → c ≡ slice_index policy s → P (slice_index policy s) → P c

@@ -3,17 +3,14 @@ use Rattle.std.proofs.Common.{◌≡◌, ℕ, ◌<◌, Option, Some, lt-ltb, ltb
 use Rattle.mdp_math.specs.Rational.{ℚ}
 use Rattle.mdp_math.proofs.Options.{Some_same}
 use Rattle.mdp_num.specs.OrderView.{equal_decides}
-use Rattle.mdp_spec.specs.Mdp.{Mdp, states_of, choices_at}
-use Rattle.mdp_spec.specs.Row.{IsMdp}
-use Rattle.mdp_farkas.specs.Verdict.{at_choices}
-use Rattle.mdp_farkas.specs.Reach.{other, choice_exists}
+use Rattle.mdp_spec.specs.{Mdp.{Mdp, states_of, choices_at}, Row.{IsMdp}}
+use Rattle.mdp_farkas.specs.{Verdict.{at_choices}, Reach.{other, choice_exists}}
 use Rattle.mdp_rows.specs.declared.dir.Dir.{Dir}
 use Rattle.mdp_claims.specs.declared.verdict.Fault.{Fault}
 use Rattle.mdp_bounds.specs.Says.{IsChoice, covering_rewards}
 use Rattle.mdp_farkas.proofs.Telling.{refuted, Tells, tells_first, tells_one, tells_append, tells_flat, tells_map}
 use Rattle.mdp_discount_bounds.specs.Rules.{Allows, greatest_magnitude}
-use Rattle.mdp_discount_bounds.specs.Checks.{each_check, policy_check, remainder_check, bounds_at, state_checks, discount_bounds_checks}
-use Rattle.mdp_discount_bounds.specs.Says.{DiscountSays}
+use Rattle.mdp_discount_bounds.specs.{Checks.{each_check, policy_check, remainder_check, bounds_at, state_checks, discount_bounds_checks}, Says.{DiscountSays}}
 use Rattle.mdp_discount_bounds.specs.Laws.{DiscountNoRefutes}
 use Rattle.mdp_discount_bounds.proofs.Values.{of_allows}
 

@@ -1,21 +1,15 @@
 -- Values that are all missing get yes on every model: each of their checks holds, and none makes a sum.
 use Rattle.std.proofs.Common.{◌≡◌, ℕ, ◌<◌, List, [], ◌∷◌, ◌++◌, length, map, slice_index, Option, Some, None, sym, ap, subst, ◌∙◌, lt-ltb, arith}
-use Rattle.std.specs.List.{All, AllByRecursion}
 use Rattle.std.proofs.lemmas.List.Elements.{All-from_recursion, recursion_from_All}
+use Rattle.std.specs.List.{All, AllByRecursion}
 use Rattle.mdp_math.specs.Rational.{ℚ, ◌≤ℚ◌}
-use Rattle.mdp_math.proofs.Extremes.{greatest-ge, greatest-le}
-use Rattle.mdp_math.proofs.Order.{≤ℚ_refl, ≤ℚ_antisymm, ≤ℚ_of_eq}
+use Rattle.mdp_math.proofs.{Extremes.{greatest-ge, greatest-le}, Order.{≤ℚ_refl, ≤ℚ_antisymm, ≤ℚ_of_eq}}
 use Rattle.mdp_num.specs.OrderView.{equal_decides}
-use Rattle.mdp_spec.specs.Mdp.{Mdp, states_of, choices_at}
-use Rattle.mdp_spec.specs.Tree.{IsPolicy}
-use Rattle.mdp_spec.specs.Bounds.{reward_at, finite_part}
-use Rattle.mdp_farkas.specs.Compare.{0ℚ}
-use Rattle.mdp_farkas.specs.Reach.{other}
-use Rattle.mdp_farkas.specs.Verdict.{verdict_of, at_choices}
+use Rattle.mdp_spec.specs.{Mdp.{Mdp, states_of, choices_at}, Tree.{IsPolicy}, Bounds.{reward_at, finite_part}}
+use Rattle.mdp_farkas.specs.{Compare.{0ℚ}, Reach.{other}, Verdict.{verdict_of, at_choices}}
 use Rattle.mdp_claims.specs.declared.verdict.Verdict.TheVariants.{Yes}
 use Rattle.mdp_farkas.proofs.Holds.{Each, Holds, yes_of_each, each_append, each_map, each_flat}
-use Rattle.mdp_rows.specs.declared.dir.Dir.{Dir}
-use Rattle.mdp_rows.specs.declared.dir.Dir.TheVariants.{Max, Min}
+use Rattle.mdp_rows.specs.{declared.dir.Dir.{Dir}, declared.dir.Dir.TheVariants.{Max, Min}}
 use Rattle.mdp_bounds.specs.Says.{covering_rewards}
 use Rattle.mdp_discount_rules.specs.Rules.{magnitude}
 use Rattle.mdp_discount_rules.proofs.Magnitudes.{magnitude-above}

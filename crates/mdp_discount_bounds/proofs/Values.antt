@@ -1,27 +1,16 @@
 -- What a check of a value on a choice says of the numbers.
 use Rattle.std.proofs.Common.{◌≡◌, ℕ, ◌<◌, Bool, true, false, true≢false, List, [], Option, Some, None, length, refl, sym, ap, ◌∙◌, option_map, if◌then◌else◌}
 use Rattle.std.specs.Option.{IsSome, IfSome, option_and_then}
-use Rattle.mdp_math.specs.Rational.{ℚ, neg_ℚ, ◌+ℚ◌, ◌*ℚ◌}
-use Rattle.mdp_math.specs.Written.{written_mul}
-use Rattle.mdp_math.proofs.Extremes.{le_of_test, test_of_le}
-use Rattle.mdp_math.proofs.Laws.{zero-+ℚ}
-use Rattle.mdp_math.proofs.Options.{Some_same, step_told}
-use Rattle.mdp_math.proofs.Written.{written_mul-some}
-use Rattle.mdp_spec.specs.Mdp.{Mdp, states_of, choices_at, choice_at, row_at}
-use Rattle.mdp_spec.specs.Row.{IsMdp, row_sum}
-use Rattle.mdp_spec.specs.Unit.{reward_of}
-use Rattle.mdp_spec.specs.Bounds.{reward_at, finite_part}
+use Rattle.mdp_math.specs.{Rational.{ℚ, neg_ℚ, ◌+ℚ◌, ◌*ℚ◌}, Written.{written_mul}}
+use Rattle.mdp_math.proofs.{Extremes.{le_of_test, test_of_le}, Laws.{zero-+ℚ}, Options.{Some_same, step_told}, Written.{written_mul-some}}
+use Rattle.mdp_spec.specs.{Mdp.{Mdp, states_of, choices_at, choice_at, row_at}, Row.{IsMdp, row_sum}, Unit.{reward_of}, Bounds.{reward_at, finite_part}}
 use Rattle.mdp_spec.specs.RewardRules.{StaysFinite}
-use Rattle.mdp_farkas.specs.Compare.{0ℚ}
-use Rattle.mdp_farkas.specs.Reward.{stays_finite}
+use Rattle.mdp_farkas.specs.{Compare.{0ℚ}, Reward.{stays_finite}}
 use Rattle.mdp_farkas.proofs.RewardRules.{stays_of_test, test_of_stays}
-use Rattle.mdp_rows.specs.declared.dir.Dir.{Dir}
-use Rattle.mdp_rows.specs.declared.dir.Dir.TheVariants.{Max, Min}
-use Rattle.mdp_rows.specs.Better.{IsAsGood}
+use Rattle.mdp_rows.specs.{declared.dir.Dir.{Dir}, declared.dir.Dir.TheVariants.{Max, Min}, Better.{IsAsGood}}
 use Rattle.mdp_bounds.specs.Sum.{stands, plain_add, told_sum}
 use Rattle.mdp_bounds.proofs.Sums.{plain_add-some, told_sum-some, mapped_holds, mapped_sound}
-use Rattle.mdp_discount_bounds.specs.Rules.{left_for, Allows}
-use Rattle.mdp_discount_bounds.specs.Checks.{told_left, value_allows, allows}
+use Rattle.mdp_discount_bounds.specs.{Rules.{left_for, Allows}, Checks.{told_left, value_allows, allows}}
 
 good_of : (dir : Dir) (x y : ℚ) → stands dir x y ≡ true → IsAsGood dir x y
 good_of Max x y h = le_of_test y x h

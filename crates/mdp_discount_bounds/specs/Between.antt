@@ -1,13 +1,9 @@
 -- What a lower and an upper value for each state and a policy mean of the discounted reward, over every policy with history and rational mixing: what
 -- is left after n steps is at most f to the n times the remainder. A value that is missing claims nothing.
 use Rattle.std.specs.Prelude.{◌≡◌, ℕ, ◌<◌, List, length, Option, IfSome}
-use Rattle.mdp_math.specs.Rational.{ℚ, ◌+ℚ◌, ◌*ℚ◌, ◌≤ℚ◌}
-use Rattle.mdp_math.specs.Power.{pow_ℚ}
-use Rattle.mdp_spec.specs.Mdp.{Mdp, states_of}
-use Rattle.mdp_spec.specs.Bounds.{reward_at}
-use Rattle.mdp_spec.specs.Tree.{Tree, IsStrategy, IsPolicy, unfolded}
-use Rattle.mdp_rows.specs.declared.dir.Dir.{Dir}
-use Rattle.mdp_rows.specs.declared.dir.Dir.TheVariants.{Max, Min}
+use Rattle.mdp_math.specs.{Rational.{ℚ, ◌+ℚ◌, ◌*ℚ◌, ◌≤ℚ◌}, Power.{pow_ℚ}}
+use Rattle.mdp_spec.specs.{Mdp.{Mdp, states_of}, Bounds.{reward_at}, Tree.{Tree, IsStrategy, IsPolicy, unfolded}}
+use Rattle.mdp_rows.specs.{declared.dir.Dir.{Dir}, declared.dir.Dir.TheVariants.{Max, Min}}
 use Rattle.mdp_discount_rules.specs.Disc.{disc}
 
 -- the greatest discounted reward: no tree passes the upper values by more than what is left, and the policy falls short of the lower ones by no more

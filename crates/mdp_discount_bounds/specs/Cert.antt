@@ -1,10 +1,8 @@
 -- A certificate of bounds of the discounted reward: what is claimed of a model, and the values, the policy and the remainder that show it.
-use Rattle.std.specs.Prelude.{◌≡◌, ℕ, ◌<◌, ◌≤◌, ◌^◌, Bool, true, List, length, nat_lt, Option, Some, None, IfSome, IsTrue}
-use Rattle.std.specs.List.{All}
+use Rattle.std.specs.{Prelude.{◌≡◌, ℕ, ◌<◌, ◌≤◌, ◌^◌, Bool, true, List, length, nat_lt, Option, Some, None, IfSome, IsTrue}, List.{All}}
 use Rattle.mdp_math.specs.Rational.{ℚ}
 use Rattle.mdp_num.specs.Value.{IsNarrow}
-use Rattle.mdp_rows.specs.Name.{is_name}
-use Rattle.mdp_rows.specs.declared.dir.Dir.{Dir}
+use Rattle.mdp_rows.specs.{Name.{is_name}, declared.dir.Dir.{Dir}}
 use Rattle.mdp_discount_rules.specs.Rules.{IsFactor}
 use Rattle.mdp_discount_bounds.specs.declared.init.InitialBounds.{InitialBounds}
 

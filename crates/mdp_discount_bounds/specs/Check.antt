@@ -2,19 +2,13 @@
 use Rattle.std.specs.Prelude.{◌≡◌, ℕ, Bool, true, false, List, length, Option, Some, None, ◌&&◌, ◌==◌, nat_lt, if◌then◌else◌}
 use Rattle.mdp_math.specs.Rational.{ℚ}
 use Rattle.mdp_num.specs.Equal.{eq_ℚ}
-use Rattle.mdp_spec.specs.Mdp.{Mdp, states_of}
-use Rattle.mdp_spec.specs.Bounds.{reward_at}
-use Rattle.mdp_spec.specs.Labels.{place_of, initial_of}
-use Rattle.mdp_farkas.specs.Initial.{init_fault, state_check}
-use Rattle.mdp_farkas.specs.Verdict.{verdict_of}
+use Rattle.mdp_spec.specs.{Mdp.{Mdp, states_of}, Bounds.{reward_at}, Labels.{place_of, initial_of}}
+use Rattle.mdp_farkas.specs.{Initial.{init_fault, state_check}, Verdict.{verdict_of}}
 use Rattle.mdp_claims.specs.declared.verdict.Verdict.{Verdict}
 use Rattle.mdp_claims.specs.declared.verdict.Verdict.TheVariants as verdict
-use Rattle.mdp_discount_rules.specs.Check.{answer_of, then_verdict}
-use Rattle.mdp_discount_rules.specs.declared.answer.DiscountAnswer.{DiscountAnswer}
+use Rattle.mdp_discount_rules.specs.{Check.{answer_of, then_verdict}, declared.answer.DiscountAnswer.{DiscountAnswer}}
 use Rattle.mdp_discount_rules.specs.declared.answer.DiscountAnswer.TheVariants.{NoReward, Size}
-use Rattle.mdp_discount_bounds.specs.Between.{DiscountBetween}
-use Rattle.mdp_discount_bounds.specs.Cert.{Certificate}
-use Rattle.mdp_discount_bounds.specs.declared.init.InitialBounds.{InitialBounds}
+use Rattle.mdp_discount_bounds.specs.{Between.{DiscountBetween}, Cert.{Certificate}, declared.init.InitialBounds.{InitialBounds}}
 use Rattle.mdp_discount_bounds.specs.Checks.{discount_bounds_checks, IsDiscountBounds}
 
 -- ---- rule 1: the line `init`

@@ -9,20 +9,12 @@
 -- A value that is missing is asked nothing, and where a target has none no sum is made.
 use Rattle.std.specs.Prelude.{◌≡◌, ℕ, Bool, true, false, List, [], ◌∷◌, ◌++◌, slice_index, Option, Some, None, option_map, if◌then◌else◌}
 use Rattle.std.specs.List.{All, flat_map, range_with_len}
-use Rattle.mdp_math.specs.Rational.{ℚ, neg_ℚ}
-use Rattle.mdp_math.specs.Written.{written_mul, ◌>>=◌}
+use Rattle.mdp_math.specs.{Rational.{ℚ, neg_ℚ}, Written.{written_mul, ◌>>=◌}}
 use Rattle.mdp_num.specs.Equal.{eq_ℚ}
-use Rattle.mdp_spec.specs.Mdp.{Mdp, states_of, choice_at, row_at}
-use Rattle.mdp_spec.specs.Unit.{reward_of}
-use Rattle.mdp_spec.specs.Tree.{IsPolicy}
-use Rattle.mdp_spec.specs.Bounds.{reward_at, finite_part}
-use Rattle.mdp_farkas.specs.Compare.{0ℚ}
-use Rattle.mdp_farkas.specs.Reach.{other, choice_exists}
-use Rattle.mdp_farkas.specs.Reward.{stays_finite}
-use Rattle.mdp_farkas.specs.Verdict.{Check, InWidth, at_choice, at_choices}
+use Rattle.mdp_spec.specs.{Mdp.{Mdp, states_of, choice_at, row_at}, Unit.{reward_of}, Tree.{IsPolicy}, Bounds.{reward_at, finite_part}}
+use Rattle.mdp_farkas.specs.{Compare.{0ℚ}, Reach.{other, choice_exists}, Reward.{stays_finite}, Verdict.{Check, InWidth, at_choice, at_choices}}
 use Rattle.mdp_rows.specs.declared.dir.Dir.{Dir}
-use Rattle.mdp_bounds.specs.Says.{covering_rewards}
-use Rattle.mdp_bounds.specs.Sum.{stands, plain_add, told_sum}
+use Rattle.mdp_bounds.specs.{Says.{covering_rewards}, Sum.{stands, plain_add, told_sum}}
 use Rattle.mdp_discount_bounds.specs.Rules.{greatest_magnitude, MeetsDiscountBetween}
 use Rattle.mdp_claims.specs.declared.rule.Rule.TheVariants.{DiscountedOnEachChoice, DiscountedOnPolicy, RemainderIsGreatest}
 

@@ -1,23 +1,13 @@
 -- What holds of the rules of bounds of discounted rewards and of their certificates.
 use Rattle.std.specs.Prelude.{◌≡◌, ◌↔◌, ℕ, ◌<◌, List, length, Option, IfSome}
 use Rattle.mdp_math.specs.Rational.{ℚ, ◌≤ℚ◌}
-use Rattle.mdp_spec.specs.Mdp.{Mdp, states_of, value_at}
-use Rattle.mdp_spec.specs.Row.{IsMdp}
-use Rattle.mdp_spec.specs.Bounds.{reward_at}
+use Rattle.mdp_spec.specs.{Mdp.{Mdp, states_of, value_at}, Row.{IsMdp}, Bounds.{reward_at}}
 use Rattle.mdp_rows.specs.declared.dir.Dir.{Dir}
 use Rattle.mdp_farkas.specs.Verdict.{verdict_of}
-use Rattle.mdp_claims.specs.declared.rule.Rule.{Rule}
-use Rattle.mdp_claims.specs.declared.verdict.Fault.{Fault}
-use Rattle.mdp_claims.specs.declared.verdict.Verdict.TheVariants.{No}
-use Rattle.mdp_discount_rules.specs.Rules.{IsFactor}
-use Rattle.mdp_discount_rules.specs.Bounds.{DiscountBound}
-use Rattle.mdp_discount_rules.specs.declared.answer.DiscountAnswer.TheVariants.{Yes}
-use Rattle.mdp_discount_bounds.specs.Between.{DiscountBetween}
-use Rattle.mdp_discount_bounds.specs.Rules.{MeetsDiscountBetween}
-use Rattle.mdp_discount_bounds.specs.Checks.{discount_bounds_checks}
-use Rattle.mdp_discount_bounds.specs.Says.{DiscountSays}
-use Rattle.mdp_discount_bounds.specs.Cert.{Certificate}
-use Rattle.mdp_discount_bounds.specs.Check.{answer_to, IsAccepted, IsBound}
+use Rattle.mdp_claims.specs.{declared.rule.Rule.{Rule}, declared.verdict.Fault.{Fault}, declared.verdict.Verdict.TheVariants.{No}}
+use Rattle.mdp_discount_rules.specs.{Rules.{IsFactor}, Bounds.{DiscountBound}, declared.answer.DiscountAnswer.TheVariants.{Yes}}
+use Rattle.mdp_discount_bounds.specs.{Between.{DiscountBetween}, Rules.{MeetsDiscountBetween}, Checks.{discount_bounds_checks}, Says.{DiscountSays}}
+use Rattle.mdp_discount_bounds.specs.{Cert.{Certificate}, Check.{answer_to, IsAccepted, IsBound}}
 
 -- ---- values
 

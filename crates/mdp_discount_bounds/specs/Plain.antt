@@ -1,6 +1,5 @@
 -- What a certificate of the program says.
-use Rattle.mdp_discount_bounds.specs.Cert.{Certificate}
-use Rattle.mdp_discount_bounds.specs.declared.cert.DiscountBoundsCert.{DiscountBoundsCert}
+use Rattle.mdp_discount_bounds.specs.{Cert.{Certificate}, declared.cert.DiscountBoundsCert.{DiscountBoundsCert}}
 
 abbrev pub plain : DiscountBoundsCert → Certificate
 plain c = record {

@@ -2,18 +2,11 @@
 -- each choice is asked of the upper values where they are the greatest rewards, and of the lower ones where they are the least; the half on the
 -- policy's choice of the other values. A value that is missing is asked nothing.
 use Rattle.std.specs.Prelude.{◌≡◌, ℕ, ◌<◌, List, ◌∷◌, ◌++◌, length, map, slice_index, Option, IfSome}
-use Rattle.mdp_math.specs.Rational.{ℚ, ◌*ℚ◌, ◌-ℚ◌}
-use Rattle.mdp_math.specs.Extremes.{greatest}
-use Rattle.mdp_spec.specs.Mdp.{Mdp, states_of, choices_at, choice_at, row_at}
-use Rattle.mdp_spec.specs.Row.{row_sum}
-use Rattle.mdp_spec.specs.Unit.{reward_of}
-use Rattle.mdp_spec.specs.Tree.{IsPolicy}
-use Rattle.mdp_spec.specs.Bounds.{reward_at, finite_part}
-use Rattle.mdp_spec.specs.RewardRules.{StaysFinite}
-use Rattle.mdp_farkas.specs.Compare.{0ℚ}
-use Rattle.mdp_farkas.specs.Reach.{other}
-use Rattle.mdp_rows.specs.declared.dir.Dir.{Dir}
-use Rattle.mdp_rows.specs.Better.{IsAsGood}
+use Rattle.mdp_math.specs.{Rational.{ℚ, ◌*ℚ◌, ◌-ℚ◌}, Extremes.{greatest}}
+use Rattle.mdp_spec.specs.{Mdp.{Mdp, states_of, choices_at, choice_at, row_at}, Row.{row_sum}, Unit.{reward_of}, Tree.{IsPolicy}}
+use Rattle.mdp_spec.specs.{Bounds.{reward_at, finite_part}, RewardRules.{StaysFinite}}
+use Rattle.mdp_farkas.specs.{Compare.{0ℚ}, Reach.{other}}
+use Rattle.mdp_rows.specs.{declared.dir.Dir.{Dir}, Better.{IsAsGood}}
 use Rattle.mdp_bounds.specs.Says.{covering_rewards}
 use Rattle.mdp_discount_rules.specs.Rules.{magnitude}
 

@@ -1,7 +1,6 @@
 ghost use Rattle.std.specs.Prelude.{◌≡◌, ◌↔◌};
 ghost use Rattle.mdp_spec.specs.Labels.{initial_of};
-ghost use Rattle.mdp_discount_bounds.specs.Plain.{plain};
-ghost use Rattle.mdp_discount_bounds.specs.Check.{same_value, is_value, has_bounds, init_check, answer_to, IsAccepted, IsBound};
+ghost use Rattle.mdp_discount_bounds.specs.{Plain.{plain}, Check.{same_value, is_value, has_bounds, init_check, answer_to, IsAccepted, IsBound}};
 
 use crate::bounds::DiscountBounds;
 use crate::cert::DiscountBoundsCert;

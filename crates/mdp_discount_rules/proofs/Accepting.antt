@@ -1,18 +1,13 @@
 -- A check says yes exactly of what is accepted, and the claim of what is accepted is true.
 use Rattle.std.proofs.Common.{◌≡◌, ℕ, ◌<◌, Bool, true, false, cond, List, [], length, eqb, Option, Some, None, refl, ◌∙◌, ap}
+use Rattle.std.proofs.{lemmas.Bool.Decides.{Decides-eqb}, lemmas.List.Quantifiers.{position-Some}}
 use Rattle.std.specs.Str.{bytes_eq}
-use Rattle.std.proofs.lemmas.Bool.Decides.{Decides-eqb}
-use Rattle.std.proofs.lemmas.List.Quantifiers.{position-Some}
-use Rattle.mdp_spec.specs.Mdp.{Mdp, states_of}
-use Rattle.mdp_spec.specs.Labels.{place_of, initial_of}
+use Rattle.mdp_spec.specs.{Mdp.{Mdp, states_of}, Labels.{place_of, initial_of}}
 use Rattle.mdp_claims.specs.declared.verdict.Verdict.{Verdict}
 use Rattle.mdp_claims.specs.declared.verdict.Verdict.TheVariants as verdict
-use Rattle.mdp_discount_rules.specs.Cert.{Certificate}
-use Rattle.mdp_discount_rules.specs.Check.{init_check, answer_of, then_verdict, checks_of, at_reward, answer_to, IsAccepted}
-use Rattle.mdp_discount_rules.specs.Laws.{YesIsAccepted, AcceptedIsBound}
-use Rattle.mdp_discount_rules.specs.declared.answer.DiscountAnswer.TheVariants.{Yes, Size}
-use Rattle.mdp_discount_rules.proofs.Discount.{discount_of_rules}
-use Rattle.mdp_discount_rules.proofs.DiscountRules.{discount_rules}
+use Rattle.mdp_discount_rules.specs.{Cert.{Certificate}, Check.{init_check, answer_of, then_verdict, checks_of, at_reward, answer_to, IsAccepted}}
+use Rattle.mdp_discount_rules.specs.{Laws.{YesIsAccepted, AcceptedIsBound}, declared.answer.DiscountAnswer.TheVariants.{Yes, Size}}
+use Rattle.mdp_discount_rules.proofs.{Discount.{discount_of_rules}, DiscountRules.{discount_rules}}
 
 pub place_below : (names : List (List ℕ)) (name : List ℕ) (r : ℕ) → place_of name names ≡ Some r → r < length names
 place_below names name r e = (position-Some (bytes_eq name) names r [] e).0

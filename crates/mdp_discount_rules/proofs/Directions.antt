@@ -1,14 +1,9 @@
 -- The laws of "no better", for the greatest and for the least alike.
 use Rattle.std.proofs.Common.{◌≡◌, ℕ, List, [], ◌∷◌, refl, sym}
-use Rattle.mdp_math.specs.Rational.{ℚ, ◌+ℚ◌, ◌*ℚ◌, ◌≤ℚ◌, ◌<ℚ◌}
-use Rattle.mdp_math.specs.Sum.{sum_at, EachAt}
-use Rattle.mdp_math.proofs.Ring.{◌⊕◌, ◌⊗◌}
-use Rattle.mdp_math.proofs.Linear.{linear, known, at_most}
-use Rattle.mdp_math.proofs.Order.{0ℚ, ≤ℚ_trans, ≤ℚ_of_eq, ≤ℚ_antisymm, mul-le-mul_left_ℚ}
+use Rattle.mdp_math.specs.{Rational.{ℚ, ◌+ℚ◌, ◌*ℚ◌, ◌≤ℚ◌, ◌<ℚ◌}, Sum.{sum_at, EachAt}}
+use Rattle.mdp_math.proofs.{Ring.{◌⊕◌, ◌⊗◌}, Linear.{linear, known, at_most}, Order.{0ℚ, ≤ℚ_trans, ≤ℚ_of_eq, ≤ℚ_antisymm, mul-le-mul_left_ℚ}}
 use Rattle.mdp_math.proofs.SumsAt.{sum_at-le, sum_at-weighted_le, sum_at-weighted_ge}
-use Rattle.mdp_rows.specs.declared.dir.Dir.{Dir}
-use Rattle.mdp_rows.specs.Better.{IsAsGood}
-use Rattle.mdp_rows.specs.declared.dir.Dir.TheVariants.{Max, Min}
+use Rattle.mdp_rows.specs.{declared.dir.Dir.{Dir}, Better.{IsAsGood}, declared.dir.Dir.TheVariants.{Max, Min}}
 
 -- x is no better than y: at most y for the greatest, at least y for the least
 abbrev pub NoBetter : Dir → ℚ → ℚ → Type 0

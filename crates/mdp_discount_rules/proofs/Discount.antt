@@ -1,30 +1,16 @@
 -- The rules of discounted reward bound what trees earn, and fix the values.
 use Rattle.std.proofs.Common.{◌≡◌, ℕ, suc, ◌<◌, ◌≤◌, ⊎_elim, false, true≢false, List, [], ◌∷◌, length, map, refl, sym, ◌∙◌, ap, subst, arith, pos}
 use Rattle.std.specs.List.{All}
-use Rattle.mdp_math.specs.Rational.{ℚ, ◌+ℚ◌, ◌*ℚ◌, neg_ℚ, inv_ℚ, ◌≤ℚ◌, ◌<ℚ◌}
-use Rattle.mdp_math.specs.Power.{pow_ℚ}
-use Rattle.mdp_math.specs.Extremes.{greatest}
-use Rattle.mdp_math.proofs.Ring.{◌⊕◌, ◌⊗◌, ⊖, lit, ring}
-use Rattle.mdp_math.proofs.Laws.{rat_ring}
-use Rattle.mdp_math.proofs.Linear.{linear, equal, at_most, known}
-use Rattle.mdp_math.proofs.Order.{0ℚ, 1ℚ, ≤ℚ_or_gt, ≤ℚ_of_lt, ≤ℚ_trans, mul-pos_ℚ}
-use Rattle.mdp_math.proofs.Division.{le_of_bounds, inv-pos, mul-inv_pos}
-use Rattle.mdp_math.proofs.Powers.{pow_ℚ-below}
-use Rattle.mdp_math.proofs.Extremes.{greatest-ge, greatest_map-ge}
-use Rattle.mdp_math.proofs.Kernel.{weigh-add, weigh-const}
-use Rattle.mdp_spec.specs.Mdp.{Entry, Mdp, states_of, choices_at, choice_at, row_at, value_at}
-use Rattle.mdp_spec.specs.Row.{IsRow, IsMdp}
-use Rattle.mdp_spec.specs.Unit.{reward_of}
+use Rattle.mdp_math.specs.{Rational.{ℚ, ◌+ℚ◌, ◌*ℚ◌, neg_ℚ, inv_ℚ, ◌≤ℚ◌, ◌<ℚ◌}, Power.{pow_ℚ}, Extremes.{greatest}}
+use Rattle.mdp_math.proofs.{Ring.{◌⊕◌, ◌⊗◌, ⊖, lit, ring}, Laws.{rat_ring}, Linear.{linear, equal, at_most, known}}
+use Rattle.mdp_math.proofs.{Order.{0ℚ, 1ℚ, ≤ℚ_or_gt, ≤ℚ_of_lt, ≤ℚ_trans, mul-pos_ℚ}, Division.{le_of_bounds, inv-pos, mul-inv_pos}, Powers.{pow_ℚ-below}}
+use Rattle.mdp_math.proofs.{Extremes.{greatest-ge, greatest_map-ge}, Kernel.{weigh-add, weigh-const}}
+use Rattle.mdp_spec.specs.{Mdp.{Entry, Mdp, states_of, choices_at, choice_at, row_at, value_at}, Row.{IsRow, IsMdp}, Unit.{reward_of}}
 use Rattle.mdp_spec.specs.Tree.{Tree, IsPolicy, unfolded}
-use Rattle.mdp_spec.proofs.Keeping.{Keeps, HasChoice, Follows, keeps_of_Fits, keeps_unfolded, unfolded_is_strategy}
-use Rattle.mdp_spec.proofs.Rows.{row_weigh}
-use Rattle.mdp_rows.specs.declared.dir.Dir.{Dir}
-use Rattle.mdp_rows.specs.declared.dir.Dir.TheVariants.{Max, Min}
-use Rattle.mdp_discount_rules.specs.Disc.{disc}
-use Rattle.mdp_discount_rules.specs.Bounds.{BetterByAtMost, DiscountBound}
-use Rattle.mdp_discount_rules.specs.Rules.{IsFactor, discounted, magnitude, MeetsDiscount}
-use Rattle.mdp_discount_rules.proofs.Directions.{NoBetter, no_better_trans, no_better_of_eq, no_better_add, no_better_antisymm}
-use Rattle.mdp_discount_rules.proofs.Steps.{no_better_among}
+use Rattle.mdp_spec.proofs.{Keeping.{Keeps, HasChoice, Follows, keeps_of_Fits, keeps_unfolded, unfolded_is_strategy}, Rows.{row_weigh}}
+use Rattle.mdp_rows.specs.{declared.dir.Dir.{Dir}, declared.dir.Dir.TheVariants.{Max, Min}}
+use Rattle.mdp_discount_rules.specs.{Disc.{disc}, Bounds.{BetterByAtMost, DiscountBound}, Rules.{IsFactor, discounted, magnitude, MeetsDiscount}}
+use Rattle.mdp_discount_rules.proofs.{Directions.{NoBetter, no_better_trans, no_better_of_eq, no_better_add, no_better_antisymm}, Steps.{no_better_among}}
 use Rattle.mdp_discount_rules.proofs.Discs.{disc-end, disc_goes}
 
 -- ---- what is left, by a direction

@@ -1,37 +1,22 @@
 -- The verdict on discounted rewards is yes exactly where the rules hold in exact numbers and no written term is past width.
 use Rattle.std.proofs.Common.{◌≡◌, ℕ, ◌<◌, lt-ltb, ltb-true, List, [], ◌∷◌, length, map, slice_index, true, Some, ◌↔◌, sym, ap, ◌∙◌}
-use Rattle.std.specs.Option.{IsSome, option_and_then}
 use Rattle.std.proofs.lemmas.List.Elements.{All-from_recursion, recursion_from_All}
-use Rattle.mdp_math.specs.Rational.{ℚ, ◌+ℚ◌, ◌*ℚ◌}
-use Rattle.mdp_math.specs.Extremes.{greatest}
-use Rattle.mdp_math.specs.Written.{written_mul, written_add}
-use Rattle.mdp_math.proofs.Laws.{zero-+ℚ}
-use Rattle.mdp_math.proofs.Options.{Some_same, step_told}
-use Rattle.mdp_math.proofs.Written.{written_add-some, written_mul-some}
-use Rattle.mdp_spec.specs.Mdp.{Mdp, states_of, choices_at, choice_at, row_at, value_at}
-use Rattle.mdp_spec.specs.Row.{IsMdp, row_sum}
-use Rattle.mdp_spec.specs.Unit.{reward_of}
-use Rattle.mdp_spec.specs.Written.{written_sum}
-use Rattle.mdp_farkas.specs.Verdict.{Check, verdict_of, InWidth, at_choices, IsYes, IfYes}
-use Rattle.mdp_farkas.specs.Compare.{0ℚ, is_equal}
-use Rattle.mdp_farkas.specs.Bellman.{stands}
-use Rattle.mdp_claims.specs.declared.verdict.Fault.{Fault}
-use Rattle.mdp_claims.specs.declared.verdict.Verdict.{Verdict}
-use Rattle.mdp_claims.specs.declared.verdict.Verdict.TheVariants.{No}
+use Rattle.std.specs.Option.{IsSome, option_and_then}
+use Rattle.mdp_math.specs.{Rational.{ℚ, ◌+ℚ◌, ◌*ℚ◌}, Extremes.{greatest}, Written.{written_mul, written_add}}
+use Rattle.mdp_math.proofs.{Laws.{zero-+ℚ}, Options.{Some_same, step_told}, Written.{written_add-some, written_mul-some}}
+use Rattle.mdp_spec.specs.{Mdp.{Mdp, states_of, choices_at, choice_at, row_at, value_at}, Row.{IsMdp, row_sum}, Unit.{reward_of}, Written.{written_sum}}
+use Rattle.mdp_farkas.specs.{Verdict.{Check, verdict_of, InWidth, at_choices, IsYes, IfYes}, Compare.{0ℚ, is_equal}, Bellman.{stands}}
+use Rattle.mdp_claims.specs.{declared.verdict.Fault.{Fault}, declared.verdict.Verdict.{Verdict}, declared.verdict.Verdict.TheVariants.{No}}
 use Rattle.mdp_farkas.proofs.Holds.{Each, Holds, Sound, each_of_yes, yes_of_each, told_of_each, if_yes, holds_of_sound, never_no}
 use Rattle.mdp_farkas.proofs.Holds.{each_append, each_left, each_right, each_flat, each_flat_at, each_map, each_map_at}
 use Rattle.mdp_farkas.proofs.Comparing.{le_of_at_least, at_least_of_le, le_of_at_most, at_most_of_le, same_of_equal, equal_of_same}
 use Rattle.mdp_farkas.proofs.Asking.{asked_holds, asked_sound}
 use Rattle.mdp_spec.proofs.Summed.{written_sum-some}
-use Rattle.mdp_rows.specs.declared.dir.Dir.{Dir}
-use Rattle.mdp_rows.specs.declared.dir.Dir.TheVariants.{Max, Min}
-use Rattle.mdp_rows.specs.Better.{IsAsGood}
-use Rattle.mdp_discount_rules.specs.Rules.{IsFactor, discounted, magnitude, MeetsDiscount}
-use Rattle.mdp_discount_rules.specs.Bounds.{DiscountBound}
+use Rattle.mdp_rows.specs.{declared.dir.Dir.{Dir}, declared.dir.Dir.TheVariants.{Max, Min}, Better.{IsAsGood}}
+use Rattle.mdp_discount_rules.specs.{Rules.{IsFactor, discounted, magnitude, MeetsDiscount}, Bounds.{DiscountBound}}
 use Rattle.mdp_discount_rules.specs.Checks.{written_discounted, covers_check, reached_check, checks_at, written_greatest, remainder_check}
 use Rattle.mdp_discount_rules.specs.Checks.{state_checks, discount_checks, IsDiscount}
-use Rattle.mdp_discount_rules.proofs.Greatest.{written_greatest-some}
-use Rattle.mdp_discount_rules.proofs.Discount.{discount_of_rules}
+use Rattle.mdp_discount_rules.proofs.{Greatest.{written_greatest-some}, Discount.{discount_of_rules}}
 
 -- ---- what each rule says of the numbers
 

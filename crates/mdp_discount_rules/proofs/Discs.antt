@@ -1,24 +1,15 @@
 -- What a tree earns with a discount, by its first step: nothing where the tree ends, and at a node the average over the choices, by the weights,
 -- of the choice's reward and f times the sum over the row of probability times what the entry's tree earns.
-use Rattle.std.proofs.Common.{◌≡◌, ℕ, suc, ◌*◌, ◌<◌, ◌≤◌, false, List, refl, sym, ◌∙◌, ap, ℤ, pos, ◌*ℤ◌, mul-one}
+use Rattle.std.proofs.{Common.{◌≡◌, ℕ, suc, ◌*◌, ◌<◌, ◌≤◌, false, List, refl, sym, ◌∙◌, ap, ℤ, pos, ◌*ℤ◌, mul-one}, Math.Nat.{pow-suc, one-le-mul}}
 use Rattle.std.specs.Int.{◌∣◌}
-use Rattle.std.proofs.Math.Nat.{pow-suc, one-le-mul}
-use Rattle.mdp_math.specs.Rational.{ℚ, of_int, ratio, ◌+ℚ◌, ◌*ℚ◌, ◌≤ℚ◌}
-use Rattle.mdp_math.specs.Sum.{sum_at, EachAt}
-use Rattle.mdp_math.proofs.Ring.{◌⊕◌, ◌⊗◌, lit, ring}
-use Rattle.mdp_math.proofs.IntegerRing.{int_ring}
-use Rattle.mdp_math.proofs.Laws.{rat_ring, den-pos, is_self, is_of_int, is_mul, same_is, of_int-+ℤ, of_int-*ℤ}
-use Rattle.mdp_math.proofs.Order.{0ℚ, div-of_int}
-use Rattle.mdp_math.proofs.Whole.{of_nat-mul}
+use Rattle.mdp_math.specs.{Rational.{ℚ, of_int, ratio, ◌+ℚ◌, ◌*ℚ◌, ◌≤ℚ◌}, Sum.{sum_at, EachAt}}
+use Rattle.mdp_math.proofs.{Ring.{◌⊕◌, ◌⊗◌, lit, ring}, IntegerRing.{int_ring}}
+use Rattle.mdp_math.proofs.{Laws.{rat_ring, den-pos, is_self, is_of_int, is_mul, same_is, of_int-+ℤ, of_int-*ℤ}, Order.{0ℚ, div-of_int}, Whole.{of_nat-mul}}
 use Rattle.mdp_math.proofs.SumsAt.{sum_at-same, sum_at-scale_right, EachAt_mono, EachAt_both}
-use Rattle.mdp_spec.specs.Mdp.{Entry, Choice, Mdp, states_of, choices_at}
-use Rattle.mdp_spec.specs.Row.{IsRow, IsMdp}
-use Rattle.mdp_spec.specs.Unit.{unit_of, weight_of, reward_of, scale_of, whole_reward, total_at}
-use Rattle.mdp_spec.specs.Tree.{Tree}
-use Rattle.mdp_spec.proofs.Units.{unit_of-pos, den-divides_unit, of_nat-weight_of}
-use Rattle.mdp_spec.proofs.Rows.{rows_known, nonneg_at}
-use Rattle.mdp_spec.proofs.Hits.{share, pow_by-pos, ratio-is, ratio-none}
-use Rattle.mdp_spec.proofs.Earnings.{scale_of-pos, den-divides_scale, of_int-whole_reward, of_int-total_at}
+use Rattle.mdp_spec.specs.{Mdp.{Entry, Choice, Mdp, states_of, choices_at}, Row.{IsRow, IsMdp}}
+use Rattle.mdp_spec.specs.{Unit.{unit_of, weight_of, reward_of, scale_of, whole_reward, total_at}, Tree.{Tree}}
+use Rattle.mdp_spec.proofs.{Units.{unit_of-pos, den-divides_unit, of_nat-weight_of}, Rows.{rows_known, nonneg_at}}
+use Rattle.mdp_spec.proofs.{Hits.{share, pow_by-pos, ratio-is, ratio-none}, Earnings.{scale_of-pos, den-divides_scale, of_int-whole_reward, of_int-total_at}}
 use Rattle.mdp_discount_rules.specs.Disc.{discounted_paths, earned_parts, discs, disc}
 use Rattle.mdp_discount_rules.proofs.Steps.{average, GoesBy}
 

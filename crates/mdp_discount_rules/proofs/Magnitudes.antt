@@ -1,13 +1,8 @@
 -- The magnitude of a number, by its sign.
-use Rattle.std.proofs.Common.{◌≡◌, [], ◌∷◌, refl, pos, arith}
-use Rattle.std.proofs.lemmas.List.Elements.{All-nil, All-cons}
+use Rattle.std.proofs.{Common.{◌≡◌, [], ◌∷◌, refl, pos, arith}, lemmas.List.Elements.{All-nil, All-cons}}
 use Rattle.std.specs.List.{All}
-use Rattle.mdp_math.specs.Rational.{ℚ, neg_ℚ, ◌≤ℚ◌, ◌<ℚ◌}
-use Rattle.mdp_math.specs.Extremes.{greatest}
-use Rattle.mdp_math.proofs.Ring.{⊖, lit}
-use Rattle.mdp_math.proofs.Linear.{linear, known}
-use Rattle.mdp_math.proofs.Order.{0ℚ, ≤ℚ_refl, ≤ℚ_antisymm, ≤ℚ_of_lt}
-use Rattle.mdp_math.proofs.Extremes.{greatest-ge, greatest-le}
+use Rattle.mdp_math.specs.{Rational.{ℚ, neg_ℚ, ◌≤ℚ◌, ◌<ℚ◌}, Extremes.{greatest}}
+use Rattle.mdp_math.proofs.{Ring.{⊖, lit}, Linear.{linear, known}, Order.{0ℚ, ≤ℚ_refl, ≤ℚ_antisymm, ≤ℚ_of_lt}, Extremes.{greatest-ge, greatest-le}}
 use Rattle.mdp_discount_rules.specs.Rules.{magnitude}
 
 both : (x y w : ℚ) → x ≤ℚ w → y ≤ℚ w → All (λ z. z ≤ℚ w) (x ∷ y ∷ [])

@@ -1,6 +1,5 @@
 -- There is one list of values at most that meets the rules.
-use Rattle.std.proofs.Common.{ℕ, ◌<◌, sym, ◌∙◌, subst}
-use Rattle.std.proofs.lemmas.List.{ext_get_or}
+use Rattle.std.proofs.{Common.{ℕ, ◌<◌, sym, ◌∙◌, subst}, lemmas.List.{ext_get_or}}
 use Rattle.mdp_math.proofs.Order.{0ℚ}
 use Rattle.mdp_discount_rules.specs.Laws.{HasOneValue}
 use Rattle.mdp_discount_rules.proofs.Discount.{discount_unique}

@@ -1,21 +1,12 @@
 -- Numbers of a tree that go by its first step: at a node they average, by the weights, what each choice gains at once and a part k of what
 -- its row weighs of the numbers behind it. Such a number is no better than B, where B meets Bellman's inequality along the choices in use.
-use Rattle.std.proofs.Common.{◌≡◌, ℕ, zero, suc, ◌<◌, ◌≤◌, ⊎_elim, Bool, true, false, List, length, sym, ◌∙◌, ap, subst}
+use Rattle.std.proofs.{Common.{◌≡◌, ℕ, zero, suc, ◌<◌, ◌≤◌, ⊎_elim, Bool, true, false, List, length, sym, ◌∙◌, ap, subst}, lemmas.Bool.{cases_Bool}}
 use Rattle.std.specs.List.{All}
-use Rattle.std.proofs.lemmas.Bool.{cases_Bool}
-use Rattle.mdp_math.specs.Rational.{ℚ, ◌+ℚ◌, ◌*ℚ◌, ◌≤ℚ◌, ◌<ℚ◌}
-use Rattle.mdp_math.specs.Sum.{sum_at, EachAt}
-use Rattle.mdp_math.proofs.Laws.{one-*ℚ}
-use Rattle.mdp_math.proofs.Order.{0ℚ}
-use Rattle.mdp_math.proofs.SumsAt.{sum_at-sum_of, EachAt_all, EachAt_mono, EachAt_both, EachAt-from_All}
-use Rattle.mdp_spec.specs.Mdp.{Entry, Choice, Mdp, states_of, choices_at, choice_at, row_at}
-use Rattle.mdp_spec.specs.Row.{IsRow, IsMdp}
-use Rattle.mdp_spec.specs.Unit.{count_at}
-use Rattle.mdp_spec.specs.Tree.{Tree}
+use Rattle.mdp_math.specs.{Rational.{ℚ, ◌+ℚ◌, ◌*ℚ◌, ◌≤ℚ◌, ◌<ℚ◌}, Sum.{sum_at, EachAt}}
+use Rattle.mdp_math.proofs.{Laws.{one-*ℚ}, Order.{0ℚ}, SumsAt.{sum_at-sum_of, EachAt_all, EachAt_mono, EachAt_both, EachAt-from_All}}
+use Rattle.mdp_spec.specs.{Mdp.{Entry, Choice, Mdp, states_of, choices_at, choice_at, row_at}, Row.{IsRow, IsMdp}, Unit.{count_at}, Tree.{Tree}}
 use Rattle.mdp_spec.specs.Tree.Tree.{leaf, node}
-use Rattle.mdp_spec.proofs.Rows.{rows_known, targets_at, nonneg_at, row_weigh}
-use Rattle.mdp_spec.proofs.Hits.{share}
-use Rattle.mdp_spec.proofs.Steps.{placed_choice}
+use Rattle.mdp_spec.proofs.{Rows.{rows_known, targets_at, nonneg_at, row_weigh}, Hits.{share}, Steps.{placed_choice}}
 use Rattle.mdp_spec.proofs.Keeping.{Keeps, share-nonneg, share-pos, shares-total}
 use Rattle.mdp_rows.specs.declared.dir.Dir.{Dir}
 use Rattle.mdp_discount_rules.proofs.Directions.{NoBetter, no_better_trans, no_better_after, no_better_sum, no_better_product, no_better_weighted}

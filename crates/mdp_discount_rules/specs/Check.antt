@@ -1,17 +1,12 @@
 -- What holding a certificate of the discounted reward against a model answers, and what a yes means.
 use Rattle.std.specs.Prelude.{◌≡◌, ℕ, List, length, Option, Some, None, ◌==◌, if◌then◌else◌}
 use Rattle.mdp_math.specs.Rational.{ℚ}
-use Rattle.mdp_spec.specs.Mdp.{Mdp, states_of}
-use Rattle.mdp_spec.specs.Labels.{place_of, initial_of}
-use Rattle.mdp_text.specs.declared.init.Init.{Init}
-use Rattle.mdp_text.specs.declared.init.Init.TheVariants.{Missing, Finite, Infinite, Start}
-use Rattle.mdp_farkas.specs.Initial.{init_fault, is_value, state_check}
-use Rattle.mdp_farkas.specs.Verdict.{verdict_of}
+use Rattle.mdp_spec.specs.{Mdp.{Mdp, states_of}, Labels.{place_of, initial_of}}
+use Rattle.mdp_text.specs.{declared.init.Init.{Init}, declared.init.Init.TheVariants.{Missing, Finite, Infinite, Start}}
+use Rattle.mdp_farkas.specs.{Initial.{init_fault, is_value, state_check}, Verdict.{verdict_of}}
 use Rattle.mdp_claims.specs.declared.verdict.Verdict.{Verdict}
 use Rattle.mdp_claims.specs.declared.verdict.Verdict.TheVariants as verdict
-use Rattle.mdp_discount_rules.specs.Bounds.{DiscountBound}
-use Rattle.mdp_discount_rules.specs.Checks.{discount_checks, IsDiscount}
-use Rattle.mdp_discount_rules.specs.Cert.{Certificate}
+use Rattle.mdp_discount_rules.specs.{Bounds.{DiscountBound}, Checks.{discount_checks, IsDiscount}, Cert.{Certificate}}
 use Rattle.mdp_discount_rules.specs.declared.answer.DiscountAnswer.{DiscountAnswer}
 use Rattle.mdp_discount_rules.specs.declared.answer.DiscountAnswer.TheVariants.{Yes, No, Wide, NoReward, Size}
 

@@ -4,20 +4,12 @@
 --     rule 27  the value is what the policy's choice earns
 -- and at the end, at no state:
 --     rule 28  the remainder is the greatest magnitude of the values
-use Rattle.std.specs.Prelude.{ℕ, List, [], ◌∷◌, ◌++◌, map, slice_index, Option, None}
-use Rattle.std.specs.List.{All, flat_map, range_with_len}
-use Rattle.mdp_math.specs.Rational.{ℚ}
-use Rattle.mdp_math.specs.Written.{written_add, written_mul, ◌>>=◌}
-use Rattle.mdp_spec.specs.Mdp.{Mdp, states_of, choice_at, row_at, value_at}
-use Rattle.mdp_spec.specs.Unit.{reward_of}
-use Rattle.mdp_spec.specs.Written.{written_sum}
-use Rattle.mdp_farkas.specs.Compare.{0ℚ, is_equal}
-use Rattle.mdp_farkas.specs.Verdict.{Check, InWidth, at_choice, at_choices}
-use Rattle.mdp_farkas.specs.Bellman.{stands}
-use Rattle.mdp_farkas.specs.Reach.{choice_exists}
+use Rattle.std.specs.{Prelude.{ℕ, List, [], ◌∷◌, ◌++◌, map, slice_index, Option, None}, List.{All, flat_map, range_with_len}}
+use Rattle.mdp_math.specs.{Rational.{ℚ}, Written.{written_add, written_mul, ◌>>=◌}}
+use Rattle.mdp_spec.specs.{Mdp.{Mdp, states_of, choice_at, row_at, value_at}, Unit.{reward_of}, Written.{written_sum}}
+use Rattle.mdp_farkas.specs.{Compare.{0ℚ, is_equal}, Verdict.{Check, InWidth, at_choice, at_choices}, Bellman.{stands}, Reach.{choice_exists}}
 use Rattle.mdp_farkas.specs.Spread.{written_extreme}
-use Rattle.mdp_rows.specs.declared.dir.Dir.{Dir}
-use Rattle.mdp_rows.specs.declared.dir.Dir.TheVariants.{Max}
+use Rattle.mdp_rows.specs.{declared.dir.Dir.{Dir}, declared.dir.Dir.TheVariants.{Max}}
 use Rattle.mdp_discount_rules.specs.Rules.{magnitude, MeetsDiscount}
 use Rattle.mdp_claims.specs.declared.rule.Rule.TheVariants.{DiscountedOnEachChoice, DiscountedOnPolicy, RemainderIsGreatest}
 

@@ -2,9 +2,7 @@
 -- much. It is computed in whole numbers, as parts of one scale.
 use Rattle.std.specs.Prelude.{ℕ, zero, suc, ◌*◌, ◌^◌, ℤ, pos, ◌+ℤ◌, ◌*ℤ◌}
 use Rattle.mdp_math.specs.Rational.{ℚ, ratio}
-use Rattle.mdp_spec.specs.Mdp.{Entry, Choice, Mdp, choices_at}
-use Rattle.mdp_spec.specs.Unit.{total_at, unit_of, weight_of, scale_of, whole_reward}
-use Rattle.mdp_spec.specs.Tree.{Tree}
+use Rattle.mdp_spec.specs.{Mdp.{Entry, Choice, Mdp, choices_at}, Unit.{total_at, unit_of, weight_of, scale_of, whole_reward}, Tree.{Tree}}
 use Rattle.mdp_spec.specs.Tree.Tree.{leaf, node}
 
 -- all paths of n steps, in parts of which f is a whole number in each step

@@ -1,18 +1,12 @@
 -- What holds of the rules of discounted rewards and of their certificates.
 use Rattle.std.specs.Prelude.{◌≡◌, ◌↔◌, ℕ, List, length}
 use Rattle.mdp_math.specs.Rational.{ℚ}
-use Rattle.mdp_spec.specs.Mdp.{Mdp}
-use Rattle.mdp_spec.specs.Row.{IsMdp}
+use Rattle.mdp_spec.specs.{Mdp.{Mdp}, Row.{IsMdp}}
 use Rattle.mdp_rows.specs.declared.dir.Dir.{Dir}
 use Rattle.mdp_farkas.specs.Verdict.{verdict_of}
-use Rattle.mdp_claims.specs.declared.verdict.Fault.{Fault}
-use Rattle.mdp_claims.specs.declared.verdict.Verdict.TheVariants.{No}
-use Rattle.mdp_discount_rules.specs.Checks.{discount_checks}
-use Rattle.mdp_discount_rules.specs.Rules.{IsFactor, MeetsDiscount}
-use Rattle.mdp_discount_rules.specs.Bounds.{DiscountBound}
-use Rattle.mdp_discount_rules.specs.Cert.{Certificate}
-use Rattle.mdp_discount_rules.specs.Check.{answer_to, IsAccepted, IsBound}
-use Rattle.mdp_discount_rules.specs.declared.answer.DiscountAnswer.TheVariants.{Yes}
+use Rattle.mdp_claims.specs.{declared.verdict.Fault.{Fault}, declared.verdict.Verdict.TheVariants.{No}}
+use Rattle.mdp_discount_rules.specs.{Checks.{discount_checks}, Rules.{IsFactor, MeetsDiscount}, Bounds.{DiscountBound}, Cert.{Certificate}}
+use Rattle.mdp_discount_rules.specs.{Check.{answer_to, IsAccepted, IsBound}, declared.answer.DiscountAnswer.TheVariants.{Yes}}
 
 -- ---- values
 

@@ -1,7 +1,6 @@
 ghost use Rattle.std.specs.Prelude.{◌≡◌, ◌<◌, ◌≤◌, ◌^◌, length, IsTrue};
 ghost use Rattle.mdp_rows.specs.Name.{is_name};
-ghost use Rattle.mdp_discount_rules.specs.Rules.{IsFactor};
-ghost use Rattle.mdp_discount_rules.specs.Cert.{is_init};
+ghost use Rattle.mdp_discount_rules.specs.{Rules.{IsFactor}, Cert.{is_init}};
 
 use mdp_num::Frac;
 use mdp_rows::Dir;

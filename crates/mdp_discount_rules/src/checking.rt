@@ -1,7 +1,6 @@
 ghost use Rattle.std.specs.Prelude.{◌≡◌, ◌↔◌};
 ghost use Rattle.mdp_spec.specs.Labels.{initial_of};
-ghost use Rattle.mdp_discount_rules.specs.Plain.{plain};
-ghost use Rattle.mdp_discount_rules.specs.Check.{init_check, answer_to, IsAccepted, IsBound};
+ghost use Rattle.mdp_discount_rules.specs.{Plain.{plain}, Check.{init_check, answer_to, IsAccepted, IsBound}};
 
 use crate::answer::{DiscountAnswer, answer_of};
 use crate::cert::DiscountCert;

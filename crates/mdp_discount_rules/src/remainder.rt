@@ -1,9 +1,7 @@
-ghost use Rattle.std.specs.Prelude.{◌≡◌, map};
-ghost use Rattle.std.specs.Result.{result_ok};
+ghost use Rattle.std.specs.{Prelude.{◌≡◌, map}, Result.{result_ok}};
 ghost use Rattle.mdp_farkas.specs.Spread.{written_best};
 ghost use Rattle.mdp_rows.specs.declared.dir.Dir.TheVariants.{Max};
-ghost use Rattle.mdp_discount_rules.specs.Rules.{magnitude};
-ghost use Rattle.mdp_discount_rules.specs.Checks.{written_greatest};
+ghost use Rattle.mdp_discount_rules.specs.{Rules.{magnitude}, Checks.{written_greatest}};
 
 use mdp_num::{Frac, Wide};
 use std::cmp::Ordering;

@@ -1,22 +1,15 @@
 -- The line of the claim is read exactly where it is the text of what is read.
 use Rattle.std.proofs.Common.{◌≡◌, ◌⊎◌, inl, inr, ℕ, Bool, true, false, cond, List, [], ◌∷◌, ◌++◌, Option, Some, None, Ok, refl, sym, ap}
 use Rattle.std.proofs.Common.{subst, ◌∙◌, append_assoc, arith}
-use Rattle.std.specs.Prelude.{codes}
-use Rattle.std.specs.Option.{option_and_then, option_map, option_or}
+use Rattle.std.specs.{Prelude.{codes}, Option.{option_and_then, option_map, option_or}}
 use Rattle.mdp_math.specs.Rational.{ℚ}
-use Rattle.mdp_num.specs.Canonical.{canonical_of}
-use Rattle.mdp_num.specs.Value.{spelling, IsNarrow}
-use Rattle.mdp_rows.specs.Name.{is_name}
-use Rattle.mdp_rows.specs.declared.dir.Dir.{Dir}
-use Rattle.mdp_rows.specs.declared.dir.Dir.TheVariants.{Max, Min}
+use Rattle.mdp_num.specs.{Canonical.{canonical_of}, Value.{spelling, IsNarrow}}
+use Rattle.mdp_rows.specs.{Name.{is_name}, declared.dir.Dir.{Dir}, declared.dir.Dir.TheVariants.{Max, Min}}
 use Rattle.mdp_text.specs.declared.error.CertKind.TheVariants as kind
-use Rattle.mdp_text.specs.Lines.{or_refused}
-use Rattle.mdp_text.specs.Words.{frac_at, behind, name_and_rest}
-use Rattle.mdp_text.proofs.Pieces.{Free, free-append, free-name, free-spelling}
-use Rattle.mdp_text.proofs.Feeds.{found_ok, or-found, frac-found, frac-again}
+use Rattle.mdp_text.specs.{Lines.{or_refused}, Words.{frac_at, behind, name_and_rest}}
+use Rattle.mdp_text.proofs.{Pieces.{Free, free-append, free-name, free-spelling}, Feeds.{found_ok, or-found, frac-found, frac-again}}
 use Rattle.mdp_text.proofs.Behind.{behind-found, behind-again, rest-found, rest-again}
-use Rattle.mdp_discount_text.specs.Spelling.{claim_text}
-use Rattle.mdp_discount_text.specs.Text.{Claim, is_factor, factor_of, claim_with, claim_front, claim_to, claim_of, claim_at}
+use Rattle.mdp_discount_text.specs.{Spelling.{claim_text}, Text.{Claim, is_factor, factor_of, claim_with, claim_front, claim_to, claim_of, claim_at}}
 
 -- ---- a factor
 

@@ -1,15 +1,12 @@
 -- Texts of certificates, computed: what is written, and what is read or refused.
 use Rattle.std.proofs.Common.{◌≡◌, [], ◌∷◌, refl, pos, true, false}
-use Rattle.std.specs.Prelude.{codes}
-use Rattle.std.specs.Fmt.{digits}
+use Rattle.std.specs.{Prelude.{codes}, Fmt.{digits}}
 use Rattle.mdp_num.specs.Value.{spelling}
-use Rattle.mdp_math.specs.Gcd.{gcd, gcd_with_fuel}
-use Rattle.mdp_math.specs.Rational.{of_int, ratio, neg_ℚ, le_ℚ, lt_ℚ}
+use Rattle.mdp_math.specs.{Gcd.{gcd, gcd_with_fuel}, Rational.{of_int, ratio, neg_ℚ, le_ℚ, lt_ℚ}}
 use Rattle.mdp_rows.specs.declared.dir.Dir.TheVariants.{Max}
 use Rattle.mdp_text.specs.declared.init.Init.TheVariants.{Finite}
 use Rattle.mdp_discount_rules.specs.Cert.{Certificate}
-use Rattle.mdp_discount_text.specs.Spelling.{text_of}
-use Rattle.mdp_discount_text.specs.Text.{is_factor}
+use Rattle.mdp_discount_text.specs.{Spelling.{text_of}, Text.{is_factor}}
 
 -- to wait at 0 for 1 in each step, or to move to 1, which earns 3 in each step, by factor 1/2
 abbrev wait : Certificate

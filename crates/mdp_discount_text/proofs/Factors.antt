@@ -1,12 +1,8 @@
 -- A discount factor by its numerator and denominator.
-use Rattle.std.proofs.Common.{◌≡◌, Bool, true, false, ◌&&◌, ⊎_elim, refl, sym, ◌∙◌, ap, ap₂, subst, pos, ℤ, ◌*ℤ◌}
+use Rattle.std.proofs.{Common.{◌≡◌, Bool, true, false, ◌&&◌, ⊎_elim, refl, sym, ◌∙◌, ap, ap₂, subst, pos, ℤ, ◌*ℤ◌}, lemmas.Bool.{cases_Bool}}
 use Rattle.std.specs.Prelude.{◌<ℤ◌, ◌≤ℤ◌}
-use Rattle.std.proofs.lemmas.Bool.{cases_Bool}
 use Rattle.mdp_math.specs.Rational.{ℚ, of_int, le_ℚ, lt_ℚ, ◌≤ℚ◌, ◌<ℚ◌}
-use Rattle.mdp_math.proofs.Ring.{◌⊗◌, lit, ring}
-use Rattle.mdp_math.proofs.IntegerRing.{int_ring}
-use Rattle.mdp_math.proofs.Booleans.{and-parts, and-false}
-use Rattle.mdp_math.proofs.Order.{0ℚ, 1ℚ, across_le, across_lt, clash_ℚ}
+use Rattle.mdp_math.proofs.{Ring.{◌⊗◌, lit, ring}, IntegerRing.{int_ring}, Booleans.{and-parts, and-false}, Order.{0ℚ, 1ℚ, across_le, across_lt, clash_ℚ}}
 use Rattle.mdp_math.proofs.Extremes.{le_of_test, test_of_le, lt_of_test, test_of_lt, no_test_of_le}
 use Rattle.mdp_discount_rules.specs.Rules.{IsFactor}
 use Rattle.mdp_discount_text.specs.Text.{is_factor}

@@ -4,19 +4,12 @@ use Rattle.std.specs.Prelude.{codes}
 use Rattle.mdp_math.specs.Rational.{ℚ}
 use Rattle.mdp_num.specs.Value.{IsNarrow}
 use Rattle.mdp_rows.specs.Name.{is_name}
-use Rattle.mdp_text.specs.declared.error.Refusal.{Refusal}
-use Rattle.mdp_text.specs.Heads.{Head, head_by}
-use Rattle.mdp_text.specs.Lines.{◌>>=◌, Place, place, line_by}
-use Rattle.mdp_text.specs.Spelling.{line, states_text}
-use Rattle.mdp_text.proofs.Pieces.{Free}
-use Rattle.mdp_text.proofs.Feeds.{bind_ok, ok-is, judged-found, judged-again}
-use Rattle.mdp_text.proofs.States.{fraction-found, fraction-again, free-fraction}
+use Rattle.mdp_text.specs.{declared.error.Refusal.{Refusal}, Heads.{Head, head_by}, Lines.{◌>>=◌, Place, place, line_by}, Spelling.{line, states_text}}
+use Rattle.mdp_text.proofs.{Pieces.{Free}, Feeds.{bind_ok, ok-is, judged-found, judged-again}, States.{fraction-found, fraction-again, free-fraction}}
 use Rattle.mdp_text.proofs.HeadLines as heads
 use Rattle.mdp_discount_rules.specs.Rules.{IsFactor}
-use Rattle.mdp_discount_text.specs.Spelling.{claim_text, remainder_text}
-use Rattle.mdp_discount_text.specs.Text.{Claim, is_factor, claim_at, remainder_at, DiscountHead, head_with}
-use Rattle.mdp_discount_text.proofs.Factors.{factor-is, factor-yes}
-use Rattle.mdp_discount_text.proofs.ClaimLines.{claim-found, claim-again, free-claim}
+use Rattle.mdp_discount_text.specs.{Spelling.{claim_text, remainder_text}, Text.{Claim, is_factor, claim_at, remainder_at, DiscountHead, head_with}}
+use Rattle.mdp_discount_text.proofs.{Factors.{factor-is, factor-yes}, ClaimLines.{claim-found, claim-again, free-claim}}
 
 -- ---- the line of the remainder
 

@@ -4,3 +4,8 @@ pub mod Reading
 pub mod FourLines
 pub mod Outcomes
 mod Examples
+pub mod Columns
+pub mod Entries
+pub mod Heads
+pub mod BoundsOutcomes
+mod BoundsExamples

@@ -1,16 +1,11 @@
 -- The text of a certificate of the discounted reward is read exactly where it is the text of what is read.
 use Rattle.std.proofs.Common.{◌≡◌, ℕ, ◌+◌, ◌≤◌, ◌^◌, true, true≢false, List, [], ◌++◌, length, Result, Ok, refl, sym, ap, ap₂, subst, ◌∙◌, append_assoc, arith}
 use Rattle.std.proofs.lemmas.List.{append-nil}
-use Rattle.mdp_text.specs.declared.error.CertKind.TheVariants.{Version, Shape}
-use Rattle.mdp_text.specs.declared.error.Refusal.{Refusal}
-use Rattle.mdp_text.specs.declared.init.Init.{Init}
-use Rattle.mdp_text.specs.declared.init.Init.TheVariants.{Missing, Finite, Infinite, Start}
-use Rattle.mdp_text.specs.Heads.{IsInitInWidth}
+use Rattle.mdp_text.specs.{declared.error.CertKind.TheVariants.{Version, Shape}, declared.error.Refusal.{Refusal}, declared.init.Init.{Init}}
+use Rattle.mdp_text.specs.{declared.init.Init.TheVariants.{Missing, Finite, Infinite, Start}, Heads.{IsInitInWidth}}
+use Rattle.mdp_text.specs.{Lines.{◌>>=◌, is_line, Place, place, next_line, line_by, nothing_behind}, Spelling.{line, states_text, init_text, end_text}}
 use Rattle.mdp_cert.specs.Cert.{upper, is_init_of}
-use Rattle.mdp_text.specs.Lines.{◌>>=◌, is_line, Place, place, next_line, line_by, nothing_behind}
-use Rattle.mdp_text.specs.Spelling.{line, states_text, init_text, end_text}
-use Rattle.mdp_text.proofs.Feeds.{bind_ok, ok-is, judged-found, judged-again, due-line, due-again, nothing-found}
-use Rattle.mdp_text.proofs.Exact.{FoundText}
+use Rattle.mdp_text.proofs.{Feeds.{bind_ok, ok-is, judged-found, judged-again, due-line, due-again, nothing-found}, Exact.{FoundText}}
 use Rattle.mdp_cert.proofs.Numbered.{init-found, init-again, free-init}
 use Rattle.mdp_discount_rules.specs.Cert.{Certificate, is_init, IsInitNarrow, Fits}
 use Rattle.mdp_discount_text.specs.Spelling.{version_text, remainder_text, state_lines, text_of}

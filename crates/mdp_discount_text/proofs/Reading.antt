@@ -1,26 +1,17 @@
 -- The text of a certificate of the discounted reward is read exactly where it is the text of what is read.
 use Rattle.std.proofs.Common.{◌≡◌, ℕ, zero, suc, ◌+◌, ◌-◌, ◌<◌, ◌≤◌, ◌^◌, not, eqb, List, []}
-use Rattle.std.proofs.Common.{◌∷◌, ◌++◌, length, drop, decimal, Result, Ok, Err, refl, sym, ap, ap₂, subst, ◌∙◌, append_assoc, arith}
-use Rattle.std.specs.Prelude.{codes}
-use Rattle.std.specs.List.{All, join_with_byte}
-use Rattle.std.proofs.lemmas.Bool.{not-false}
-use Rattle.std.proofs.lemmas.List.{append-nil}
-use Rattle.std.proofs.lemmas.List.Elements.{All-nil, All-cons}
+use Rattle.std.proofs.{Common.{◌∷◌, ◌++◌, length, drop, decimal, Result, Ok, Err, refl, sym, ap, ap₂, subst, ◌∙◌, append_assoc, arith}, lemmas.Bool.{not-false}}
+use Rattle.std.proofs.{lemmas.List.{append-nil}, lemmas.List.Elements.{All-nil, All-cons}}
+use Rattle.std.specs.{Prelude.{codes}, List.{All, join_with_byte}}
 use Rattle.mdp_math.specs.Rational.{ℚ}
 use Rattle.mdp_math.proofs.Kernel.{All-head, All-tail}
 use Rattle.mdp_num.specs.Value.{spelling, IsNarrow}
-use Rattle.mdp_text.specs.declared.error.CertKind.TheVariants.{Count}
-use Rattle.mdp_text.specs.declared.error.Refusal.{Refusal}
-use Rattle.mdp_text.specs.Lines.{◌>>=◌, refuse_if, Place, place, next_line, line_by}
-use Rattle.mdp_text.specs.Words.{first_of, words_behind, whole_at, frac_at}
-use Rattle.mdp_text.specs.Spelling.{line, ◌␣◌}
-use Rattle.mdp_text.proofs.Pieces.{Free, free-spelling}
-use Rattle.mdp_text.proofs.Cuts.{number-same, same-number}
+use Rattle.mdp_text.specs.{declared.error.CertKind.TheVariants.{Count}, declared.error.Refusal.{Refusal}}
+use Rattle.mdp_text.specs.{Lines.{◌>>=◌, refuse_if, Place, place, next_line, line_by}, Words.{first_of, words_behind, whole_at, frac_at}, Spelling.{line, ◌␣◌}}
+use Rattle.mdp_text.proofs.{Pieces.{Free, free-spelling}, Cuts.{number-same, same-number}}
 use Rattle.mdp_text.proofs.Feeds.{bind_ok, ok-is, refuse_ok, judged-found, judged-again, whole-found, whole-again, frac-found, frac-again}
-use Rattle.mdp_text.proofs.Joined.{free-join, free-whole, behind-again, behind-text}
-use Rattle.mdp_text.proofs.States.{three-words}
-use Rattle.mdp_discount_text.specs.Spelling.{state_text, state_lines}
-use Rattle.mdp_discount_text.specs.Text.{Columns, state_at, before_others, states_from}
+use Rattle.mdp_text.proofs.{Joined.{free-join, free-whole, behind-again, behind-text}, States.{three-words}}
+use Rattle.mdp_discount_text.specs.{Spelling.{state_text, state_lines}, Text.{Columns, state_at, before_others, states_from}}
 use Rattle.mdp_discount_text.specs.declared.state_lines.StateLine.{StateLine}
 
 -- ---- one more line: what was read so far, and what the other lines give

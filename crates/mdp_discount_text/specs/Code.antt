@@ -1,11 +1,8 @@
 -- What the code has read, as the definitions see it.
 use Rattle.mdp_text.specs.declared.init.Init.{Init}
-use Rattle.mdp_discount_text.specs.Text.{Claim, DiscountHead}
+use Rattle.mdp_discount_text.specs.{Text.{Claim, DiscountHead}, declared.claim_line.ClaimLine.{ClaimLine}, declared.claim_line.ClaimWords.{ClaimWords}}
+use Rattle.mdp_discount_text.specs.{declared.head_lines.Head.{Head}, declared.state_lines.Columns.{Columns}}
 use Rattle.mdp_discount_text.specs.Text as read
-use Rattle.mdp_discount_text.specs.declared.claim_line.ClaimLine.{ClaimLine}
-use Rattle.mdp_discount_text.specs.declared.claim_line.ClaimWords.{ClaimWords}
-use Rattle.mdp_discount_text.specs.declared.head_lines.Head.{Head}
-use Rattle.mdp_discount_text.specs.declared.state_lines.Columns.{Columns}
 
 abbrev pub said_claim : ClaimWords → Claim
 said_claim c = record { dir = c.dir; name = c.name.now; factor = c.factor }

@@ -1,8 +1,7 @@
 -- What holds of the texts of certificates of the discounted reward.
 use Rattle.std.specs.Prelude.{◌≡◌, ◌↔◌, ℕ, List, Ok}
 use Rattle.mdp_discount_rules.specs.Cert.{Certificate, Fits}
-use Rattle.mdp_discount_text.specs.Spelling.{text_of}
-use Rattle.mdp_discount_text.specs.Text.{outcome}
+use Rattle.mdp_discount_text.specs.{Spelling.{text_of}, Text.{outcome}}
 
 -- what is read is the certificate of which the bytes are the text
 abbrev pub IsReadFromText : Type 0

@@ -2,3 +2,8 @@ pub mod Spelling
 pub mod Text
 pub mod Code
 pub mod Laws
+pub mod Entries
+pub mod BoundsSpelling
+pub mod Reading
+pub mod BoundsCode
+pub mod BoundsLaws

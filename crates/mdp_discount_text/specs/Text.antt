@@ -4,18 +4,13 @@ use Rattle.std.specs.Prelude.{ℕ, zero, suc, ◌&&◌, not, Bool, false, List, 
 use Rattle.std.specs.Option.{option_or}
 use Rattle.mdp_math.specs.Rational.{ℚ, of_int, le_ℚ, lt_ℚ}
 use Rattle.mdp_num.specs.Canonical.{canonical_of}
-use Rattle.mdp_rows.specs.declared.dir.Dir.{Dir}
-use Rattle.mdp_rows.specs.declared.dir.Dir.TheVariants.{Max, Min}
+use Rattle.mdp_rows.specs.{declared.dir.Dir.{Dir}, declared.dir.Dir.TheVariants.{Max, Min}}
 use Rattle.mdp_text.specs.declared.error.CertKind.TheVariants as kind
-use Rattle.mdp_text.specs.declared.error.Refusal.{Refusal}
-use Rattle.mdp_text.specs.declared.init.Init.{Init}
+use Rattle.mdp_text.specs.{declared.error.Refusal.{Refusal}, declared.init.Init.{Init}}
 use Rattle.mdp_text.specs.Lines.{◌>>=◌, refuse_if, or_refused, is_line, Place, place, line_by, nothing_behind}
-use Rattle.mdp_text.specs.Words.{first_of, words_behind, whole_at, frac_at, behind, name_and_rest}
-use Rattle.mdp_text.specs.Heads.{valued_at, Head, head_by}
-use Rattle.mdp_text.specs.Spelling.{end_text}
-use Rattle.mdp_discount_text.specs.Spelling.{version_text}
+use Rattle.mdp_text.specs.{Words.{first_of, words_behind, whole_at, frac_at, behind, name_and_rest}, Heads.{valued_at, Head, head_by}, Spelling.{end_text}}
+use Rattle.mdp_discount_text.specs.{Spelling.{version_text}, declared.state_lines.StateLine.{StateLine}}
 use Rattle.mdp_discount_rules.specs.Cert.{Certificate}
-use Rattle.mdp_discount_text.specs.declared.state_lines.StateLine.{StateLine}
 
 -- ---- the claim
 

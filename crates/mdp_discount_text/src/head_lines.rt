@@ -1,9 +1,6 @@
 ghost use Rattle.std.specs.Prelude.{◌≡◌, false, Ok, MatchResult};
-ghost use Rattle.mdp_text.specs.Answer.{Refuses};
-ghost use Rattle.mdp_text.specs.Lines.{place};
-ghost use Rattle.mdp_text.specs.Heads.{states_at};
-ghost use Rattle.mdp_discount_text.specs.Text.{remainder_at, head_from};
-ghost use Rattle.mdp_discount_text.specs.Code.{plain_head};
+ghost use Rattle.mdp_text.specs.{Answer.{Refuses}, Lines.{place}, Heads.{states_at}};
+ghost use Rattle.mdp_discount_text.specs.{Text.{remainder_at, head_from}, Code.{plain_head}};
 
 use crate::claim_line::{ClaimLine, claim_at};
 use mdp_num::Frac;

@@ -1,8 +1,6 @@
 ghost use Rattle.std.specs.Prelude.{◌≡◌, ◌++◌, length, OnOk};
-ghost use Rattle.mdp_text.specs.Answer.{Keeps};
-ghost use Rattle.mdp_text.specs.Spelling.{line};
-ghost use Rattle.mdp_discount_text.specs.Spelling.{claim_text, remainder_text, state_text, state_lines};
-ghost use Rattle.mdp_discount_text.specs.Text.{claim_front};
+ghost use Rattle.mdp_text.specs.{Answer.{Keeps}, Spelling.{line}};
+ghost use Rattle.mdp_discount_text.specs.{Spelling.{claim_text, remainder_text, state_text, state_lines}, Text.{claim_front}};
 
 use crate::claim_line::claim_front;
 use mdp_num::{Frac, Memory};

@@ -1,6 +1,5 @@
 ghost use Rattle.std.specs.Prelude.{◌≡◌, Ok, IfOk, IfErr};
-ghost use Rattle.mdp_text.specs.Answer.{Refuses};
-ghost use Rattle.mdp_text.specs.Lines.{nothing_behind};
+ghost use Rattle.mdp_text.specs.{Answer.{Refuses}, Lines.{nothing_behind}};
 ghost use Rattle.mdp_discount_rules.specs.Plain.{plain};
 ghost use Rattle.mdp_discount_text.specs.Text.{outcome};
 

@@ -1,8 +1,6 @@
 ghost use Rattle.std.specs.Prelude.{◌≡◌, ◌+◌, ◌<◌, ◌≤◌, ◌^◌, Ok, IfOk, MatchResult};
-ghost use Rattle.mdp_text.specs.Answer.{Refuses};
-ghost use Rattle.mdp_text.specs.Lines.{place};
-ghost use Rattle.mdp_discount_text.specs.Text.{state_at, states_from};
-ghost use Rattle.mdp_discount_text.specs.Code.{plain_columns};
+ghost use Rattle.mdp_text.specs.{Answer.{Refuses}, Lines.{place}};
+ghost use Rattle.mdp_discount_text.specs.{Text.{state_at, states_from}, Code.{plain_columns}};
 
 use mdp_cert::three_words;
 use mdp_num::{Frac, read_canonical};

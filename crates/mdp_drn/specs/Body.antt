@@ -1,19 +1,14 @@
 -- The lines of the model: states, actions and transitions. What they make of the model is what a builder makes of it (mdp_rows, Draft).
 use Rattle.std.specs.Prelude.{ℕ, ◌-◌, Bool, false, not, ◌||◌, ◌&&◌, List, [], ◌∷◌, length, take, drop, Result, Ok, Err, nat_lt, nat_le, ◌==◌, if◌then◌else◌, codes}
-use Rattle.std.specs.List.{list_any, after_last}
-use Rattle.std.specs.Option.{is_some}
-use Rattle.std.specs.Io.BufRead.{ends_with_byte}
+use Rattle.std.specs.{List.{list_any, after_last}, Option.{is_some}, Io.BufRead.{ends_with_byte}}
 use Rattle.mdp_math.specs.Rational.{ℚ}
 use Rattle.mdp_num.specs.Digits.{front_digits, behind_digits, number}
 use Rattle.mdp_rows.specs.Draft.{Draft, all_closed, choice_closed, state_opened, choice_opened, choices_of, after_label, after_entry, has_choice, has_open_target}
 use Rattle.mdp_rows.specs.declared.error.RowsError.{RowsError}
 use Rattle.mdp_rows.specs.declared.error.RowsError.TheVariants as rows
-use Rattle.mdp_drn.specs.declared.error.DrnKind.{DrnKind}
+use Rattle.mdp_drn.specs.{declared.error.DrnKind.{DrnKind}, Lines.{begins_with, without_blanks_before}, Outcome.{◌>>=◌, refuse_if, Refusal, at_line_of}}
+use Rattle.mdp_drn.specs.{Values.{value_of, rewards_in}, Labels.{begins_blank, before_first, from_first, labels_in}}
 use Rattle.mdp_drn.specs.declared.error.DrnKind.TheVariants as kind
-use Rattle.mdp_drn.specs.Lines.{begins_with, without_blanks_before}
-use Rattle.mdp_drn.specs.Outcome.{◌>>=◌, refuse_if, Refusal, at_line_of}
-use Rattle.mdp_drn.specs.Values.{value_of, rewards_in}
-use Rattle.mdp_drn.specs.Labels.{begins_blank, before_first, from_first, labels_in}
 
 -- the model so far, whether it is a Markov chain, and the lines of its last `state` and `action`
 pub record Body : Type 0 where

@@ -1,20 +1,14 @@
 -- The model so far in the code, as the lines have spelled it.
-use Rattle.std.specs.List.{All}
-use Rattle.mdp_math.specs.Rational.{ℚ}
-use Rattle.mdp_rows.specs.declared.error.RowsError.{RowsError}
-use Rattle.mdp_rows.specs.declared.error.RowsError.TheVariants as rows
-use Rattle.mdp_drn.specs.declared.body.Body.{Body}
-use Rattle.mdp_drn.specs.declared.model_line.StateText.{StateText}
-use Rattle.mdp_drn.specs.declared.error.DrnError.{DrnError}
-use Rattle.mdp_drn.specs.declared.error.DrnError.TheVariants as error
-use Rattle.mdp_drn.specs.Lines.{is_line_feed}
-use Rattle.mdp_drn.specs.Body.{EntryRead, StateRead}
-use Rattle.mdp_drn.specs.Body as spec
-use Rattle.std.specs.Prelude.{◌≡◌, ℕ, List, length, map, sum_by, Bool, true, false, ◌||◌, Option, Some, None, Result, Ok, Err, nat_lt, ◌==◌}
+use Rattle.std.specs.{List.{All}, Prelude.{◌≡◌, ℕ, List, length, map, sum_by, Bool, true, false, ◌||◌, Option, Some, None, Result, Ok, Err, nat_lt, ◌==◌}}
 use Rattle.std.specs.Option.{is_some}
+use Rattle.mdp_math.specs.Rational.{ℚ}
+use Rattle.mdp_rows.specs.{declared.error.RowsError.{RowsError}, Draft.{Draft, OpenState}}
+use Rattle.mdp_rows.specs.declared.error.RowsError.TheVariants as rows
+use Rattle.mdp_drn.specs.{declared.body.Body.{Body}, declared.model_line.StateText.{StateText}, declared.error.DrnError.{DrnError}, Lines.{is_line_feed}}
+use Rattle.mdp_drn.specs.{Body.{EntryRead, StateRead}, declared.error.DrnKind.TheVariants.{RowSum, RowWide, Twice, NoChoice, TooMany, Target, Large, Count}}
+use Rattle.mdp_drn.specs.declared.error.DrnError.TheVariants as error
+use Rattle.mdp_drn.specs.Body as spec
 use Rattle.mdp_spec.specs.Mdp.{Mdp}
-use Rattle.mdp_rows.specs.Draft.{Draft, OpenState}
-use Rattle.mdp_drn.specs.declared.error.DrnKind.TheVariants.{RowSum, RowWide, Twice, NoChoice, TooMany, Target, Large, Count}
 
 abbrev pub view : Body → spec.Body
 view b = record { draft = b.builder; is_chain = b.is_chain; state_line = b.state_line; action_line = b.action_line }

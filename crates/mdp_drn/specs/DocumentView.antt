@@ -1,16 +1,13 @@
 -- What the lines so far have spelled, in the code.
 use Rattle.std.specs.Prelude.{ℕ, ◌≤◌, ◌^◌, List, [], ◌∷◌, Option, Some, None}
 use Rattle.mdp_rows.specs.Name.{AreRewardNames}
-use Rattle.mdp_drn.specs.declared.header.Header.{Header}
-use Rattle.mdp_drn.specs.declared.header.NextLine.{NextLine}
-use Rattle.mdp_drn.specs.declared.document.Part.{Part}
+use Rattle.mdp_drn.specs.{declared.header.Header.{Header}, declared.header.NextLine.{NextLine}, declared.document.Part.{Part}}
+use Rattle.mdp_drn.specs.{declared.document.Document.{Document}, Header.{Next, AnyEntry, BlankLine, RewardNames, StateCount, ChoiceCount, Model}}
+use Rattle.mdp_drn.specs.Reading.{InHeader, InModel}
 use Rattle.mdp_drn.specs.declared.document.Part.TheVariants as code
-use Rattle.mdp_drn.specs.declared.document.Document.{Document}
-use Rattle.mdp_drn.specs.Header.{Next, AnyEntry, BlankLine, RewardNames, StateCount, ChoiceCount, Model}
 use Rattle.mdp_drn.specs.Header as header
 use Rattle.mdp_drn.specs.HeaderView as header_view
 use Rattle.mdp_drn.specs.BodyView as body_view
-use Rattle.mdp_drn.specs.Reading.{InHeader, InModel}
 use Rattle.mdp_drn.specs.Reading as spec
 
 abbrev pub part_in : Part → spec.Part

@@ -2,8 +2,7 @@
 use Rattle.std.specs.Prelude.{ℕ, List, length, Result, Ok, nat_lt, if◌then◌else◌}
 use Rattle.mdp_spec.specs.Mdp.{Mdp}
 use Rattle.mdp_rows.specs.declared.rule.RowRule.{RowRule}
-use Rattle.mdp_drn.specs.Outcome.{◌>>=◌, Refusal}
-use Rattle.mdp_drn.specs.Reading.{Document, at_line, at_end}
+use Rattle.mdp_drn.specs.{Outcome.{◌>>=◌, Refusal}, Reading.{Document, at_line, at_end}}
 
 -- behind a document and the bytes that came behind the last line feed: they are a line unless there are none
 abbrev pub with_last : RowRule → Document → List ℕ → Result Document Refusal

@@ -1,8 +1,6 @@
 -- What each feed keeps.
 use Rattle.std.specs.Prelude.{◌≡◌, ◌≤◌, length, None}
-use Rattle.mdp_drn.specs.declared.feed.Feed.TheInside.{Inside}
-use Rattle.mdp_drn.specs.BodyView.{IsOneLine}
-use Rattle.mdp_drn.specs.DocumentView.{IsPart}
+use Rattle.mdp_drn.specs.{declared.feed.Feed.TheInside.{Inside}, BodyView.{IsOneLine}, DocumentView.{IsPart}}
 
 pub record IsFeed (f : Inside) : Type 0 where
   pub short : length f.tail.items ≤ 65536

@@ -1,13 +1,9 @@
 -- Where a feed stands that has been given a text in pieces.
 use Rattle.std.specs.Prelude.{◌≡◌, ℕ, ◌+◌, List, length, Option, Some, None, Result, Ok, Err, nat_lt, if◌then◌else◌, IfSome}
-use Rattle.mdp_drn.specs.declared.error.DrnKind.TheVariants.{LongLine}
-use Rattle.mdp_drn.specs.declared.error.DrnError.{DrnError}
+use Rattle.mdp_drn.specs.{declared.error.DrnKind.TheVariants.{LongLine}, declared.error.DrnError.{DrnError}, Lines.{whole_lines, open_line}, Outcome.{Refusal}}
+use Rattle.mdp_drn.specs.Reading.{Document, nothing_read, named, longest_line, after_lines}
 use Rattle.mdp_drn.specs.declared.error.DrnError.TheVariants as error
 use Rattle.mdp_rows.specs.declared.rule.RowRule.{RowRule}
-use Rattle.mdp_drn.specs.Lines.{whole_lines, open_line}
-use Rattle.mdp_drn.specs.Outcome.{Refusal}
-use Rattle.mdp_drn.specs.Reading.{Document, nothing_read}
-use Rattle.mdp_drn.specs.Reading.{named, longest_line, after_lines}
 
 -- it refuses, or it has the document of the lines that have their line feed and the bytes behind the last one
 pub data Stand : Type 0 where

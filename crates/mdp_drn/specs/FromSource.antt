@@ -1,8 +1,7 @@
 -- What reading from a source answers.
 use Rattle.std.specs.Prelude.{◌≡◌, ℕ, List, Option, Result, Ok, Err, IfSome}
 use Rattle.mdp_spec.specs.Mdp.{Mdp}
-use Rattle.mdp_drn.specs.declared.from_source.FromError.{FromError}
-use Rattle.mdp_drn.specs.declared.from_source.FromError.TheVariants.{ReadFault, Long, At, Memory}
+use Rattle.mdp_drn.specs.{declared.from_source.FromError.{FromError}, declared.from_source.FromError.TheVariants.{ReadFault, Long, At, Memory}}
 use Rattle.mdp_drn.specs.Outcome.{Refusal}
 
 -- these are the bytes that a source had left, where it tells them

@@ -1,16 +1,12 @@
 -- The header: entries, each at most once, in any order, up to `@model`.
 use Rattle.std.specs.Prelude.{ℕ, ◌^◌, Bool, false, true, not, ◌||◌, ◌&&◌, is_some, List, [], ◌∷◌, length}
-use Rattle.std.specs.Prelude.{drop, Option, Some, None, Result, Ok, Err, nat_lt, ◌==◌, if◌then◌else◌, filter, codes}
-use Rattle.std.specs.List.{slice_split, list_any}
+use Rattle.std.specs.{Prelude.{drop, Option, Some, None, Result, Ok, Err, nat_lt, ◌==◌, if◌then◌else◌, filter, codes}, List.{slice_split, list_any}}
 use Rattle.std.specs.Str.{bytes_eq}
 use Rattle.mdp_num.specs.Digits.{is_digits, number}
 use Rattle.mdp_rows.specs.Name.{are_different}
-use Rattle.mdp_drn.specs.declared.error.DrnKind.{DrnKind}
+use Rattle.mdp_drn.specs.{declared.error.DrnKind.{DrnKind}, declared.header.ModelType.{ModelType}, declared.header.ModelType.TheVariants.{Mdp, Dtmc}}
+use Rattle.mdp_drn.specs.{Lines.{is_blank, begins_with, without_blanks_before}, Outcome.{◌>>=◌, refuse_if, given_or}}
 use Rattle.mdp_drn.specs.declared.error.DrnKind.TheVariants as kind
-use Rattle.mdp_drn.specs.declared.header.ModelType.{ModelType}
-use Rattle.mdp_drn.specs.declared.header.ModelType.TheVariants.{Mdp, Dtmc}
-use Rattle.mdp_drn.specs.Lines.{is_blank, begins_with, without_blanks_before}
-use Rattle.mdp_drn.specs.Outcome.{◌>>=◌, refuse_if, given_or}
 
 -- the entries, each given or not; a number that is still to come is 0
 pub record Header : Type 0 where

@@ -1,13 +1,10 @@
 -- The header in the code, as what the lines have spelled.
-use Rattle.std.specs.Prelude.{ℕ, Bool, true, false, List, map, option_map, Result, Err, if◌then◌else◌, codes}
-use Rattle.std.specs.Str.{bytes_eq}
-use Rattle.mdp_drn.specs.declared.header.Header.{Header}
-use Rattle.mdp_drn.specs.declared.header.NextLine.{NextLine}
-use Rattle.mdp_drn.specs.declared.header.NextLine.TheVariants as code
-use Rattle.mdp_drn.specs.declared.error.DrnKind.{DrnKind}
-use Rattle.mdp_drn.specs.declared.error.DrnKind.TheVariants as kind
+use Rattle.std.specs.{Prelude.{ℕ, Bool, true, false, List, map, option_map, Result, Err, if◌then◌else◌, codes}, Str.{bytes_eq}}
+use Rattle.mdp_drn.specs.{declared.header.Header.{Header}, declared.header.NextLine.{NextLine}, declared.error.DrnKind.{DrnKind}}
 use Rattle.mdp_drn.specs.Header.{Next, AnyEntry, BlankLine, RewardNames, StateCount, ChoiceCount, Model}
 use Rattle.mdp_drn.specs.Header.{parameters_entry, reward_models_entry, nr_states_entry, nr_choices_entry, model_entry}
+use Rattle.mdp_drn.specs.declared.header.NextLine.TheVariants as code
+use Rattle.mdp_drn.specs.declared.error.DrnKind.TheVariants as kind
 use Rattle.mdp_drn.specs.Header as spec
 
 abbrev pub view : Header → spec.Header

@@ -1,21 +1,12 @@
 -- How the values that contracts see of a feed are told apart.
-use Rattle.std.specs.Prelude.{◌≡◌, ℕ, Bool, List, Option, refl, ◌==◌, if◌then◌else◌}
+use Rattle.std.specs.Prelude.{◌≡◌, ℕ, Bool, List, Option, refl, ◌==◌, if◌then◌else◌, ◌⊎◌}
 use Rattle.std.specs.Coded.{Coded, code_by, coded×, coded⊎, coded_ℕ, coded_bool, coded_list, coded_option}
-use Rattle.std.specs.Prelude.{◌⊎◌}
 use Rattle.std.proofs.Common.{inl, inr}
-use Rattle.mdp_rows.specs.Code.{names_code}
-use Rattle.mdp_rows.specs.DraftCode.{draft_code, rule_code}
-use Rattle.mdp_rows.specs.declared.rule.RowRule.{RowRule}
-use Rattle.mdp_drn.specs.declared.error.DrnKind.{DrnKind}
+use Rattle.mdp_rows.specs.{Code.{names_code}, DraftCode.{draft_code, rule_code}, declared.rule.RowRule.{RowRule}, Draft.{Draft}}
+use Rattle.mdp_drn.specs.{declared.error.DrnKind.{DrnKind}, declared.header.ModelType.{ModelType}, declared.header.ModelType.TheVariants.{Mdp, Dtmc}}
+use Rattle.mdp_drn.specs.{Outcome.{Refusal}, Header.{Header, Next, AnyEntry, BlankLine, RewardNames, StateCount, ChoiceCount, Model}, Body.{Body}}
+use Rattle.mdp_drn.specs.{Reading.{Part, InHeader, InModel, Document}, Feeding.{Stand, Refusing, Reading, Held}}
 use Rattle.mdp_drn.specs.declared.error.DrnKind.TheVariants as kind
-use Rattle.mdp_drn.specs.declared.header.ModelType.{ModelType}
-use Rattle.mdp_drn.specs.declared.header.ModelType.TheVariants.{Mdp, Dtmc}
-use Rattle.mdp_drn.specs.Outcome.{Refusal}
-use Rattle.mdp_drn.specs.Header.{Header, Next, AnyEntry, BlankLine, RewardNames, StateCount, ChoiceCount, Model}
-use Rattle.mdp_drn.specs.Body.{Body}
-use Rattle.mdp_rows.specs.Draft.{Draft}
-use Rattle.mdp_drn.specs.Reading.{Part, InHeader, InModel, Document}
-use Rattle.mdp_drn.specs.Feeding.{Stand, Refusing, Reading, Held}
 
 abbrev pub number_of : DrnKind → ℕ
 number_of kind.Header = 1

@@ -1,9 +1,7 @@
 -- The labels of a line.
 use Rattle.std.specs.Prelude.{ℕ, zero, suc, Bool, false, not, ◌||◌, ◌&&◌, List, [], ◌∷◌, length, take, drop, Result, Ok, Err, nat_lt, nat_le, ◌==◌, if◌then◌else◌}
 use Rattle.std.specs.List.{prefix_len, list_any}
-use Rattle.mdp_drn.specs.declared.error.DrnKind.{DrnKind}
-use Rattle.mdp_drn.specs.declared.error.DrnKind.TheVariants.{Label}
-use Rattle.mdp_drn.specs.Lines.{is_blank, without_blanks_before}
+use Rattle.mdp_drn.specs.{declared.error.DrnKind.{DrnKind}, declared.error.DrnKind.TheVariants.{Label}, Lines.{is_blank, without_blanks_before}}
 use Rattle.mdp_drn.specs.Outcome.{◌>>=◌}
 
 abbrev pub is_quote : ℕ → Bool

@@ -1,19 +1,12 @@
 -- Laws of reading, over what texts come to.
 use Rattle.std.specs.Prelude.{◌≡◌, ◌⊎◌, ℕ, ◌+◌, ◌<◌, ◌≤◌, ◌^◌, true, false, not, IsTrue, List, []}
-use Rattle.std.specs.Prelude.{◌∷◌, ◌++◌, length, drop, map, filter, Result, Ok, Err, nat_lt, codes, if◌then◌else◌}
-use Rattle.std.specs.List.{All, list_all, flat_map}
-use Rattle.std.specs.Str.{bytes_eq}
-use Rattle.std.specs.Io.BufRead.{ends_with_byte}
+use Rattle.std.specs.{Prelude.{◌∷◌, ◌++◌, length, drop, map, filter, Result, Ok, Err, nat_lt, codes, if◌then◌else◌}, List.{All, list_all, flat_map}}
+use Rattle.std.specs.{Str.{bytes_eq}, Io.BufRead.{ends_with_byte}}
 use Rattle.mdp_spec.specs.Mdp.{Mdp}
 use Rattle.mdp_num.specs.Digits.{behind_digits}
-use Rattle.mdp_rows.specs.Draft.{with_name}
-use Rattle.mdp_rows.specs.Limits.{IsModel}
-use Rattle.mdp_rows.specs.declared.rule.RowRule.{RowRule}
-use Rattle.mdp_drn.specs.declared.error.DrnKind.{DrnKind}
-use Rattle.mdp_drn.specs.Lines.{lines_of, content, is_blank, is_comment, without_blanks_before}
-use Rattle.mdp_drn.specs.Outcome.{◌>>=◌, Refusal}
-use Rattle.mdp_drn.specs.Labels.{labels_in}
-use Rattle.mdp_drn.specs.Body.{is_state_line, bracket_at}
+use Rattle.mdp_rows.specs.{Draft.{with_name}, Limits.{IsModel}, declared.rule.RowRule.{RowRule}}
+use Rattle.mdp_drn.specs.{declared.error.DrnKind.{DrnKind}, Lines.{lines_of, content, is_blank, is_comment, without_blanks_before}, Outcome.{◌>>=◌, Refusal}}
+use Rattle.mdp_drn.specs.{Labels.{labels_in}, Body.{is_state_line, bracket_at}}
 use Rattle.mdp_drn.specs.Reading.{Document, nothing_read, longest_line, at_line, at_end, after_lines, outcome, Reads, Refused}
 
 -- ---- the first line that breaks a rule

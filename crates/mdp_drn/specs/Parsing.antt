@@ -1,12 +1,8 @@
 -- What a call that reads a part of a line answers: what the definition says, unless memory ran out.
-use Rattle.std.specs.Prelude.{◌≡◌, List, [], ◌∷◌, ℕ, Result, Ok, Err}
-use Rattle.std.specs.Borrow.{Bor}
-use Rattle.mdp_drn.specs.declared.error.DrnKind.{DrnKind}
-use Rattle.mdp_drn.specs.declared.error.DrnError.{DrnError}
+use Rattle.std.specs.{Prelude.{◌≡◌, List, [], ◌∷◌, ℕ, Result, Ok, Err}, Borrow.{Bor}}
+use Rattle.mdp_drn.specs.{declared.error.DrnKind.{DrnKind}, declared.error.DrnError.{DrnError}, declared.line_error.LineError.{LineError}}
+use Rattle.mdp_drn.specs.{declared.line_error.LineError.TheVariants.{Kind, Memory}, Labels.{label_at}}
 use Rattle.mdp_drn.specs.declared.error.DrnError.TheVariants as error
-use Rattle.mdp_drn.specs.declared.line_error.LineError.{LineError}
-use Rattle.mdp_drn.specs.declared.line_error.LineError.TheVariants.{Kind, Memory}
-use Rattle.mdp_drn.specs.Labels.{label_at}
 
 abbrev pub FailsAs : {Y : Type 0} → LineError → Result Y DrnKind → Type 0
 FailsAs Memory said = Unit {0}

@@ -1,14 +1,11 @@
 -- What a text comes to: the model that its lines spell, or the first broken rule in the order of the lines.
 use Rattle.std.specs.Prelude.{◌≡◌, ℕ, ◌+◌, ◌-◌, ◌^◌, min, Bool, true, not, List, [], ◌∷◌, length, sum_by, Option, Some, None, Result, Ok, Err, nat_lt, ◌==◌, if◌then◌else◌}
 use Rattle.mdp_spec.specs.Mdp.{Mdp}
-use Rattle.mdp_rows.specs.Draft.{Draft, new_draft, all_closed, finished}
-use Rattle.mdp_rows.specs.declared.rule.RowRule.{RowRule}
-use Rattle.mdp_drn.specs.declared.error.DrnKind.{DrnKind}
-use Rattle.mdp_drn.specs.declared.error.DrnKind.TheVariants as kind
-use Rattle.mdp_drn.specs.Lines.{lines_of, content, is_comment}
-use Rattle.mdp_drn.specs.Outcome.{◌>>=◌, refuse_if, Refusal, at_line_of}
+use Rattle.mdp_rows.specs.{Draft.{Draft, new_draft, all_closed, finished}, declared.rule.RowRule.{RowRule}}
+use Rattle.mdp_drn.specs.{declared.error.DrnKind.{DrnKind}, Lines.{lines_of, content, is_comment}, Outcome.{◌>>=◌, refuse_if, Refusal, at_line_of}}
 use Rattle.mdp_drn.specs.Header.{Header, Next, AnyEntry, BlankLine, RewardNames, StateCount, ChoiceCount, Model, no_entries, header_line, is_chain, announced, names_of}
 use Rattle.mdp_drn.specs.Body.{Body, judged, model_line}
+use Rattle.mdp_drn.specs.declared.error.DrnKind.TheVariants as kind
 
 -- what the lines so far have spelled: entries of the header and what may come next, or the number of choices that was announced and the model so far
 pub data Part : Type 0 where

@@ -1,14 +1,10 @@
 -- Probabilities, rewards, and the rewards of a bracket.
-use Rattle.std.specs.Prelude.{ℕ, Bool, List, [], ◌∷◌, length, map, drop, replicate, pos, Result, Ok, Err, ◌==◌, if◌then◌else◌, codes}
-use Rattle.std.specs.List.{slice_split}
+use Rattle.std.specs.{Prelude.{ℕ, Bool, List, [], ◌∷◌, length, map, drop, replicate, pos, Result, Ok, Err, ◌==◌, if◌then◌else◌, codes}, List.{slice_split}}
 use Rattle.mdp_math.specs.Rational.{ℚ, of_int, neg_ℚ}
-use Rattle.mdp_num.specs.Numeral.{numeral_of}
-use Rattle.mdp_num.specs.declared.errors.NumeralError.{NumeralError}
+use Rattle.mdp_num.specs.{Numeral.{numeral_of}, declared.errors.NumeralError.{NumeralError}}
 use Rattle.mdp_num.specs.declared.errors.NumeralError.TheVariants as numeral
-use Rattle.mdp_drn.specs.declared.error.DrnKind.{DrnKind}
-use Rattle.mdp_drn.specs.declared.error.DrnKind.TheVariants.{Number, Large, Negative, Reward}
-use Rattle.mdp_drn.specs.Lines.{begins_with, without_blanks_before, without_blanks_behind}
-use Rattle.mdp_drn.specs.Outcome.{◌>>=◌}
+use Rattle.mdp_drn.specs.{declared.error.DrnKind.{DrnKind}, declared.error.DrnKind.TheVariants.{Number, Large, Negative, Reward}}
+use Rattle.mdp_drn.specs.{Lines.{begins_with, without_blanks_before, without_blanks_behind}, Outcome.{◌>>=◌}}
 
 abbrev pub kind_of : NumeralError → DrnKind
 kind_of numeral.Shape = Number

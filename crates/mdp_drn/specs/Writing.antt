@@ -1,10 +1,8 @@
 -- The one text of a model that is written.
-use Rattle.std.specs.Prelude.{ℕ, suc, ◌&&◌, List, [], ◌∷◌, ◌++◌, length, map, sum_by, slice_index_or, decimal, codes, ◌==◌, if◌then◌else◌}
-use Rattle.std.specs.Str.{bytes_eq}
+use Rattle.std.specs.{Prelude.{ℕ, suc, ◌&&◌, List, [], ◌∷◌, ◌++◌, length, map, sum_by, slice_index_or, decimal, codes, ◌==◌, if◌then◌else◌}, Str.{bytes_eq}}
 use Rattle.mdp_num.specs.Value.{spelling}
 use Rattle.mdp_spec.specs.Mdp.{Entry, Choice, State, Mdp, states_of}
-use Rattle.mdp_rows.specs.Limits.{IsModel}
-use Rattle.mdp_rows.specs.declared.rule.RowRule.TheVariants.{Exact}
+use Rattle.mdp_rows.specs.{Limits.{IsModel}, declared.rule.RowRule.TheVariants.{Exact}}
 use Rattle.mdp_drn.specs.Reading.{Reads}
 
 -- a text and its line feed

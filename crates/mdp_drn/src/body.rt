@@ -1,11 +1,8 @@
-ghost use Rattle.std.specs.Prelude.{◌≡◌, length, map, None, OnOk, IsTrue, Ok, Err, if◌then◌else◌};
-ghost use Rattle.std.specs.List.{All};
+ghost use Rattle.std.specs.{Prelude.{◌≡◌, length, map, None, OnOk, IsTrue, Ok, Err, if◌then◌else◌}, List.{All}};
 ghost use Rattle.mdp_num.specs.Meaning.{IsWithinLimit};
 ghost use Rattle.mdp_rows.specs.Draft.{all_closed, choice_closed, state_opened, choice_opened, after_entry, after_label, IsChoiceClosed, has_choice, has_state};
 ghost use Rattle.mdp_rows.specs.Name.{IsName};
-ghost use Rattle.mdp_drn.specs.Body.{judged, with_labels};
-ghost use Rattle.mdp_drn.specs.BodyView.{view, IsBody, IsSameBeside, error_of, answer_of, as_announced};
-ghost use Rattle.mdp_drn.specs.Feeding.{Answers, Gives};
+ghost use Rattle.mdp_drn.specs.{Body.{judged, with_labels}, BodyView.{view, IsBody, IsSameBeside, error_of, answer_of, as_announced}, Feeding.{Answers, Gives}};
 ghost use Rattle.mdp_drn.specs.Reading.{at_end_of, InModel};
 
 use crate::error::{DrnError, DrnKind};

@@ -1,7 +1,5 @@
-ghost use Rattle.std.specs.Prelude.{◌≡◌, ◌≤◌, length, not};
-ghost use Rattle.std.specs.List.{suffix_len};
-ghost use Rattle.mdp_drn.specs.Body.{bracket_at, bracket_behind, is_open_bracket};
-ghost use Rattle.mdp_drn.specs.Parsing.{told, both_now};
+ghost use Rattle.std.specs.{Prelude.{◌≡◌, ◌≤◌, length, not}, List.{suffix_len}};
+ghost use Rattle.mdp_drn.specs.{Body.{bracket_at, bracket_behind, is_open_bracket}, Parsing.{told, both_now}};
 
 use crate::error::DrnKind;
 use crate::line::count_before;

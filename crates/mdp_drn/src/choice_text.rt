@@ -1,10 +1,7 @@
 ghost use Rattle.std.specs.Prelude.{◌≡◌, ◌<◌, ◌++◌, length, take, map, codes, slice_index_or, OnOk};
 ghost use Rattle.mdp_num.specs.Value.{spelling};
-ghost use Rattle.mdp_spec.specs.Mdp.{Entry, states_of, choices_at, no_choice};
-ghost use Rattle.mdp_spec.specs.Row.{entries};
-ghost use Rattle.mdp_spec.specs.Unit.{reward_of};
-ghost use Rattle.mdp_drn.specs.Writing.{joined, line, entry_text, row_text, choices_text};
-ghost use Rattle.mdp_drn.specs.Pieces.{separator_text, choice_line_text, choice_text};
+ghost use Rattle.mdp_spec.specs.{Mdp.{Entry, states_of, choices_at, no_choice}, Row.{entries}, Unit.{reward_of}};
+ghost use Rattle.mdp_drn.specs.{Writing.{joined, line, entry_text, row_text, choices_text}, Pieces.{separator_text, choice_line_text, choice_text}};
 
 use crate::push::{push_between, push_bytes, push_fraction, push_separator};
 use mdp_num::Frac;

@@ -1,15 +1,10 @@
 ghost use Rattle.std.specs.Prelude.{◌≡◌, ◌+◌, [], false, map, option_map, OnOk, IfOk, IfErr};
-ghost use Rattle.mdp_drn.specs.Header.{names_or_one, or_else};
+ghost use Rattle.mdp_drn.specs.{Header.{names_or_one, or_else}, BodyView.{IsOneLine}, Ending.{ended, with_last}, Lines.{is_comment}, Labels.{begins_blank}};
+ghost use Rattle.mdp_drn.specs.Reading.{InModel, named, at_line, at_end, begun, nothing_read, kept_line};
+ghost use Rattle.mdp_drn.specs.{DocumentView.{document_in, part_in, header_part, part_behind, IsPart, IsHeader, IsBehind}, Feeding.{Answers, Gives}};
 ghost use Rattle.mdp_drn.specs.Header as header_spec;
 ghost use Rattle.mdp_drn.specs.HeaderView as header_view;
-ghost use Rattle.mdp_drn.specs.BodyView.{IsOneLine};
 ghost use Rattle.mdp_drn.specs.BodyView as body_view;
-ghost use Rattle.mdp_drn.specs.Ending.{ended, with_last};
-ghost use Rattle.mdp_drn.specs.Lines.{is_comment};
-ghost use Rattle.mdp_drn.specs.Labels.{begins_blank};
-ghost use Rattle.mdp_drn.specs.Reading.{InModel, named, at_line, at_end, begun, nothing_read, kept_line};
-ghost use Rattle.mdp_drn.specs.DocumentView.{document_in, part_in, header_part, part_behind, IsPart, IsHeader, IsBehind};
-ghost use Rattle.mdp_drn.specs.Feeding.{Answers, Gives};
 
 use crate::body::Body;
 use crate::error::{DrnError, DrnKind};

@@ -1,7 +1,5 @@
 ghost use Rattle.std.specs.Prelude.{◌≡◌, ℕ, List, [], ◌∷◌, ◌++◌, IfOk, IsOk};
-ghost use Rattle.mdp_drn.specs.BodyView.{IsOneLine};
-ghost use Rattle.mdp_drn.specs.Reading.{outcome};
-ghost use Rattle.mdp_drn.specs.Feeding.{HasRead, Stays, Repeats, answer, Gives};
+ghost use Rattle.mdp_drn.specs.{BodyView.{IsOneLine}, Reading.{outcome}, Feeding.{HasRead, Stays, Repeats, answer, Gives}};
 
 use crate::document::{Document, LONGEST_LINE};
 use crate::error::{DrnError, DrnKind};
@@ -20,15 +18,13 @@ pub struct Feed {
 }
 
 impl std::marker::Model for Feed {
-    ghost use Rattle.mdp_drn.specs.Feeding.{Held, stand_with};
-    ghost use Rattle.mdp_drn.specs.HeldCode.{held_code};
+    ghost use Rattle.mdp_drn.specs.{Feeding.{Held, stand_with}, HeldCode.{held_code}};
 
     ghost Value = { Held };
 
     ghost coded = { held_code };
 
-    ghost use Rattle.mdp_drn.specs.DocumentView.{document_in};
-    ghost use Rattle.mdp_drn.specs.FeedView.{IsFeed};
+    ghost use Rattle.mdp_drn.specs.{DocumentView.{document_in}, FeedView.{IsFeed}};
 
     ghost view = { λ f. record { rule = f.document.rule; stand = stand_with f.refused (document_in f.document) f.tail.items } };
 

@@ -1,10 +1,7 @@
 ghost use Rattle.std.specs.Prelude.{◌≡◌, ◌⊎◌, ◌+◌, ◌<◌, ◌≤◌, ◌^◌, ℕ, List, [], length, true, false, IfOk, OnOk, OnErr, IsErrOf, IfSome};
 ghost use Rattle.std.specs.Io.KnownBytes.{IsAtEnd};
-ghost use Rattle.mdp_edge.specs.Faults.{FaultCounted};
-ghost use Rattle.mdp_edge.specs.Bytes.{GaveAtMost};
-ghost use Rattle.mdp_drn.specs.Reading.{outcome};
-ghost use Rattle.mdp_drn.specs.FromSource.{HadLeft, ReadsAs, IsRead};
-ghost use Rattle.mdp_drn.specs.Feeding.{HasRead};
+ghost use Rattle.mdp_edge.specs.{Faults.{FaultCounted}, Bytes.{GaveAtMost}};
+ghost use Rattle.mdp_drn.specs.{Reading.{outcome}, FromSource.{HadLeft, ReadsAs, IsRead}, Feeding.{HasRead}};
 
 use crate::error::{DrnError, DrnKind};
 use crate::feed::Feed;

@@ -1,12 +1,9 @@
-ghost use Rattle.std.specs.Prelude.{◌≡◌, ◌≤◌, ◌^◌, ◌<◌, IfOk, OnOk, map, ◌==◌, ◌||◌};
-ghost use Rattle.std.specs.List.{All, list_any};
+ghost use Rattle.std.specs.{Prelude.{◌≡◌, ◌≤◌, ◌^◌, ◌<◌, IfOk, OnOk, map, ◌==◌, ◌||◌}, List.{All, list_any}};
 ghost use Rattle.mdp_rows.specs.Name.{are_different};
 ghost use Rattle.mdp_drn.specs.Header.{no_entries, names_line, states_line, choices_line, entry_line, header_line, is_word, is_entry, is_bad_name};
 ghost use Rattle.mdp_drn.specs.Header.{names_in, words_of, count_in, is_chain, type_named, type_entry, value_type_entry, parameters_entry};
-ghost use Rattle.mdp_drn.specs.Header.{reward_models_entry, nr_states_entry, nr_choices_entry, model_entry, with_states};
-ghost use Rattle.mdp_drn.specs.Lines.{is_blank};
-ghost use Rattle.mdp_drn.specs.HeaderView.{view, view_next, pair, is_model, bare_entry, last_entry};
-ghost use Rattle.mdp_drn.specs.Parsing.{Says, told};
+ghost use Rattle.mdp_drn.specs.{Header.{reward_models_entry, nr_states_entry, nr_choices_entry, model_entry, with_states}, Lines.{is_blank}};
+ghost use Rattle.mdp_drn.specs.{HeaderView.{view, view_next, pair, is_model, bare_entry, last_entry}, Parsing.{Says, told}};
 
 use crate::digits::number_of;
 use crate::error::DrnKind;

@@ -1,7 +1,5 @@
-ghost use Rattle.std.specs.Prelude.{◌≡◌, ◌<◌, ◌++◌, ◌&&◌, ◌==◌, [], length, take, codes, slice_index_or, OnOk};
-ghost use Rattle.std.specs.Str.{bytes_eq};
-ghost use Rattle.mdp_drn.specs.Writing.{joined, names_text, header_text};
-ghost use Rattle.mdp_drn.specs.Pieces.{separator_text, first_lines, count_lines};
+ghost use Rattle.std.specs.{Prelude.{◌≡◌, ◌<◌, ◌++◌, ◌&&◌, ◌==◌, [], length, take, codes, slice_index_or, OnOk}, Str.{bytes_eq}};
+ghost use Rattle.mdp_drn.specs.{Writing.{joined, names_text, header_text}, Pieces.{separator_text, first_lines, count_lines}};
 
 use crate::push::{push_between, push_bytes, push_separator};
 use mdp_rows::Model;

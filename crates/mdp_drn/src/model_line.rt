@@ -1,13 +1,9 @@
-ghost use Rattle.std.specs.Prelude.{◌≡◌, length, map, None, OnOk, IfOk, IsTrue, ◌||◌};
-ghost use Rattle.std.specs.List.{All};
+ghost use Rattle.std.specs.{Prelude.{◌≡◌, length, map, None, OnOk, IfOk, IsTrue, ◌||◌}, List.{All}};
 ghost use Rattle.mdp_num.specs.Meaning.{IsWithinLimit};
-ghost use Rattle.mdp_rows.specs.Draft.{has_choice, has_state, IsChoiceClosed};
-ghost use Rattle.mdp_rows.specs.Name.{IsName};
+ghost use Rattle.mdp_rows.specs.{Draft.{has_choice, has_state, IsChoiceClosed}, Name.{IsName}};
 ghost use Rattle.mdp_drn.specs.Body.{state_read, action_read, entry_read, state_line, action_line, entry_line, model_line, is_state_line};
 ghost use Rattle.mdp_drn.specs.Body.{is_action_line, is_rest_of_state, value_text, begins_as, is_other_mark};
-ghost use Rattle.mdp_drn.specs.BodyView.{view, IsBody, IsOneLine, state_in, entry_in};
-ghost use Rattle.mdp_drn.specs.Parsing.{Says, told};
-ghost use Rattle.mdp_drn.specs.Feeding.{Answers};
+ghost use Rattle.mdp_drn.specs.{BodyView.{view, IsBody, IsOneLine, state_in, entry_in}, Parsing.{Says, told}, Feeding.{Answers}};
 
 use crate::body::Body;
 use crate::brackets::{first_bracket, last_bracket};

@@ -1,9 +1,6 @@
-ghost use Rattle.std.specs.Prelude.{◌≡◌, ◌<◌, ◌==◌, ◌||◌, not, length, filter, map, nat_lt, nat_le, IfOk};
-ghost use Rattle.std.specs.List.{list_any};
-ghost use Rattle.std.specs.Str.{bytes_eq};
+ghost use Rattle.std.specs.{Prelude.{◌≡◌, ◌<◌, ◌==◌, ◌||◌, not, length, filter, map, nat_lt, nat_le, IfOk}, List.{list_any}, Str.{bytes_eq}};
 ghost use Rattle.mdp_rows.specs.Name.{are_different};
-ghost use Rattle.mdp_drn.specs.Header.{is_bad_byte, is_bad_name, names_in, words_of};
-ghost use Rattle.mdp_drn.specs.Parsing.{Says};
+ghost use Rattle.mdp_drn.specs.{Header.{is_bad_byte, is_bad_name, names_in, words_of}, Parsing.{Says}};
 
 use crate::error::DrnKind;
 use crate::line::{has_either, is_blank};

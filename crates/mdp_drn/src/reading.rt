@@ -1,6 +1,5 @@
 ghost use Rattle.std.specs.Prelude.{◌≡◌};
-ghost use Rattle.mdp_drn.specs.Reading.{outcome};
-ghost use Rattle.mdp_drn.specs.Feeding.{Gives};
+ghost use Rattle.mdp_drn.specs.{Reading.{outcome}, Feeding.{Gives}};
 
 use crate::error::DrnError;
 use crate::feed::Feed;

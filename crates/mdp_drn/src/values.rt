@@ -1,10 +1,7 @@
-ghost use Rattle.std.specs.Prelude.{◌≡◌, ◌==◌, IfOk, map, length, [], replicate, pos};
+ghost use Rattle.std.specs.{Prelude.{◌≡◌, ◌==◌, IfOk, map, length, [], replicate, pos}, List.{slice_split}};
 ghost use Rattle.mdp_math.specs.Rational.{of_int};
-ghost use Rattle.std.specs.List.{slice_split};
-ghost use Rattle.mdp_num.specs.Meaning.{IsWithinLimit};
-ghost use Rattle.mdp_num.specs.Numeral.{numeral_of};
-ghost use Rattle.mdp_drn.specs.Values.{from_numeral, value_of, reward_of, rewards_in, each_reward, is_comma, trimmed};
-ghost use Rattle.mdp_drn.specs.Parsing.{Says};
+ghost use Rattle.mdp_num.specs.{Meaning.{IsWithinLimit}, Numeral.{numeral_of}};
+ghost use Rattle.mdp_drn.specs.{Values.{from_numeral, value_of, reward_of, rewards_in, each_reward, is_comma, trimmed}, Parsing.{Says}};
 
 use crate::error::DrnKind;
 use crate::line::trim;

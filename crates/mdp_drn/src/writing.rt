@@ -1,7 +1,6 @@
 ghost use Rattle.std.specs.Prelude.{◌≡◌, ◌++◌, length, take, OnOk, OnErr};
 ghost use Rattle.mdp_rows.specs.declared.rule.RowRule.TheVariants.{Exact};
-ghost use Rattle.mdp_drn.specs.Reading.{Reads};
-ghost use Rattle.mdp_drn.specs.Writing.{text_of};
+ghost use Rattle.mdp_drn.specs.{Reading.{Reads}, Writing.{text_of}};
 
 use crate::header_text::push_header;
 use crate::state_text::push_states;

@@ -1,8 +1,6 @@
 -- The definitions, computed on small values.
 use Rattle.std.proofs.Common.{◌≡◌, ◌+◌, zero, suc, inl, inr, [], ◌∷◌, Some, None, refl, arith, lit≤, lit<}
-use Rattle.mdp_edge.specs.Faults.{FaultCounted, last_count}
-use Rattle.mdp_edge.specs.Bytes.{Gave, GaveAtMost, TookPrefix, TookAll}
-use Rattle.mdp_edge.specs.Plan.{plan_of, FailsNext, after_call}
+use Rattle.mdp_edge.specs.{Faults.{FaultCounted, last_count}, Bytes.{Gave, GaveAtMost, TookPrefix, TookAll}, Plan.{plan_of, FailsNext, after_call}}
 use Rattle.mdp_edge.specs.Kinds.{Listed, Stored, after_read, after_failed_read, after_write, after_flush, after_failed_call}
 
 -- a rise counts, and so does a count at its type's end

@@ -1,6 +1,5 @@
 -- Two pieces, one behind the other, are one piece.
-use Rattle.std.proofs.Common.{◌≡◌, ℕ, ◌+◌, ◌-◌, List, length, ◌++◌, take, drop, Option, Some, None, refl, sym, ap, ◌∙◌, append_assoc}
-use Rattle.std.proofs.Math.Seq.{take-add}
+use Rattle.std.proofs.{Common.{◌≡◌, ℕ, ◌+◌, ◌-◌, List, length, ◌++◌, take, drop, Option, Some, None, refl, sym, ap, ◌∙◌, append_assoc}, Math.Seq.{take-add}}
 use Rattle.std.proofs.lemmas.List.{take_rest}
 use Rattle.std.specs.Io.KnownBytes.{prepend_known, append_known}
 use Rattle.mdp_edge.specs.Bytes.{Gave, Took}

@@ -1,7 +1,5 @@
 -- What a call does to the bytes that a source has left and to those that a sink has taken. They are options: what isn't told stays untold.
-use Rattle.std.specs.Prelude.{◌≡◌, ℕ, ◌≤◌, List, length, take, Option}
-use Rattle.std.specs.Option.{option_map}
-use Rattle.std.specs.Io.KnownBytes.{prepend_known, append_known}
+use Rattle.std.specs.{Prelude.{◌≡◌, ℕ, ◌≤◌, List, length, take, Option}, Option.{option_map}, Io.KnownBytes.{prepend_known, append_known}}
 
 -- of the bytes that were left a source gave this piece, from the front
 abbrev pub Gave : Option (List ℕ) → Option (List ℕ) → List ℕ → Type 0

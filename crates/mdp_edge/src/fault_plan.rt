@@ -1,6 +1,5 @@
 ghost use Rattle.std.specs.Prelude.{◌≡◌, ◌↔◌, IsTrue};
-ghost use Rattle.mdp_edge.specs.Faults.{one_more};
-ghost use Rattle.mdp_edge.specs.Plan.{plan_of, IsCounted, FailsNext, after_call};
+ghost use Rattle.mdp_edge.specs.{Faults.{one_more}, Plan.{plan_of, IsCounted, FailsNext, after_call}};
 
 use std::marker::Model;
 
@@ -14,8 +13,7 @@ pub struct FaultPlan {
 
 impl Model for FaultPlan {
     ghost use Rattle.std.specs.Prelude.{◌≤◌};
-    ghost use Rattle.mdp_edge.specs.Faults.{last_count};
-    ghost use Rattle.mdp_edge.specs.Plan.{Plan};
+    ghost use Rattle.mdp_edge.specs.{Faults.{last_count}, Plan.{Plan}};
 
     ghost Value = { Plan };
 

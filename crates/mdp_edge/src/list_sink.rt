@@ -1,6 +1,5 @@
 ghost use Rattle.std.specs.Prelude.{◌≡◌, ◌≤◌, ◌<◌, ◌↔◌, ◌⊎◌, [], min, length, vec_len, IsErr, IfOk, OnOk, OnErr, Some};
-ghost use Rattle.mdp_edge.specs.Plan.{plan_of, IsCounted, FailsNext};
-ghost use Rattle.mdp_edge.specs.Kinds.{after_write, after_flush, after_failed_call};
+ghost use Rattle.mdp_edge.specs.{Plan.{plan_of, IsCounted, FailsNext}, Kinds.{after_write, after_flush, after_failed_call}};
 
 use crate::fault_plan::FaultPlan;
 use crate::sink::Sink;

@@ -1,6 +1,5 @@
 ghost use Rattle.std.specs.Prelude.{◌≡◌, ◌≤◌, ◌<◌, ◌↔◌, ◌++◌, min, length, take, drop, IsErr, IfOk, OnErr, Some};
-ghost use Rattle.mdp_edge.specs.Plan.{plan_of, IsCounted, FailsNext};
-ghost use Rattle.mdp_edge.specs.Kinds.{after_read, after_failed_read};
+ghost use Rattle.mdp_edge.specs.{Plan.{plan_of, IsCounted, FailsNext}, Kinds.{after_read, after_failed_read}};
 
 use crate::fault_plan::FaultPlan;
 use crate::source::{Failed, Source};

@@ -1,7 +1,5 @@
-ghost use Rattle.std.specs.Prelude.{◌≡◌, ◌+◌, ◌<◌, ◌≤◌, ◌⊎◌, length, vec_len, IfOk, OnOk, IsErr, IsErrOf, IfSome};
-ghost use Rattle.std.specs.Io.KnownBytes.{IsAtEnd};
-ghost use Rattle.mdp_edge.specs.Faults.{FaultCounted};
-ghost use Rattle.mdp_edge.specs.Bytes.{GaveAtMost};
+ghost use Rattle.std.specs.{Prelude.{◌≡◌, ◌+◌, ◌<◌, ◌≤◌, ◌⊎◌, length, vec_len, IfOk, OnOk, IsErr, IsErrOf, IfSome}, Io.KnownBytes.{IsAtEnd}};
+ghost use Rattle.mdp_edge.specs.{Faults.{FaultCounted}, Bytes.{GaveAtMost}};
 
 use crate::source::Source;
 use std::alloc::Global;

@@ -1,6 +1,5 @@
 //! Calls of std's readers and writers, made again where they are interrupted.
-ghost use Rattle.std.specs.Prelude.{◌≡◌, ◌≤◌, ◌<◌, length, take, IfSome, IfNone};
-ghost use Rattle.std.specs.Io.KnownBytes.{Appends, Consumes, IsAtEnd, Keeps};
+ghost use Rattle.std.specs.{Prelude.{◌≡◌, ◌≤◌, ◌<◌, length, take, IfSome, IfNone}, Io.KnownBytes.{Appends, Consumes, IsAtEnd, Keeps}};
 
 use std::io;
 use std::io::{ErrorKind, Read, Write};

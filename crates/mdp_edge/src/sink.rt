@@ -1,6 +1,5 @@
 ghost use Rattle.std.specs.Prelude.{◌≡◌, ◌≤◌, ◌<◌, ℕ, List, length, take, Option, IfOk, OnOk, OnErr, is_some};
-ghost use Rattle.mdp_edge.specs.Faults.{FaultCounted};
-ghost use Rattle.mdp_edge.specs.Bytes.{Took, IsSettled};
+ghost use Rattle.mdp_edge.specs.{Faults.{FaultCounted}, Bytes.{Took, IsSettled}};
 
 use crate::source::Failed;
 

@@ -1,6 +1,5 @@
 ghost use Rattle.std.specs.Prelude.{◌≡◌, ◌≤◌, ◌<◌, ◌↔◌, ℕ, List, [], length, take, Option, IfOk, OnErr, IfSome};
-ghost use Rattle.mdp_edge.specs.Faults.{FaultCounted};
-ghost use Rattle.mdp_edge.specs.Bytes.{Gave};
+ghost use Rattle.mdp_edge.specs.{Faults.{FaultCounted}, Bytes.{Gave}};
 
 /// A call of a source or a sink that failed.
 #[derive(Clone, Copy)]

@@ -1,5 +1,4 @@
-ghost use Rattle.std.specs.Prelude.{◌≡◌, ◌≤◌, ◌<◌, length, IfOk, OnOk, OnErr, None};
-ghost use Rattle.std.specs.Io.KnownBytes.{Keeps, WriteAppends};
+ghost use Rattle.std.specs.{Prelude.{◌≡◌, ◌≤◌, ◌<◌, length, IfOk, OnOk, OnErr, None}, Io.KnownBytes.{Keeps, WriteAppends}};
 ghost use Rattle.mdp_edge.specs.Faults.{one_more, last_count};
 
 use crate::retrying::{flush_retrying, write_retrying};
@@ -17,8 +16,7 @@ pub struct StdSink<W> {
 
 impl<W> Model for StdSink<W> {
     ghost use Rattle.std.specs.Prelude.{◌≤◌};
-    ghost use Rattle.mdp_edge.specs.Faults.{last_count};
-    ghost use Rattle.mdp_edge.specs.Kinds.{Outside};
+    ghost use Rattle.mdp_edge.specs.{Faults.{last_count}, Kinds.{Outside}};
 
     ghost Value = { Outside W };
 

@@ -1,5 +1,4 @@
-ghost use Rattle.std.specs.Prelude.{◌≡◌, ◌≤◌, ◌<◌, length, is_some, IsNone, option_and_then, IfOk, IsErr, OnOk, OnErr, None};
-ghost use Rattle.std.specs.Io.KnownBytes.{ReadConsumes};
+ghost use Rattle.std.specs.{Prelude.{◌≡◌, ◌≤◌, ◌<◌, length, is_some, IsNone, option_and_then, IfOk, IsErr, OnOk, OnErr, None}, Io.KnownBytes.{ReadConsumes}};
 ghost use Rattle.mdp_edge.specs.Faults.{one_more, last_count};
 
 use crate::retrying::read_retrying;
@@ -16,8 +15,7 @@ pub struct StdSource<R> {
 
 impl<R> Model for StdSource<R> {
     ghost use Rattle.std.specs.Prelude.{◌≤◌};
-    ghost use Rattle.mdp_edge.specs.Faults.{last_count};
-    ghost use Rattle.mdp_edge.specs.Kinds.{Opened};
+    ghost use Rattle.mdp_edge.specs.{Faults.{last_count}, Kinds.{Opened}};
 
     ghost Value = { Opened R };
 

@@ -1,6 +1,5 @@
 ghost use Rattle.std.specs.Prelude.{◌≡◌, ◌≤◌, OnOk, OnErr};
-ghost use Rattle.mdp_edge.specs.Faults.{FaultCounted};
-ghost use Rattle.mdp_edge.specs.Bytes.{TookAll, TookPrefix};
+ghost use Rattle.mdp_edge.specs.{Faults.{FaultCounted}, Bytes.{TookAll, TookPrefix}};
 
 use crate::sink::Sink;
 

@@ -1,21 +1,13 @@
 -- A term past width is at the step of an active state: the value of any other is 0, and no equation has an entry to it.
 use Rattle.std.proofs.Common.{◌≡◌, ℕ, zero, suc, ◌<◌, Bool, true, false, List, [], ◌∷◌, length, take, get_or}
-use Rattle.std.proofs.Common.{refl, sym, ◌∙◌, ap, subst, arith, Option, Some, None, Result, Ok, Err, if◌then◌else◌}
-use Rattle.std.proofs.lemmas.List.{length-take-le, get_or-take}
-use Rattle.mdp_math.specs.Rational.{ℚ}
-use Rattle.mdp_math.specs.Written.{◌>>=◌}
+use Rattle.std.proofs.{Common.{refl, sym, ◌∙◌, ap, subst, arith, Option, Some, None, Result, Ok, Err, if◌then◌else◌}, lemmas.List.{length-take-le, get_or-take}}
+use Rattle.mdp_math.specs.{Rational.{ℚ}, Written.{◌>>=◌}}
 use Rattle.mdp_spec.specs.Mdp.{Entry}
-use Rattle.mdp_elim.specs.Equation.{Equation, Values, no_equation}
-use Rattle.mdp_elim.specs.Entries.{entry_to, each}
+use Rattle.mdp_elim.specs.{Equation.{Equation, Values, no_equation}, Entries.{entry_to, each}}
 use Rattle.mdp_elim.specs.Elimination.{divided, substituted, Eliminated, eliminated, evaluated, at_state, ◌and_then◌, solution}
-use Rattle.mdp_elim.specs.System.{is_active, row_of, inner, system}
-use Rattle.mdp_elim.specs.Predecessors.{at}
-use Rattle.mdp_elim.proofs.RowSums.{some_part}
-use Rattle.mdp_elim.proofs.Merge.{without_none}
-use Rattle.mdp_elim.proofs.Targets.{Targets, from_targets, targets-solved, targets-substituted, leads-entry}
-use Rattle.mdp_elim.proofs.Putting.{no_change, each-from}
-use Rattle.mdp_elim.proofs.Equations.{eliminated-some}
-use Rattle.mdp_elim.proofs.Step.{each_at, each_len}
+use Rattle.mdp_elim.specs.{System.{is_active, row_of, inner, system}, Predecessors.{at}}
+use Rattle.mdp_elim.proofs.{RowSums.{some_part}, Merge.{without_none}, Targets.{Targets, from_targets, targets-solved, targets-substituted, leads-entry}}
+use Rattle.mdp_elim.proofs.{Putting.{no_change, each-from}, Equations.{eliminated-some}, Step.{each_at, each_len}}
 use Rattle.mdp_elim.proofs.Leaving.{at_active, at_inactive, length-system}
 
 some_same : {A : Type 0} (x y : A) → Some x ≡ Some y → x ≡ y

@@ -1,13 +1,9 @@
 -- The equations of a chain, made from its rows one after the other.
 use Rattle.std.proofs.Common.{◌≡◌, ℕ, zero, suc, ◌+◌, ◌<◌, Bool, true, false, List, [], ◌∷◌, ◌++◌, length}
-use Rattle.std.proofs.Common.{drop, get_or, refl, sym, ◌∙◌, ap, ap₂, subst, arith, if◌then◌else◌, Result, Ok, Err}
-use Rattle.std.proofs.lemmas.List.{append_assoc}
+use Rattle.std.proofs.{Common.{drop, get_or, refl, sym, ◌∙◌, ap, ap₂, subst, arith, if◌then◌else◌, Result, Ok, Err}, lemmas.List.{append_assoc}}
 use Rattle.mdp_math.specs.Rational.{ℚ}
-use Rattle.mdp_spec.specs.Mdp.{Entry}
-use Rattle.mdp_spec.specs.Row.{entries}
-use Rattle.mdp_elim.specs.Equation.{Equation, Values, no_equation}
-use Rattle.mdp_elim.specs.Elimination.{solution}
-use Rattle.mdp_elim.specs.System.{is_active, row_of, inner, column_at, equation_of, system}
+use Rattle.mdp_spec.specs.{Mdp.{Entry}, Row.{entries}}
+use Rattle.mdp_elim.specs.{Equation.{Equation, Values, no_equation}, Elimination.{solution}, System.{is_active, row_of, inner, column_at, equation_of, system}}
 use Rattle.mdp_elim.specs.Solve.{kept, columns_of, written_solution}
 
 pub entries_next : (ts : List ℕ) (ps : List ℚ) (i t : ℕ) (p : ℚ) → i < length ts → length ts ≡ length ps → t ≡ get_or ts i t → p ≡ get_or ps i p

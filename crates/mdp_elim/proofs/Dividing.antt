@@ -1,20 +1,9 @@
 -- The equation of a state can be divided also where those of smaller states can't be solved so far: they don't matter.
 use Rattle.std.proofs.Common.{◌≡◌, ◌≢◌, ℕ, zero, suc, ◌-◌, ◌<◌, ◌≤◌, ◌⊎◌, inl, inr, List, [], ◌∷◌, length, Some, refl, sym, ◌∙◌, ap, ap₂, subst, arith, pos}
-use Rattle.mdp_math.specs.Rational.{ℚ, of_int, ◌+ℚ◌, ◌*ℚ◌, ◌-ℚ◌, inv_ℚ, ◌<ℚ◌}
-use Rattle.mdp_math.specs.Pivot.{pivoted, HasPivots}
-use Rattle.mdp_math.proofs.Numbers.{le_or}
-use Rattle.mdp_math.proofs.Ring.{◌⊕◌, ◌⊗◌, lit}
-use Rattle.mdp_math.proofs.Linear.{combine, equal}
-use Rattle.mdp_math.proofs.Order.{0ℚ, 1ℚ}
-use Rattle.mdp_math.proofs.Whole.{one-pos}
-use Rattle.mdp_elim.specs.Equation.{Equation, no_equation}
-use Rattle.mdp_elim.specs.Entries.{Between, entry_to}
-use Rattle.mdp_elim.specs.Predecessors.{at, LeadBelow}
-use Rattle.mdp_elim.specs.Kept.{put_in, solved_at}
-use Rattle.mdp_elim.proofs.Law.{unit, matrix, all_below, can_eliminate}
-use Rattle.mdp_elim.proofs.RowSums.{over}
-use Rattle.mdp_elim.proofs.PutIn.{put_none}
-use Rattle.mdp_elim.proofs.OneByOne.{own-not_one}
+use Rattle.mdp_math.specs.{Rational.{ℚ, of_int, ◌+ℚ◌, ◌*ℚ◌, ◌-ℚ◌, inv_ℚ, ◌<ℚ◌}, Pivot.{pivoted, HasPivots}}
+use Rattle.mdp_math.proofs.{Numbers.{le_or}, Ring.{◌⊕◌, ◌⊗◌, lit}, Linear.{combine, equal}, Order.{0ℚ, 1ℚ}, Whole.{one-pos}}
+use Rattle.mdp_elim.specs.{Equation.{Equation, no_equation}, Entries.{Between, entry_to}, Predecessors.{at, LeadBelow}, Kept.{put_in, solved_at}}
+use Rattle.mdp_elim.proofs.{Law.{unit, matrix, all_below, can_eliminate}, RowSums.{over}, PutIn.{put_none}, OneByOne.{own-not_one}}
 
 -- no equations for the states below t
 masked : ℕ → List Equation → List Equation

@@ -1,19 +1,13 @@
 -- An equation that is divided, and one that is added to another, step by step.
 use Rattle.std.proofs.Common.{◌≡◌, ◌≢◌, ◌++◌, ℕ, zero, suc, length, take, get_or, ap, arith, List, Option, Some, None, refl, sym, ◌∙◌, pos, negsuc, [], ◌∷◌}
 use Rattle.std.specs.List.{remove}
-use Rattle.mdp_math.specs.Rational.{ℚ, neg_ℚ}
-use Rattle.mdp_math.specs.Written.{written_add, written_mul, ◌>>=◌}
-use Rattle.mdp_math.proofs.Written.{written_add-some}
-use Rattle.mdp_math.proofs.Ring.{◌⊕◌, ⊖, lit}
-use Rattle.mdp_math.proofs.Linear.{combine, equal}
-use Rattle.mdp_math.proofs.Order.{0ℚ, 1ℚ}
+use Rattle.mdp_math.specs.{Rational.{ℚ, neg_ℚ}, Written.{written_add, written_mul, ◌>>=◌}}
+use Rattle.mdp_math.proofs.{Written.{written_add-some}, Ring.{◌⊕◌, ⊖, lit}, Linear.{combine, equal}, Order.{0ℚ, 1ℚ}}
 use Rattle.mdp_num.specs.Written.{written_sub, written_div}
-use Rattle.mdp_spec.specs.Mdp.{Entry}
-use Rattle.mdp_spec.specs.Written.{written_sum}
-use Rattle.mdp_elim.specs.Equation.{Equation, Values, no_equation}
-use Rattle.mdp_elim.specs.Entries.{each, divided_entry, plus_row}
-use Rattle.mdp_elim.proofs.Zeros.{bind_none, bind_some}
+use Rattle.mdp_spec.specs.{Mdp.{Entry}, Written.{written_sum}}
+use Rattle.mdp_elim.specs.{Equation.{Equation, Values, no_equation}, Entries.{each, divided_entry, plus_row}}
 use Rattle.mdp_elim.specs.Elimination.{evaluated, divided_rest, plus_equation, divided, substituted, Eliminated, eliminated}
+use Rattle.mdp_elim.proofs.Zeros.{bind_none, bind_some}
 
 pub one_less-nonzero : (p u : ℚ) → p ≢ 1ℚ → Some u ≡ written_sub 1ℚ p → u ≢ 0ℚ
 one_less-nonzero p u h e z = h (combine 2 (λ p u. p) (λ p u. lit (pos 1))

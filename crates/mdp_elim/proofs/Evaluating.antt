@@ -1,26 +1,14 @@
 -- The solved equations of some states are evaluated, from the least of these states on.
 use Rattle.std.proofs.Common.{◌≡◌, ◌≢◌, ℕ, zero, suc, ◌+◌, ◌-◌, ◌<◌, ◌≤◌, ◌⊎◌, inl, inr, false, true, List, [], ◌∷◌}
-use Rattle.std.proofs.Common.{◌++◌, length, take, get_or, Option, Some, None, Result, Ok, Err, refl, sym, ◌∙◌, ap, ap₂, subst, arith}
-use Rattle.std.proofs.Math.ListN.{set}
-use Rattle.std.proofs.Math.Seq.{take-suc}
-use Rattle.std.proofs.lemmas.Bool.{false≢true}
-use Rattle.std.proofs.lemmas.List.{get_or-take, get_or-set_same, get_or-set_other, length-set, take_all}
-use Rattle.mdp_math.specs.Rational.{ℚ}
-use Rattle.mdp_math.specs.Written.{◌>>=◌}
-use Rattle.mdp_math.proofs.Numbers.{le_or}
-use Rattle.mdp_math.proofs.Order.{0ℚ}
-use Rattle.mdp_spec.specs.Mdp.{Entry, value_at}
-use Rattle.mdp_spec.specs.Written.{written_sum}
+use Rattle.std.proofs.{Common.{◌++◌, length, take, get_or, Option, Some, None, Result, Ok, Err, refl, sym, ◌∙◌, ap, ap₂, subst, arith}, Math.ListN.{set}}
+use Rattle.std.proofs.{Math.Seq.{take-suc}, lemmas.Bool.{false≢true}, lemmas.List.{get_or-take, get_or-set_same, get_or-set_other, length-set, take_all}}
+use Rattle.mdp_math.specs.{Rational.{ℚ}, Written.{◌>>=◌}}
+use Rattle.mdp_math.proofs.{Numbers.{le_or}, Order.{0ℚ}}
+use Rattle.mdp_spec.specs.{Mdp.{Entry, value_at}, Written.{written_sum}}
 use Rattle.mdp_rows.specs.Preds.{is_among}
-use Rattle.mdp_elim.specs.Equation.{Equation, Values}
-use Rattle.mdp_elim.specs.Entries.{Between}
-use Rattle.mdp_elim.specs.Elimination.{evaluated, at_state, ◌and_then◌}
-use Rattle.mdp_elim.specs.Predecessors.{at}
+use Rattle.mdp_elim.specs.{Equation.{Equation, Values}, Entries.{Between}, Elimination.{evaluated, at_state, ◌and_then◌}, Predecessors.{at}}
 use Rattle.mdp_elim.specs.Kept.{LeadToSmaller, AreValues, HasValue, Ascend, StayOutside, OthersHaveValues, values_by}
-use Rattle.mdp_elim.proofs.RowSums.{between-below}
-use Rattle.mdp_elim.proofs.Targets.{Targets, to_targets}
-use Rattle.mdp_elim.proofs.Lists.{one_or_two}
-use Rattle.mdp_elim.proofs.Equations.{evaluated-some}
+use Rattle.mdp_elim.proofs.{RowSums.{between-below}, Targets.{Targets, to_targets}, Lists.{one_or_two}, Equations.{evaluated-some}}
 use Rattle.mdp_elim.proofs.Others.{not-among, among-at, written_sum-same}
 
 more_targets : (P Q : ℕ → Type 0) → ((t : ℕ) → P t → Q t) → (row : List Entry) → Targets P row → Targets Q row

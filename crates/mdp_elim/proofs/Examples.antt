@@ -1,22 +1,17 @@
 -- Computations of the definitions.
 use Rattle.std.proofs.Common.{◌≡◌, ℕ, zero, suc, ◌<◌, ◌-◌, ◌^◌, List, [], ◌∷◌, Bool, true, false, Some, Ok, Err, refl, subst, pos, arith}
 use Rattle.std.specs.List.{All}
-use Rattle.mdp_math.specs.Gcd.{gcd, gcd_with_fuel}
-use Rattle.mdp_math.specs.Rational.{ℚ, of_int, ratio, ◌+ℚ◌, ◌*ℚ◌, neg_ℚ, inv_ℚ, ◌-ℚ◌, ◌<ℚ◌}
+use Rattle.mdp_math.specs.{Gcd.{gcd, gcd_with_fuel}, Rational.{ℚ, of_int, ratio, ◌+ℚ◌, ◌*ℚ◌, neg_ℚ, inv_ℚ, ◌-ℚ◌, ◌<ℚ◌}}
 use Rattle.mdp_math.specs.Written.{written_add, written_mul, narrow, narrow_ℚ}
 use Rattle.mdp_math.proofs.Order.{<ℚ_irrefl}
 use Rattle.mdp_spec.specs.Mdp.{Entry}
 use Rattle.mdp_spec.proofs.Small.{entry, half, quarter}
-use Rattle.mdp_elim.specs.Equation.{Equation}
-use Rattle.mdp_elim.specs.Entries.{Between, without}
-use Rattle.mdp_elim.specs.Elimination.{divided_rest, plus_equation, eliminated, evaluated, solution, DividesByPositive}
-use Rattle.mdp_elim.specs.Predecessors.{at}
-use Rattle.mdp_elim.specs.Kept.{Kept, IsKept, HasValue, DifferAt, solved_at}
+use Rattle.mdp_elim.specs.{Equation.{Equation}, Entries.{Between, without}}
+use Rattle.mdp_elim.specs.{Elimination.{divided_rest, plus_equation, eliminated, evaluated, solution, DividesByPositive}, Predecessors.{at}}
+use Rattle.mdp_elim.specs.{Kept.{Kept, IsKept, HasValue, DifferAt, solved_at}, System.{equation_of}, Solve.{written_solution}}
+use Rattle.mdp_elim.specs.Visits.{transposed, written_visits}
 use Rattle.mdp_elim.proofs.Targets.{from_targets}
 use Rattle.mdp_rows.specs.Preds.{is_among}
-use Rattle.mdp_elim.specs.System.{equation_of}
-use Rattle.mdp_elim.specs.Solve.{written_solution}
-use Rattle.mdp_elim.specs.Visits.{transposed, written_visits}
 
 -- three states: 0 stays with 1/2 and goes to 1 and 2 with 1/4 each, 1 goes to 0 with 1/3 and to 2 with 2/3, and 2 stays
 abbrev three : List (List Entry)

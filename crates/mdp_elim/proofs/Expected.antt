@@ -1,30 +1,20 @@
 -- The system of the transposed rows, as it is made, and that its values are the expected visits.
 use Rattle.std.proofs.Common.{◌≡◌, ◌≢◌, ℕ, suc, ◌⊎◌, inl, inr, map, eq-eqb, ◌+◌, ◌<◌, Bool, true, false, List, [], ◌∷◌, ◌++◌}
 use Rattle.std.proofs.Common.{length, drop, get_or, refl, sym, ◌∙◌, ap, ap₂, subst, arith, eqb, if◌then◌else◌, pos, zero-add, Result, Ok, Err}
-use Rattle.std.specs.List.{flat_map, range_with_len}
-use Rattle.std.proofs.Math.ListN.{set}
-use Rattle.std.proofs.lemmas.Bool.{ne_eqb}
-use Rattle.std.proofs.lemmas.List.{append_assoc, append-nil, ext_get_or, get_or-set_same, get_or-set_other}
+use Rattle.std.proofs.{Math.ListN.{set}, lemmas.Bool.{ne_eqb}, lemmas.List.{append_assoc, append-nil, ext_get_or, get_or-set_same, get_or-set_other}}
 use Rattle.std.proofs.lemmas.List.FromFn.{get_or-map-range_with_len}
-use Rattle.mdp_math.specs.Rational.{ℚ, of_int, ◌+ℚ◌}
-use Rattle.mdp_math.specs.Pivot.{active_below, entry_at, HasPivots}
-use Rattle.mdp_spec.specs.Mdp.{Entry, value_at}
-use Rattle.mdp_spec.specs.Row.{AreRows, entries}
-use Rattle.mdp_elim.specs.Equation.{Equation, Values, no_equation}
-use Rattle.mdp_elim.specs.Elimination.{solution, CanEliminate, DividesByPositive}
-use Rattle.mdp_elim.specs.System.{is_active, row_of, inner, system, Leaves}
-use Rattle.mdp_elim.specs.Solve.{kept}
+use Rattle.std.specs.List.{flat_map, range_with_len}
+use Rattle.mdp_math.specs.{Rational.{ℚ, of_int, ◌+ℚ◌}, Pivot.{active_below, entry_at, HasPivots}}
+use Rattle.mdp_spec.specs.{Mdp.{Entry, value_at}, Row.{AreRows, entries}}
+use Rattle.mdp_elim.specs.{Equation.{Equation, Values, no_equation}, Elimination.{solution, CanEliminate, DividesByPositive}}
+use Rattle.mdp_elim.specs.{System.{is_active, row_of, inner, system, Leaves}, Solve.{kept}}
 use Rattle.mdp_elim.specs.Visits.{entries_into, transposed, one_at, unit_column, row_into, with_row, start_equation, visits_below, written_visits, step, AreVisits}
-use Rattle.mdp_elim.specs.Entries.{Between}
-use Rattle.mdp_elim.specs.Predecessors.{at, LeadBelow}
-use Rattle.mdp_elim.proofs.Lists.{one_or_two}
-use Rattle.mdp_elim.proofs.RowSums.{over}
-use Rattle.mdp_elim.proofs.Law.{unit, matrix, all_below, can_eliminate, divides_by_positive, solution_solves}
-use Rattle.mdp_elim.proofs.Chains.{entries_next}
-use Rattle.mdp_math.proofs.Lists.{flat_more}
-use Rattle.mdp_elim.proofs.RowsInto.{over-row_into, between-row_into, one_term, length-transposed, row_of-transposed}
+use Rattle.mdp_elim.specs.{Entries.{Between}, Predecessors.{at, LeadBelow}}
+use Rattle.mdp_elim.proofs.{Lists.{one_or_two}, RowSums.{over}, Law.{unit, matrix, all_below, can_eliminate, divides_by_positive, solution_solves}}
+use Rattle.mdp_elim.proofs.{Chains.{entries_next}, RowsInto.{over-row_into, between-row_into, one_term, length-transposed, row_of-transposed}}
 use Rattle.mdp_elim.proofs.Active.{wide_active}
 use Rattle.mdp_elim.proofs.Leaving.{at_active, at_inactive, active-below, length-system, down-system, matrix-active, matrix-inactive, all_pivots, first_solves, chain_pivots_transposed, row_between}
+use Rattle.mdp_math.proofs.Lists.{flat_more}
 
 -- ---- the entries of one row
 

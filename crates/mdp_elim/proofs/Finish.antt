@@ -2,10 +2,8 @@
 use Rattle.std.proofs.Common.{◌≡◌, ℕ, suc, ◌+◌, ◌<◌, List, [], ◌∷◌, ◌++◌, length, Some, None, Result, Ok, Err, refl, sym, ◌∙◌, ap, subst, arith}
 use Rattle.std.proofs.lemmas.List.{length-append}
 use Rattle.std.specs.List.{All}
-use Rattle.mdp_elim.specs.Equation.{Equation, Values}
-use Rattle.mdp_elim.specs.Elimination.{CanEliminate, evaluated, at_state, ◌and_then◌, eliminated, Eliminated, solution}
-use Rattle.mdp_elim.specs.Finish.{finish, LeadDown, placed}
-use Rattle.mdp_elim.specs.Errors.{StepError, ElimError}
+use Rattle.mdp_elim.specs.{Equation.{Equation, Values}, Elimination.{CanEliminate, evaluated, at_state, ◌and_then◌, eliminated, Eliminated, solution}}
+use Rattle.mdp_elim.specs.{Finish.{finish, LeadDown, placed}, Errors.{StepError, ElimError}}
 use Rattle.mdp_wide.specs.declared.unfinished.Unfinished.TheVariants as error
 
 then_then : (r : Result Values ℕ) (f g : Values → Result Values ℕ) → ((r and_then f) and_then g) ≡ (r and_then (λ v. f v and_then g))

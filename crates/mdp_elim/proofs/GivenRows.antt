@@ -1,11 +1,9 @@
 -- The targets of a row that is given as a list of targets and one of probabilities.
-use Rattle.std.proofs.Common.{◌≡◌, ℕ, ◌<◌, List, [], ◌∷◌, length, arith}
+use Rattle.std.proofs.{Common.{◌≡◌, ℕ, ◌<◌, List, [], ◌∷◌, length, arith}, lemmas.List.Elements.{All-nil, All-cons}}
 use Rattle.std.specs.List.{All}
-use Rattle.std.proofs.lemmas.List.Elements.{All-nil, All-cons}
 use Rattle.mdp_math.specs.Rational.{ℚ}
 use Rattle.mdp_math.proofs.Kernel.{All-head, All-tail}
-use Rattle.mdp_spec.specs.Mdp.{Entry}
-use Rattle.mdp_spec.specs.Row.{entries}
+use Rattle.mdp_spec.specs.{Mdp.{Entry}, Row.{entries}}
 
 -- the targets of a row
 pub targets_below : (n : ℕ) (ts : List ℕ) (ps : List ℚ) → length ts ≡ length ps → All (λ x. x.target < n) (entries ts ps) → All (λ t. t < n) ts

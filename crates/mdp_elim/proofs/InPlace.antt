@@ -1,15 +1,11 @@
 -- An addition to an entry that a row has is made in place.
 use Rattle.std.proofs.Common.{◌≡◌, ℕ, zero, suc, ◌<◌, ◌≤◌, Bool, true, false, List, [], ◌∷◌, length, get_or}
-use Rattle.std.proofs.Common.{refl, sym, ◌∙◌, ap, subst, arith, ◌==◌, eqb, nat_le, Option, Some, None, if◌then◌else◌, pos}
-use Rattle.std.proofs.Math.ListN.{set}
-use Rattle.std.proofs.lemmas.Bool.{le-leb}
-use Rattle.std.proofs.lemmas.Bool.Decides.{nat_tests}
-use Rattle.mdp_math.specs.Rational.{ℚ, of_int}
-use Rattle.mdp_math.specs.Written.{written_add, written_mul, ◌>>=◌}
+use Rattle.std.proofs.{Common.{refl, sym, ◌∙◌, ap, subst, arith, ◌==◌, eqb, nat_le, Option, Some, None, if◌then◌else◌, pos}, Math.ListN.{set}}
+use Rattle.std.proofs.{lemmas.Bool.{le-leb}, lemmas.Bool.Decides.{nat_tests}}
+use Rattle.mdp_math.specs.{Rational.{ℚ, of_int}, Written.{written_add, written_mul, ◌>>=◌}}
 use Rattle.mdp_spec.specs.Mdp.{Entry}
 use Rattle.mdp_elim.specs.Entries.{Between, LeadsAt, plus_entry, plus_row}
-use Rattle.mdp_elim.proofs.Merge.{entry, not_le}
-use Rattle.mdp_elim.proofs.RowSums.{between-lower, between-plus_entry}
+use Rattle.mdp_elim.proofs.{Merge.{entry, not_le}, RowSums.{between-lower, between-plus_entry}}
 
 -- targets are no less than low
 pub at_least : (low high i : ℕ) (row : List Entry) (d : Entry) → Between low high row → i < length row → low ≤ Entry.target (get_or row i d)

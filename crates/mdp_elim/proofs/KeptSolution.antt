@@ -1,11 +1,8 @@
 -- What is kept of a system is its solution.
 use Rattle.std.proofs.Common.{◌≡◌, ℕ, List, length, Ok, Some, refl, sym, ◌∙◌, ap, subst, arith, inr}
-use Rattle.mdp_elim.specs.Equation.{Equation}
-use Rattle.mdp_elim.specs.Elimination.{solution}
-use Rattle.mdp_elim.specs.Predecessors.{at}
+use Rattle.mdp_elim.specs.{Equation.{Equation}, Elimination.{solution}, Predecessors.{at}}
 use Rattle.mdp_elim.specs.Kept.{Kept, AreSolved, IsKept, HasRoom, DifferAt, CanServe, solved_at, values_by}
-use Rattle.mdp_elim.proofs.OneByOne.{solution-solved}
-use Rattle.mdp_elim.proofs.Evaluating.{values-all}
+use Rattle.mdp_elim.proofs.{OneByOne.{solution-solved}, Evaluating.{values-all}}
 
 module _ (equations : List Equation) where
   -- the values by the solved equations

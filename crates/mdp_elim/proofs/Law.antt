@@ -1,23 +1,12 @@
 -- Where the pivots of a system are above 0, each elimination can be made, and the values that come out solve the system.
 use Rattle.std.proofs.Common.{◌≡◌, ℕ, zero, suc, ◌<◌, ◌⊎◌, inl, inr, Bool, true, List, [], ◌∷◌, ◌++◌, length, Option}
 use Rattle.std.proofs.Common.{Some, None, Result, Ok, Err, refl, sym, ◌∙◌, ap, ap₂, subst, arith, eqb, if◌then◌else◌, pos, negsuc}
-use Rattle.std.proofs.Math.Seq.{get_or-append_seam}
-use Rattle.std.proofs.lemmas.List.{get_or_append_left, length-append}
-use Rattle.mdp_math.specs.Rational.{ℚ, ◌+ℚ◌, ◌*ℚ◌, ◌-ℚ◌, inv_ℚ, ◌<ℚ◌}
-use Rattle.mdp_math.specs.Pivot.{pivoted, active_below, HasPivots}
-use Rattle.mdp_math.proofs.Numbers.{last_or, eqb-same, eqb-smaller, eqb-greater}
-use Rattle.mdp_math.proofs.Ring.{◌⊕◌, ◌⊗◌, ⊖, lit, ring}
-use Rattle.mdp_math.proofs.Linear.{combine, equal}
-use Rattle.mdp_math.proofs.Laws.{rat_ring}
-use Rattle.mdp_math.proofs.Order.{0ℚ, 1ℚ, <ℚ_irrefl, sub-pos}
-use Rattle.mdp_math.proofs.Division.{mul-inv_pos}
-use Rattle.mdp_math.proofs.Written.{written_add-some, written_mul-some}
-use Rattle.mdp_math.specs.Written.{written_add, written_mul, ◌>>=◌}
-use Rattle.mdp_spec.specs.Mdp.{Entry, value_at}
-use Rattle.mdp_spec.specs.Written.{written_sum}
-use Rattle.mdp_elim.specs.Equation.{Equation, Values}
-use Rattle.mdp_elim.specs.Entries.{Between, without}
-use Rattle.mdp_elim.specs.Predecessors.{at, LeadBelow}
+use Rattle.std.proofs.{Math.Seq.{get_or-append_seam}, lemmas.List.{get_or_append_left, length-append}}
+use Rattle.mdp_math.specs.{Rational.{ℚ, ◌+ℚ◌, ◌*ℚ◌, ◌-ℚ◌, inv_ℚ, ◌<ℚ◌}, Pivot.{pivoted, active_below, HasPivots}, Written.{written_add, written_mul, ◌>>=◌}}
+use Rattle.mdp_math.proofs.{Numbers.{last_or, eqb-same, eqb-smaller, eqb-greater}, Ring.{◌⊕◌, ◌⊗◌, ⊖, lit, ring}, Linear.{combine, equal}, Laws.{rat_ring}}
+use Rattle.mdp_math.proofs.{Order.{0ℚ, 1ℚ, <ℚ_irrefl, sub-pos}, Division.{mul-inv_pos}, Written.{written_add-some, written_mul-some}}
+use Rattle.mdp_spec.specs.{Mdp.{Entry, value_at}, Written.{written_sum}}
+use Rattle.mdp_elim.specs.{Equation.{Equation, Values}, Entries.{Between, without}, Predecessors.{at, LeadBelow}}
 use Rattle.mdp_elim.specs.Elimination.{eliminated, Eliminated, evaluated, solution, at_state, ◌and_then◌, no_values, CanEliminate, DividesByPositive}
 use Rattle.mdp_elim.proofs.RowSums.{over, or_zero, over-split, over-same, some_part, between-without, between-below}
 use Rattle.mdp_elim.proofs.Step.{factor, IsEliminated, eliminated-is}

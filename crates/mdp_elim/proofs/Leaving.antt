@@ -1,34 +1,18 @@
 -- Where a chain leaves its active states, the pivots of its system are above 0.
 use Rattle.std.proofs.Common.{◌≡◌, ℕ, zero, suc, ◌+◌, ◌<◌, ◌≤◌, ◌⊎◌, inl, inr, Bool, true, false, List, [], ◌∷◌, length}
 use Rattle.std.proofs.Common.{get_or, Ok, refl, sym, ◌∙◌, ap, ap₂, subst, arith, eqb, nat_le, ◌&&◌, if◌then◌else◌, pos, zero-add, IsTrue}
-use Rattle.std.specs.List.{All, Any, filter}
-use Rattle.std.proofs.Math.ListN.{get_or-eq_default}
-use Rattle.std.proofs.lemmas.List.FromFn.{get_or-map-range_with_len, length-map-range_with_len}
+use Rattle.std.proofs.{Math.ListN.{get_or-eq_default}, lemmas.List.FromFn.{get_or-map-range_with_len, length-map-range_with_len}}
 use Rattle.std.proofs.lemmas.Bool.{ne_eqb, leb-true}
-use Rattle.mdp_math.specs.Rational.{ℚ, ◌+ℚ◌, ◌*ℚ◌, ◌-ℚ◌, inv_ℚ, ◌≤ℚ◌, ◌<ℚ◌}
-use Rattle.mdp_math.specs.Sum.{sum_of}
-use Rattle.mdp_math.specs.Pivot.{pivoted, active_below, entry_at, HasPivots}
-use Rattle.mdp_math.proofs.Numbers.{le_or}
-use Rattle.mdp_math.proofs.Ring.{◌⊕◌, ◌⊗◌, ⊖, lit, ring}
-use Rattle.mdp_math.proofs.Linear.{combine, equal}
-use Rattle.mdp_math.proofs.Laws.{rat_ring}
-use Rattle.mdp_math.proofs.Order.{0ℚ, 1ℚ, ≤ℚ_of_lt, ≤ℚ_of_eq}
-use Rattle.mdp_math.proofs.Whole.{one-pos}
-use Rattle.mdp_math.proofs.Sums.{sum_of-same}
-use Rattle.mdp_math.proofs.Kernel.{Any-and, All-head, All-tail}
-use Rattle.mdp_math.proofs.Floors.{positive_floor_lists, greatest_rank}
-use Rattle.mdp_math.proofs.Weight.{Shrinks, RanksFall, shrinks_by_ranks}
-use Rattle.mdp_math.proofs.Elimination.{kernel_pivots, kernel_pivots_transposed}
-use Rattle.mdp_spec.specs.Mdp.{Entry, value_at}
-use Rattle.mdp_spec.specs.Row.{IsRow, AreRows, ascends_from}
+use Rattle.std.specs.List.{All, Any, filter}
+use Rattle.mdp_math.specs.{Rational.{ℚ, ◌+ℚ◌, ◌*ℚ◌, ◌-ℚ◌, inv_ℚ, ◌≤ℚ◌, ◌<ℚ◌}, Sum.{sum_of}, Pivot.{pivoted, active_below, entry_at, HasPivots}}
+use Rattle.mdp_math.proofs.{Numbers.{le_or}, Ring.{◌⊕◌, ◌⊗◌, ⊖, lit, ring}, Linear.{combine, equal}, Laws.{rat_ring}, Order.{0ℚ, 1ℚ, ≤ℚ_of_lt, ≤ℚ_of_eq}}
+use Rattle.mdp_math.proofs.{Whole.{one-pos}, Sums.{sum_of-same}, Kernel.{Any-and, All-head, All-tail}, Floors.{positive_floor_lists, greatest_rank}}
+use Rattle.mdp_math.proofs.{Weight.{Shrinks, RanksFall, shrinks_by_ranks}, Elimination.{kernel_pivots, kernel_pivots_transposed}}
+use Rattle.mdp_spec.specs.{Mdp.{Entry, value_at}, Row.{IsRow, AreRows, ascends_from}}
 use Rattle.mdp_elim.specs.Equation.{Equation, Values, no_equation}
-use Rattle.mdp_elim.specs.System.{is_active, row_of, inner, column_at, equation_of, system, Leaves, IsSolution, SolveEach}
-use Rattle.mdp_elim.specs.Solve.{columns_of}
-use Rattle.mdp_elim.specs.Elimination.{solution, CanEliminate, DividesByPositive}
-use Rattle.mdp_elim.proofs.RowSums.{over, between-lower}
-use Rattle.mdp_elim.specs.Entries.{Between}
-use Rattle.mdp_elim.specs.Predecessors.{at, LeadBelow}
-use Rattle.mdp_elim.proofs.Law.{unit, matrix, all_below, Solved, can_eliminate, divides_by_positive, solution_solves}
+use Rattle.mdp_elim.specs.{System.{is_active, row_of, inner, column_at, equation_of, system, Leaves, IsSolution, SolveEach}, Solve.{columns_of}}
+use Rattle.mdp_elim.specs.{Elimination.{solution, CanEliminate, DividesByPositive}, Entries.{Between}, Predecessors.{at, LeadBelow}}
+use Rattle.mdp_elim.proofs.{RowSums.{over, between-lower}, Law.{unit, matrix, all_below, Solved, can_eliminate, divides_by_positive, solution_solves}}
 
 -- ---- pivots over all numbers, from those over the active ones
 

@@ -1,15 +1,12 @@
 -- Lists of states to which states are added.
 use Rattle.std.proofs.Common.{◌≡◌, ◌≢◌, ℕ, zero, suc, ◌+◌, ◌<◌, ◌⊎◌, inl, inr, Bool, true, false, List, [], ◌∷◌, ◌++◌, length, get_or, refl, sym, ◌∙◌, ap, subst, arith, eqb}
-use Rattle.std.specs.List.{Contains}
-use Rattle.std.proofs.Math.ListN.{set}
-use Rattle.std.proofs.lemmas.List.{get_or-set_same, get_or-set_other, length-set}
+use Rattle.std.proofs.{Math.ListN.{set}, lemmas.List.{get_or-set_same, get_or-set_other, length-set}}
 use Rattle.std.proofs.lemmas.List.Elements.{Contains-append_left, Contains-append_right, Contains-append_cases}
+use Rattle.std.specs.List.{Contains}
 use Rattle.smallvec.specs.SmallVec.{SmallVec}
-use Rattle.mdp_elim.specs.Predecessors.{no_states, IsListed, HoldSmaller, ListsMore, ListsTargets, at}
-use Rattle.mdp_spec.specs.Mdp.{Entry}
-use Rattle.mdp_elim.specs.Entries.{Between}
-use Rattle.mdp_elim.specs.Equation.{Equation}
+use Rattle.mdp_elim.specs.{Predecessors.{no_states, IsListed, HoldSmaller, ListsMore, ListsTargets, at}, Entries.{Between}, Equation.{Equation}}
 use Rattle.mdp_elim.specs.Kept.{LeadToSmaller}
+use Rattle.mdp_spec.specs.Mdp.{Entry}
 
 same_or : (t u : ℕ) (b : Bool) → eqb u t ≡ b → (u ≡ t) ⊎ (u ≢ t)
 same_or t u true e = inl (let k : u ≡ t = grind arith in k)

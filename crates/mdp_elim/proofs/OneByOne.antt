@@ -2,19 +2,13 @@
 use Rattle.std.proofs.Common.{◌≡◌, ◌≢◌, pos, ℕ, zero, suc, ◌+◌, ◌-◌, ◌<◌, ◌≤◌, ◌⊎◌, inl, inr, List, [], ◌∷◌}
 use Rattle.std.proofs.Common.{length, take, Option, Some, None, Result, Ok, Err, get_or, refl, sym, ◌∙◌, ap, subst, arith, zero-add}
 use Rattle.std.proofs.lemmas.List.{length-take-le, get_or-take}
-use Rattle.mdp_math.specs.Rational.{of_int}
-use Rattle.mdp_math.specs.Written.{◌>>=◌}
+use Rattle.mdp_math.specs.{Rational.{of_int}, Written.{◌>>=◌}}
 use Rattle.mdp_math.proofs.Numbers.{le_or}
-use Rattle.mdp_elim.specs.Equation.{Equation, Values, no_equation}
-use Rattle.mdp_elim.specs.Entries.{entry_to, each}
+use Rattle.mdp_elim.specs.{Equation.{Equation, Values, no_equation}, Entries.{entry_to, each}}
 use Rattle.mdp_elim.specs.Elimination.{divided, substituted, eliminated, Eliminated, evaluated, at_state, ◌and_then◌, no_values, solution, CanEliminate}
-use Rattle.mdp_elim.specs.Predecessors.{at}
-use Rattle.mdp_elim.specs.Kept.{put_in, solved_at, values_by}
-use Rattle.mdp_elim.proofs.RowSums.{some_part}
-use Rattle.mdp_elim.proofs.Step.{each_at, each_len}
-use Rattle.mdp_elim.proofs.Putting.{each-none}
-use Rattle.mdp_elim.proofs.Equations.{eliminated-none_pivot, eliminated-none_rest, eliminated-some}
-use Rattle.mdp_elim.proofs.PutIn.{solved-next, solved-last}
+use Rattle.mdp_elim.specs.{Predecessors.{at}, Kept.{put_in, solved_at, values_by}}
+use Rattle.mdp_elim.proofs.{RowSums.{some_part}, Step.{each_at, each_len}, Putting.{each-none}}
+use Rattle.mdp_elim.proofs.{Equations.{eliminated-none_pivot, eliminated-none_rest, eliminated-some}, PutIn.{solved-next, solved-last}}
 
 -- a step that can be made at each place
 each-exists : {A : Type 0} (f : A → Option A) (d : A) (xs : List A) → ((t : ℕ) → t < length xs → (y : A) × (f (get_or xs t d) ≡ Some y)) → (ys : List A) × (each f xs ≡ Some ys)

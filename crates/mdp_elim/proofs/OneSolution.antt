@@ -1,34 +1,19 @@
 -- A chain that leaves its active states: its systems have exactly one solution, which written elimination gives.
 use Rattle.std.proofs.Common.{◌≡◌, ℕ, zero, suc, ◌+◌, ◌<◌, ◌≤◌, ◌⊎◌, inl, inr, Bool, true, false, List, [], ◌∷◌}
 use Rattle.std.proofs.Common.{length, map, get_or, Result, Ok, Err, refl, sym, ◌∙◌, ap, subst, arith, eqb, if◌then◌else◌, pos, zero-add}
+use Rattle.std.proofs.{Math.ListN.{get_or-eq_default}, lemmas.List.{ext_get_or}, lemmas.List.Elements.{All-contains}}
+use Rattle.std.proofs.{lemmas.List.FromFn.{get_or-map-range_with_len, length-map-range_with_len}, lemmas.Bool.{ne_eqb}}
 use Rattle.std.specs.List.{range_with_len}
-use Rattle.std.proofs.Math.ListN.{get_or-eq_default}
-use Rattle.std.proofs.lemmas.List.{ext_get_or}
-use Rattle.std.proofs.lemmas.List.Elements.{All-contains}
-use Rattle.std.proofs.lemmas.List.FromFn.{get_or-map-range_with_len, length-map-range_with_len}
-use Rattle.std.proofs.lemmas.Bool.{ne_eqb}
-use Rattle.mdp_math.specs.Rational.{ℚ, ◌+ℚ◌, ◌*ℚ◌}
-use Rattle.mdp_math.specs.Sum.{sum_of}
+use Rattle.mdp_math.specs.{Rational.{ℚ, ◌+ℚ◌, ◌*ℚ◌}, Sum.{sum_of}, Pivot.{active_below, entry_at, HasPivots}}
 use Rattle.mdp_math.specs.Pivot as pivot
-use Rattle.mdp_math.specs.Pivot.{active_below, entry_at, HasPivots}
-use Rattle.mdp_math.proofs.Numbers.{le_or}
-use Rattle.mdp_math.proofs.Ring.{◌⊕◌, ◌⊗◌, lit}
-use Rattle.mdp_math.proofs.Linear.{combine, equal}
-use Rattle.mdp_math.proofs.Order.{0ℚ}
-use Rattle.mdp_math.proofs.Sums.{sum_of-same}
-use Rattle.mdp_math.proofs.Dense.{active_below-all, active_below-contains}
-use Rattle.mdp_math.proofs.Pivots.{SolvesOn}
-use Rattle.mdp_math.proofs.Solutions.{Solves, one_solution}
+use Rattle.mdp_math.proofs.{Numbers.{le_or}, Ring.{◌⊕◌, ◌⊗◌, lit}, Linear.{combine, equal}, Order.{0ℚ}, Sums.{sum_of-same}}
+use Rattle.mdp_math.proofs.{Dense.{active_below-all, active_below-contains}, Pivots.{SolvesOn}, Solutions.{Solves, one_solution}}
 use Rattle.mdp_math.proofs.Elimination.{kernel_solution, solution-solves, solution-outside, solutions_same, active_below-apart}
 use Rattle.mdp_spec.specs.Mdp.{Entry, value_at}
-use Rattle.mdp_elim.specs.Equation.{Values}
-use Rattle.mdp_elim.specs.Elimination.{solution}
-use Rattle.mdp_elim.specs.System.{is_active, row_of, system, IsSolution, SolveEach}
-use Rattle.mdp_elim.specs.Solve.{kept, columns_of}
+use Rattle.mdp_elim.specs.{Equation.{Values}, Elimination.{solution}, System.{is_active, row_of, system, IsSolution, SolveEach}, Solve.{kept, columns_of}}
 use Rattle.mdp_elim.specs.Visits.{transposed, one_at, unit_column, step, AreVisits}
 use Rattle.mdp_elim.specs.Laws.{LeavingChain, ExactlyOne, HasOneSolution, HasPositivePivots, GivesSolutions, HasOneVisits, HasPositivePivotsTransposed, GivesVisits}
-use Rattle.mdp_elim.proofs.RowsInto.{sum_more}
-use Rattle.mdp_elim.proofs.Leaving.{active-below, chain_shrinks, chain_pivots_transposed, system-divides, solve_each}
+use Rattle.mdp_elim.proofs.{RowsInto.{sum_more}, Leaving.{active-below, chain_shrinks, chain_pivots_transposed, system-divides, solve_each}}
 use Rattle.mdp_elim.proofs.Expected.{visits-len, visits-divide, are_visits}
 
 -- ---- vectors

@@ -1,24 +1,15 @@
 -- States from which none of some states is reached: their solved equations and values don't depend on those of these states.
 use Rattle.std.proofs.Common.{◌≡◌, ◌≢◌, ℕ, zero, suc, ◌+◌, ◌-◌, ◌<◌, ◌≤◌, ◌⊎◌, inl, inr, true, false}
 use Rattle.std.proofs.Common.{List, [], ◌∷◌, length, get_or, nat_eq, Option, Some, None, refl, sym, ◌∙◌, ap, subst, pos, arith}
+use Rattle.std.proofs.{lemmas.Bool.{ne_eqb, false≢true}, Math.ListN.{set}, lemmas.List.{get_or-set_other}, lemmas.List.Folds.{list_any_at}}
 use Rattle.std.specs.List.{All}
-use Rattle.std.proofs.lemmas.Bool.{ne_eqb, false≢true}
-use Rattle.std.proofs.Math.ListN.{set}
-use Rattle.std.proofs.lemmas.List.{get_or-set_other}
-use Rattle.std.proofs.lemmas.List.Folds.{list_any_at}
-use Rattle.mdp_math.specs.Rational.{ℚ, of_int}
-use Rattle.mdp_math.specs.Written.{written_add, written_mul, ◌>>=◌}
+use Rattle.mdp_math.specs.{Rational.{ℚ, of_int}, Written.{written_add, written_mul, ◌>>=◌}}
 use Rattle.mdp_math.proofs.Numbers.{eqb-same}
-use Rattle.mdp_spec.specs.Mdp.{Entry, value_at}
-use Rattle.mdp_spec.specs.Written.{written_sum}
+use Rattle.mdp_spec.specs.{Mdp.{Entry, value_at}, Written.{written_sum}}
 use Rattle.mdp_rows.specs.Preds.{is_among}
-use Rattle.mdp_elim.specs.Equation.{Equation, no_equation}
-use Rattle.mdp_elim.specs.Entries.{entry_to}
-use Rattle.mdp_elim.specs.Elimination.{divided, rest_of, substituted, substituted_where}
-use Rattle.mdp_elim.specs.Predecessors.{at}
-use Rattle.mdp_elim.specs.Kept.{put_in, solved_at, IsKept, Kept, DifferAt, CanServe, StaySolved, StayOutside, OthersHaveValues}
-use Rattle.mdp_elim.proofs.RowSums.{some_part}
-use Rattle.mdp_elim.proofs.Targets.{Targets, to_targets, from_targets, targets-solved, targets-substituted, leads-entry}
+use Rattle.mdp_elim.specs.{Equation.{Equation, no_equation}, Entries.{entry_to}, Elimination.{divided, rest_of, substituted, substituted_where}}
+use Rattle.mdp_elim.specs.{Predecessors.{at}, Kept.{put_in, solved_at, IsKept, Kept, DifferAt, CanServe, StaySolved, StayOutside, OthersHaveValues}}
+use Rattle.mdp_elim.proofs.{RowSums.{some_part}, Targets.{Targets, to_targets, from_targets, targets-solved, targets-substituted, leads-entry}}
 use Rattle.mdp_elim.proofs.PutIn.{bind_same}
 
 -- ---- which states are among some

@@ -2,15 +2,8 @@
 use Rattle.std.proofs.Common.{◌≡◌, ℕ, zero, suc, ◌+◌, ◌-◌, ◌<◌, ◌≤◌, List, [], ◌∷◌, Option, Some, None, refl, sym, ◌∙◌, ap, subst, arith}
 use Rattle.mdp_math.specs.Written.{◌>>=◌}
 use Rattle.mdp_spec.specs.Mdp.{Entry}
-use Rattle.mdp_elim.specs.Equation.{Equation}
-use Rattle.mdp_elim.specs.Entries.{Between}
-use Rattle.mdp_elim.specs.Elimination.{divided, substituted}
-use Rattle.mdp_elim.specs.Predecessors.{at}
-use Rattle.mdp_elim.specs.Kept.{put_in, solved_at}
-use Rattle.mdp_elim.proofs.RowSums.{some_part, between-without}
-use Rattle.mdp_elim.proofs.Merge.{no_last}
-use Rattle.mdp_elim.proofs.Step.{divided-is, substituted-is}
-use Rattle.mdp_elim.proofs.Putting.{no_change}
+use Rattle.mdp_elim.specs.{Equation.{Equation}, Entries.{Between}, Elimination.{divided, substituted}, Predecessors.{at}, Kept.{put_in, solved_at}}
+use Rattle.mdp_elim.proofs.{RowSums.{some_part, between-without}, Merge.{no_last}, Step.{divided-is, substituted-is}, Putting.{no_change}}
 
 -- ---- steps that may fail
 

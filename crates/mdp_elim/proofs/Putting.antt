@@ -1,24 +1,16 @@
 -- The equation of an eliminated state is put into those that have an entry to it, in any order; the others stay.
 use Rattle.std.proofs.Common.{◌≡◌, ◌≢◌, ℕ, zero, suc, ◌+◌, ◌<◌, ◌≤◌, ◌⊎◌, inl, inr, List, [], ◌∷◌, length, take, get_or, refl, sym, ◌∙◌, ap, subst, arith, Option, Some, None}
+use Rattle.std.proofs.{Math.ListN.{get_or-eq_default, set}, lemmas.List.{length-take-le, get_or-take, get_or_default, get_or-set_same, get_or-set_other}}
 use Rattle.std.specs.List.{All, Contains, remove}
-use Rattle.std.proofs.Math.ListN.{get_or-eq_default}
-use Rattle.std.proofs.Math.ListN.{set}
-use Rattle.std.proofs.lemmas.List.{length-take-le, get_or-take, get_or_default, get_or-set_same, get_or-set_other}
 use Rattle.smallvec.specs.SmallVec.{SmallVec}
-use Rattle.mdp_math.specs.Rational.{ℚ}
-use Rattle.mdp_math.specs.Written.{◌>>=◌}
+use Rattle.mdp_math.specs.{Rational.{ℚ}, Written.{◌>>=◌}}
 use Rattle.mdp_math.proofs.Numbers.{le_or}
 use Rattle.mdp_spec.specs.Mdp.{Entry}
-use Rattle.mdp_elim.specs.Equation.{Equation, no_equation}
-use Rattle.mdp_elim.specs.Entries.{Between, entry_to, without, each}
+use Rattle.mdp_elim.specs.{Equation.{Equation, no_equation}, Entries.{Between, entry_to, without, each}}
 use Rattle.mdp_elim.specs.Elimination.{divided, rest_of, substituted, substituted_where, eliminated}
 use Rattle.mdp_elim.specs.Predecessors.{no_states, IsListed, ListsMore, LeadsTo, ListsTargets, at, LeadBelow, IsLinked, IsPutAt}
-use Rattle.mdp_elim.proofs.RowSums.{between-without}
-use Rattle.mdp_elim.proofs.Merge.{no_last, without_none}
-use Rattle.mdp_elim.proofs.Lists.{one_or_two}
-use Rattle.mdp_elim.proofs.Step.{divided-is, substituted-is, eliminated-is}
-use Rattle.mdp_elim.proofs.Law.{rest-down}
-use Rattle.mdp_elim.proofs.Equations.{remove-last, eliminated-some, eliminated-none_rest}
+use Rattle.mdp_elim.proofs.{RowSums.{between-without}, Merge.{no_last, without_none}, Lists.{one_or_two}, Step.{divided-is, substituted-is, eliminated-is}}
+use Rattle.mdp_elim.proofs.{Law.{rest-down}, Equations.{remove-last, eliminated-some, eliminated-none_rest}}
 use Rattle.mdp_elim.proofs.Targets.{to_targets, from_targets, targets-substituted, leads-entry, before_or}
 
 between-wider : (low high : ℕ) (row : List Entry) → Between low high row → Between low (suc high) row

@@ -1,18 +1,10 @@
 -- What a function of the targets weighs in a row after each step on the row.
 use Rattle.std.proofs.Common.{◌≡◌, ℕ, suc, ◌<◌, ◌≤◌, Bool, true, false, List, [], ◌∷◌, Option, Some, None, refl, sym, ◌∙◌, ap, ap₂, subst, arith, eqb, nat_le, if◌then◌else◌, pos}
-use Rattle.std.proofs.lemmas.Bool.{leb-true, eqb-false}
-use Rattle.std.proofs.lemmas.Bool.Decides.{leb_tells}
+use Rattle.std.proofs.{lemmas.Bool.{leb-true, eqb-false}, lemmas.Bool.Decides.{leb_tells}, lemmas.List.Elements.{All-nil, All-cons}}
 use Rattle.std.specs.List.{All}
-use Rattle.std.proofs.lemmas.List.Elements.{All-nil, All-cons}
-use Rattle.mdp_math.proofs.Numbers.{eqb-same}
-use Rattle.mdp_math.specs.Rational.{ℚ, ◌+ℚ◌, ◌*ℚ◌, inv_ℚ}
-use Rattle.mdp_math.specs.Written.{written_add, written_mul, ◌>>=◌}
-use Rattle.mdp_math.specs.Kernel.{weigh}
-use Rattle.mdp_math.proofs.Ring.{◌⊕◌, ◌⊗◌, lit, ring}
-use Rattle.mdp_math.proofs.Linear.{combine, equal}
-use Rattle.mdp_math.proofs.Laws.{rat_ring}
-use Rattle.mdp_math.proofs.Order.{0ℚ}
+use Rattle.mdp_math.proofs.{Numbers.{eqb-same}, Ring.{◌⊕◌, ◌⊗◌, lit, ring}, Linear.{combine, equal}, Laws.{rat_ring}, Order.{0ℚ}}
 use Rattle.mdp_math.proofs.Written.{written_add-some, written_mul-some}
+use Rattle.mdp_math.specs.{Rational.{ℚ, ◌+ℚ◌, ◌*ℚ◌, inv_ℚ}, Written.{written_add, written_mul, ◌>>=◌}, Kernel.{weigh}}
 use Rattle.mdp_num.specs.Written.{written_div}
 use Rattle.mdp_spec.specs.Mdp.{Entry}
 use Rattle.mdp_elim.specs.Entries.{Between, entry_to, without, each, divided_entry, plus_entry, plus_row}

@@ -1,22 +1,13 @@
 -- The transposed rows of a chain: their entries, where they lie, and the pivots of their system.
 use Rattle.std.proofs.Common.{◌≡◌, ℕ, zero, suc, ◌+◌, ◌<◌, ◌≤◌, inl, inr, Bool, true, false, List, [], ◌∷◌}
 use Rattle.std.proofs.Common.{◌++◌, length, refl, sym, ◌∙◌, ap, ap₂, subst, arith, eqb, if◌then◌else◌, pos, zero-add}
-use Rattle.std.specs.List.{flat_map, range_with_len}
 use Rattle.std.proofs.lemmas.List.FromFn.{get_or-map-range_with_len, length-map-range_with_len}
-use Rattle.mdp_math.specs.Rational.{ℚ, ◌+ℚ◌, ◌*ℚ◌}
-use Rattle.mdp_math.specs.Sum.{sum_of}
-use Rattle.mdp_math.specs.Pivot.{entry_at}
-use Rattle.mdp_math.proofs.Numbers.{last_or, eqb-same, eqb-smaller, eqb-greater}
-use Rattle.mdp_math.proofs.Ring.{◌⊕◌, ◌⊗◌, lit, ring}
-use Rattle.mdp_math.proofs.Linear.{combine, equal}
-use Rattle.mdp_math.proofs.Lists.{range_more, flat_more}
-use Rattle.mdp_math.proofs.Laws.{rat_ring}
-use Rattle.mdp_math.proofs.Order.{0ℚ, 1ℚ}
-use Rattle.mdp_math.proofs.Sums.{sum_of-append}
+use Rattle.std.specs.List.{flat_map, range_with_len}
+use Rattle.mdp_math.specs.{Rational.{ℚ, ◌+ℚ◌, ◌*ℚ◌}, Sum.{sum_of}, Pivot.{entry_at}}
+use Rattle.mdp_math.proofs.{Numbers.{last_or, eqb-same, eqb-smaller, eqb-greater}, Ring.{◌⊕◌, ◌⊗◌, lit, ring}, Linear.{combine, equal}}
+use Rattle.mdp_math.proofs.{Lists.{range_more, flat_more}, Laws.{rat_ring}, Order.{0ℚ, 1ℚ}, Sums.{sum_of-append}}
 use Rattle.mdp_spec.specs.Mdp.{Entry}
-use Rattle.mdp_elim.specs.System.{row_of}
-use Rattle.mdp_elim.specs.Visits.{entries_into, row_into, transposed, step}
-use Rattle.mdp_elim.specs.Entries.{Between}
+use Rattle.mdp_elim.specs.{System.{row_of}, Visits.{entries_into, row_into, transposed, step}, Entries.{Between}}
 use Rattle.mdp_elim.proofs.RowSums.{over, between-lower}
 
 -- ---- lists over a range

@@ -1,17 +1,12 @@
 -- What a binary search finds in a row whose targets ascend.
-use Rattle.std.specs.Result.{result_ok}
-use Rattle.std.specs.List.Sorted.{IsSearchInRange, IsBinarySearchResult, IsNonDecreasingBy}
-use Rattle.std.specs.Ordering.{nat_cmp, ordering_index}
+use Rattle.std.specs.{Result.{result_ok}, List.Sorted.{IsSearchInRange, IsBinarySearchResult, IsNonDecreasingBy}, Ordering.{nat_cmp, ordering_index}}
 use Rattle.std.proofs.Common.{◌≡◌, ℕ, zero, suc, ◌<◌, ◌≤◌, inl, inr, Bool, true, false, List, [], ◌∷◌}
-use Rattle.std.proofs.Common.{length, get_or, refl, sym, arith, eqb, nat_le, Some, None, if◌then◌else◌, Result, Ok, Err, IfSome}
-use Rattle.std.proofs.lemmas.Cmp.{ranked}
-use Rattle.std.proofs.lemmas.List.Sorted.{IsNonDecreasingBy-from_default}
-use Rattle.std.proofs.lemmas.Bool.Decides.{nat_tests}
+use Rattle.std.proofs.{Common.{length, get_or, refl, sym, arith, eqb, nat_le, Some, None, if◌then◌else◌, Result, Ok, Err, IfSome}, lemmas.Cmp.{ranked}}
+use Rattle.std.proofs.{lemmas.List.Sorted.{IsNonDecreasingBy-from_default}, lemmas.Bool.Decides.{nat_tests}}
 use Rattle.mdp_math.proofs.Numbers.{le_or}
 use Rattle.mdp_spec.specs.Mdp.{Entry}
 use Rattle.mdp_elim.specs.Entries.{Between, LeadsAt, entry_to}
-use Rattle.mdp_elim.proofs.Merge.{no_entry}
-use Rattle.mdp_elim.proofs.InPlace.{at_least}
+use Rattle.mdp_elim.proofs.{Merge.{no_entry}, InPlace.{at_least}}
 
 targets_rise : (low high i j : ℕ) (row : List Entry) (d : Entry) → Between low high row → i ≤ j → j < length row → Entry.target (get_or row i d) ≤ Entry.target (get_or row j d)
 targets_rise low high i j [] d h l m = absurd (omega arith)

@@ -3,15 +3,9 @@ use Rattle.std.proofs.Common.{◌≡◌, ◌≢◌, ℕ, suc, ◌-◌, ◌<◌, 
 use Rattle.std.proofs.lemmas.Bool.{false≢true}
 use Rattle.mdp_math.proofs.Numbers.{le_or}
 use Rattle.mdp_rows.specs.Preds.{is_among}
-use Rattle.mdp_elim.specs.Equation.{Equation}
-use Rattle.mdp_elim.specs.Entries.{Between}
-use Rattle.mdp_elim.specs.Elimination.{divided, solution}
-use Rattle.mdp_elim.specs.Predecessors.{at}
+use Rattle.mdp_elim.specs.{Equation.{Equation}, Entries.{Between}, Elimination.{divided, solution}, Predecessors.{at}}
 use Rattle.mdp_elim.specs.Kept.{put_in, solved_at, LeadToSmaller, AreSolved, Ascend, StopsAbove, StopsAt, IsTried, StaySolved}
-use Rattle.mdp_elim.proofs.RowSums.{some_part}
-use Rattle.mdp_elim.proofs.Lists.{one_or_two}
-use Rattle.mdp_elim.proofs.PutIn.{put_part, solved-agree}
-use Rattle.mdp_elim.proofs.OneByOne.{solution-stops_dividing, solution-stops_putting}
+use Rattle.mdp_elim.proofs.{RowSums.{some_part}, Lists.{one_or_two}, PutIn.{put_part, solved-agree}, OneByOne.{solution-stops_dividing, solution-stops_putting}}
 use Rattle.mdp_elim.proofs.Others.{not-among, among-at}
 
 -- what solving one equation keeps

@@ -1,18 +1,11 @@
 -- The system after one elimination: what its rows weigh, and where its targets lie.
 use Rattle.std.proofs.Common.{◌≡◌, ℕ, zero, suc, ◌<◌, List, [], ◌∷◌, length, take, get_or, Option, Some, None, refl, sym, ◌∙◌, ap, subst, arith, pos}
 use Rattle.std.proofs.lemmas.List.{length-take-le, get_or-take}
-use Rattle.mdp_math.specs.Rational.{ℚ, ◌+ℚ◌, ◌*ℚ◌, ◌-ℚ◌, neg_ℚ, inv_ℚ}
-use Rattle.mdp_math.specs.Written.{written_add, written_mul, ◌>>=◌}
-use Rattle.mdp_math.proofs.Ring.{◌⊕◌, ◌⊗◌, ⊖, lit, ring}
-use Rattle.mdp_math.proofs.Linear.{combine, equal}
-use Rattle.mdp_math.proofs.Laws.{rat_ring}
-use Rattle.mdp_math.proofs.Order.{0ℚ, 1ℚ, mul-inv, ne-zero_of_pos}
-use Rattle.mdp_math.proofs.Whole.{one-pos}
+use Rattle.mdp_math.specs.{Rational.{ℚ, ◌+ℚ◌, ◌*ℚ◌, ◌-ℚ◌, neg_ℚ, inv_ℚ}, Written.{written_add, written_mul, ◌>>=◌}}
+use Rattle.mdp_math.proofs.{Ring.{◌⊕◌, ◌⊗◌, ⊖, lit, ring}, Linear.{combine, equal}, Laws.{rat_ring}, Order.{0ℚ, 1ℚ, mul-inv, ne-zero_of_pos}, Whole.{one-pos}}
 use Rattle.mdp_math.proofs.Written.{written_add-some, written_mul-some}
 use Rattle.mdp_num.specs.Written.{written_sub, written_div}
-use Rattle.mdp_elim.specs.Equation.{Equation, no_equation}
-use Rattle.mdp_elim.specs.Entries.{Between, entry_to, without, each, divided_entry, plus_row}
-use Rattle.mdp_elim.specs.Predecessors.{at}
+use Rattle.mdp_elim.specs.{Equation.{Equation, no_equation}, Entries.{Between, entry_to, without, each, divided_entry, plus_row}, Predecessors.{at}}
 use Rattle.mdp_elim.specs.Elimination.{divided, divided_rest, divided_where, rest_of, substituted, substituted_where, plus_equation, eliminated, Eliminated}
 use Rattle.mdp_elim.proofs.RowSums.{over, or_zero, over-plus_row, over-divided, some_part, between-plus_row, between-divided}
 

@@ -1,20 +1,15 @@
 -- A fact about the targets of two rows holds of the targets of what elimination makes of them.
 use Rattle.std.proofs.Common.{◌≡◌, ℕ, zero, suc, ◌+◌, ◌<◌, ◌⊎◌, inl, inr, Bool, true, false, List, [], ◌∷◌, length}
 use Rattle.std.proofs.Common.{get_or, refl, sym, ◌∙◌, ap, subst, arith, eqb, nat_le, Option, Some, None, IfSome, if◌then◌else◌, pos}
-use Rattle.std.specs.List.{All}
-use Rattle.std.specs.Option.{is_none}
 use Rattle.std.proofs.lemmas.List.{get_or_default}
+use Rattle.std.specs.{List.{All}, Option.{is_none}}
 use Rattle.mdp_math.proofs.Numbers.{le_or}
-use Rattle.mdp_math.specs.Rational.{ℚ, of_int}
-use Rattle.mdp_math.specs.Written.{written_add, written_mul, ◌>>=◌}
+use Rattle.mdp_math.specs.{Rational.{ℚ, of_int}, Written.{written_add, written_mul, ◌>>=◌}}
 use Rattle.mdp_num.specs.Written.{written_sub, written_div}
 use Rattle.mdp_spec.specs.Mdp.{Entry}
-use Rattle.mdp_elim.specs.Equation.{Equation}
-use Rattle.mdp_elim.specs.Entries.{LeadsAt, entry_to, without, each, divided_entry, plus_entry, plus_row}
-use Rattle.mdp_elim.specs.Elimination.{divided, divided_rest, divided_where, rest_of, substituted, substituted_where, plus_equation}
-use Rattle.mdp_elim.specs.Predecessors.{LeadsTo}
-use Rattle.mdp_elim.proofs.Merge.{no_entry}
-use Rattle.mdp_elim.proofs.RowSums.{some_part}
+use Rattle.mdp_elim.specs.{Equation.{Equation}, Entries.{LeadsAt, entry_to, without, each, divided_entry, plus_entry, plus_row}}
+use Rattle.mdp_elim.specs.{Elimination.{divided, divided_rest, divided_where, rest_of, substituted, substituted_where, plus_equation}, Predecessors.{LeadsTo}}
+use Rattle.mdp_elim.proofs.{Merge.{no_entry}, RowSums.{some_part}}
 
 pub before_or : (i k : ℕ) → k < i + 1 → (k < i) ⊎ (k ≡ i)
 before_or i k l = elim (le_or i k) as (λ _. (k < i) ⊎ (k ≡ i)) [

@@ -1,15 +1,9 @@
 -- Written sums and products with 0.
-use Rattle.std.proofs.Common.{◌≡◌, ℕ, ◌/◌, Option, Some, None, ℤ, pos, ◌+ℤ◌, ◌*ℤ◌, refl, sym, ap, ◌∙◌, arith}
-use Rattle.std.proofs.lemmas.Int.{ints}
-use Rattle.mdp_math.specs.Gcd.{gcd, gcd-one_right}
-use Rattle.mdp_math.specs.Rational.{ℚ, ◌+ℚ◌, ◌*ℚ◌, inv_ℚ}
+use Rattle.std.proofs.{Common.{◌≡◌, ℕ, ◌/◌, Option, Some, None, ℤ, pos, ◌+ℤ◌, ◌*ℤ◌, refl, sym, ap, ◌∙◌, arith}, lemmas.Int.{ints}}
+use Rattle.mdp_math.specs.{Gcd.{gcd, gcd-one_right}, Rational.{ℚ, ◌+ℚ◌, ◌*ℚ◌, inv_ℚ}}
 use Rattle.mdp_math.specs.Written.{narrow, narrow_ℚ, across, common_den, written_add, written_mul, ◌>>=◌}
-use Rattle.mdp_math.proofs.Laws.{num-of_int, den-of_int, rat_ring}
-use Rattle.mdp_math.proofs.Ring.{◌⊕◌, ◌⊗◌, lit, ring}
-use Rattle.mdp_math.proofs.Written.{narrow-kept, narrow_ℚ-kept}
-use Rattle.mdp_math.proofs.Order.{0ℚ}
-use Rattle.mdp_num.specs.Value.{IsNarrow}
-use Rattle.mdp_num.specs.Written.{written_div}
+use Rattle.mdp_math.proofs.{Laws.{num-of_int, den-of_int, rat_ring}, Ring.{◌⊕◌, ◌⊗◌, lit, ring}, Written.{narrow-kept, narrow_ℚ-kept}, Order.{0ℚ}}
+use Rattle.mdp_num.specs.{Value.{IsNarrow}, Written.{written_div}}
 
 none_across : (r : ℚ) → across 0ℚ r ≡ pos 0
 none_across r = ap (λ (z : ℤ). z *ℤ pos (r.den / gcd (ℚ.den 0ℚ) r.den)) (num-of_int (pos 0)) ∙ omega (arith, ints)

@@ -1,6 +1,5 @@
 -- How equations are told apart: each as a list and a pair that give it back.
-use Rattle.std.specs.Prelude.{List, refl}
-use Rattle.std.specs.Coded.{Coded, code_by, coded×, coded_list}
+use Rattle.std.specs.{Prelude.{List, refl}, Coded.{Coded, code_by, coded×, coded_list}}
 use Rattle.mdp_math.specs.Rational.{ℚ}
 use Rattle.mdp_num.specs.Code.{rational_code}
 use Rattle.mdp_spec.specs.Mdp.{Entry}

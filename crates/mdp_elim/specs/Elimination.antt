@@ -3,14 +3,11 @@
 --     substituted    an entry w of a smaller state to the eliminated one: w times the equation of that one takes its place
 --     solution       after all eliminations, the values from state 0 on
 -- An answer is the values, or the first state at whose elimination or evaluation a term is past width.
-use Rattle.std.specs.Prelude.{◌≢◌, ◌≡◌, ◌<◌, ℕ, zero, suc, List, [], ◌∷◌, ◌++◌, take, slice_index_or, Option, Some, None, Result, Ok, Err, pos}
-use Rattle.std.specs.List.{All}
-use Rattle.mdp_math.specs.Rational.{ℚ, of_int, ◌-ℚ◌, ◌<ℚ◌}
-use Rattle.mdp_math.specs.Written.{written_add, written_mul, ◌>>=◌}
+use Rattle.std.specs.{Prelude.{◌≢◌, ◌≡◌, ◌<◌, ℕ, zero, suc, List, [], ◌∷◌, ◌++◌, take, slice_index_or, Option, Some, None, Result, Ok, Err, pos}, List.{All}}
+use Rattle.mdp_math.specs.{Rational.{ℚ, of_int, ◌-ℚ◌, ◌<ℚ◌}, Written.{written_add, written_mul, ◌>>=◌}}
 use Rattle.mdp_num.specs.Written.{written_sub, written_div}
 use Rattle.mdp_spec.specs.Written.{written_sum}
-use Rattle.mdp_elim.specs.Equation.{Equation, Values, no_equation}
-use Rattle.mdp_elim.specs.Entries.{entry_to, without, each, divided_entry, plus_row}
+use Rattle.mdp_elim.specs.{Equation.{Equation, Values, no_equation}, Entries.{entry_to, without, each, divided_entry, plus_row}}
 
 -- an equation, divided by 1 - p
 unfoldable pub divided_rest : ℚ → Equation → Option Equation

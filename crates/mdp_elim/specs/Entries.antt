@@ -1,8 +1,6 @@
 -- Written arithmetic on the entries of an equation, whose targets ascend.
-use Rattle.std.specs.Prelude.{◌≡◌, ◌<◌, ◌≤◌, ℕ, suc, length, List, [], ◌∷◌, ◌++◌, Option, Some, None, ◌==◌, nat_le, if◌then◌else◌, pos}
-use Rattle.std.specs.List.{HoldsAt}
-use Rattle.mdp_math.specs.Rational.{ℚ, of_int}
-use Rattle.mdp_math.specs.Written.{written_add, written_mul, ◌>>=◌}
+use Rattle.std.specs.{Prelude.{◌≡◌, ◌<◌, ◌≤◌, ℕ, suc, length, List, [], ◌∷◌, ◌++◌, Option, Some, None, ◌==◌, nat_le, if◌then◌else◌, pos}, List.{HoldsAt}}
+use Rattle.mdp_math.specs.{Rational.{ℚ, of_int}, Written.{written_add, written_mul, ◌>>=◌}}
 use Rattle.mdp_num.specs.Written.{written_div}
 use Rattle.mdp_spec.specs.Mdp.{Entry}
 

@@ -1,9 +1,6 @@
 -- Eliminated equations that wait for their evaluation, the greatest state first; m is the number of states below theirs.
-use Rattle.std.specs.Prelude.{ℕ, ◌+◌, ◌<◌, List, [], ◌∷◌, length, Result, Ok, Err}
-use Rattle.std.specs.List.{All}
-use Rattle.mdp_elim.specs.Equation.{Equation, Values}
-use Rattle.mdp_elim.specs.Elimination.{evaluated, at_state, ◌and_then◌}
-use Rattle.mdp_elim.specs.Errors.{ElimError, StepError}
+use Rattle.std.specs.{Prelude.{ℕ, ◌+◌, ◌<◌, List, [], ◌∷◌, length, Result, Ok, Err}, List.{All}}
+use Rattle.mdp_elim.specs.{Equation.{Equation, Values}, Elimination.{evaluated, at_state, ◌and_then◌}, Errors.{ElimError, StepError}}
 use Rattle.mdp_wide.specs.declared.unfinished.Unfinished.TheVariants as error
 
 -- they are evaluated from the least state on

@@ -1,16 +1,11 @@
 -- The solved equations of all states, one by one. Into the equation of a state those of the greater states are put, the greatest first, and then it is
 -- solved for its own value. So the solved equation of a state depends on those of the states that it comes to alone: where a system differs from another
 -- one at some states, and no other state leads to these, the others keep their solved equations and their values.
-use Rattle.std.specs.Prelude.{◌≡◌, ◌≢◌, ◌<◌, ◌+◌, ◌-◌, ℕ, zero, suc, true, false, List, length, slice_index, ◌⊎◌, Option, Some, None, Result, Ok}
-use Rattle.std.specs.List.{All}
-use Rattle.mdp_math.specs.Rational.{ℚ}
-use Rattle.mdp_math.specs.Written.{◌>>=◌}
-use Rattle.mdp_spec.specs.Mdp.{value_at}
-use Rattle.mdp_spec.specs.Written.{written_sum}
+use Rattle.std.specs.{Prelude.{◌≡◌, ◌≢◌, ◌<◌, ◌+◌, ◌-◌, ℕ, zero, suc, true, false, List, length, slice_index, ◌⊎◌, Option, Some, None, Result, Ok}, List.{All}}
+use Rattle.mdp_math.specs.{Rational.{ℚ}, Written.{◌>>=◌}}
+use Rattle.mdp_spec.specs.{Mdp.{value_at}, Written.{written_sum}}
 use Rattle.mdp_rows.specs.Preds.{is_among}
-use Rattle.mdp_elim.specs.Equation.{Equation, Values}
-use Rattle.mdp_elim.specs.Entries.{Between}
-use Rattle.mdp_elim.specs.Elimination.{divided, substituted, evaluated, at_state, ◌and_then◌, no_values}
+use Rattle.mdp_elim.specs.{Equation.{Equation, Values}, Entries.{Between}, Elimination.{divided, substituted, evaluated, at_state, ◌and_then◌, no_values}}
 use Rattle.mdp_elim.specs.Predecessors.{at}
 
 -- an equation, after those of the states low + n - 1, .., low have been put into it

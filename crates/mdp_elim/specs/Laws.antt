@@ -2,11 +2,8 @@
 -- same of expected visits.
 use Rattle.std.specs.Prelude.{◌≡◌, ℕ, Bool, List, [], ◌∷◌, length, ◌⊎◌, Ok}
 use Rattle.mdp_math.specs.Rational.{ℚ}
-use Rattle.mdp_spec.specs.Mdp.{Entry}
-use Rattle.mdp_spec.specs.Row.{AreRows}
-use Rattle.mdp_elim.specs.Elimination.{DividesByPositive}
-use Rattle.mdp_elim.specs.System.{system, Leaves, IsSolution, SolveEach}
-use Rattle.mdp_elim.specs.Solve.{written_solution}
+use Rattle.mdp_spec.specs.{Mdp.{Entry}, Row.{AreRows}}
+use Rattle.mdp_elim.specs.{Elimination.{DividesByPositive}, System.{system, Leaves, IsSolution, SolveEach}, Solve.{written_solution}}
 use Rattle.mdp_elim.specs.Visits.{transposed, unit_column, written_visits, AreVisits}
 
 -- a chain that leaves its active states: its rows are distributions, and each state is marked active or not

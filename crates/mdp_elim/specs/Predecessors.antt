@@ -1,11 +1,8 @@
 -- The lists that elimination keeps: for each state the smaller states whose equations have an entry to it. So a step looks at these alone.
-use Rattle.std.specs.Prelude.{◌≡◌, ℕ, ◌<◌, ◌≢◌, List, [], length, slice_index_or, Some}
-use Rattle.std.specs.List.{All, Any, Contains}
+use Rattle.std.specs.{Prelude.{◌≡◌, ℕ, ◌<◌, ◌≢◌, List, [], length, slice_index_or, Some}, List.{All, Any, Contains}}
 use Rattle.smallvec.specs.SmallVec.{SmallVec}
 use Rattle.mdp_spec.specs.Mdp.{Entry}
-use Rattle.mdp_elim.specs.Entries.{Between}
-use Rattle.mdp_elim.specs.Equation.{Equation, no_equation}
-use Rattle.mdp_elim.specs.Elimination.{substituted}
+use Rattle.mdp_elim.specs.{Entries.{Between}, Equation.{Equation, no_equation}, Elimination.{substituted}}
 
 -- what stands past the last list
 abbrev pub no_states : SmallVec ℕ

@@ -2,9 +2,7 @@
 use Rattle.std.specs.Prelude.{ℕ, Bool, List, [], ◌∷◌, length, take, Result, Ok, Err}
 use Rattle.mdp_math.specs.Rational.{ℚ}
 use Rattle.mdp_spec.specs.Mdp.{Entry}
-use Rattle.mdp_elim.specs.Equation.{Values}
-use Rattle.mdp_elim.specs.Elimination.{solution}
-use Rattle.mdp_elim.specs.System.{system}
+use Rattle.mdp_elim.specs.{Equation.{Values}, Elimination.{solution}, System.{system}}
 
 -- as many columns of values as there are columns of constants
 abbrev pub columns_of : ℕ → Values → List (List ℚ)

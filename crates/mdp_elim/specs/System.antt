@@ -2,8 +2,7 @@
 use Rattle.std.specs.Prelude.{◌≡◌, ℕ, ◌<◌, Bool, true, false, List, [], length, map, slice_index, slice_index_or, ◌⊎◌, if◌then◌else◌, pos}
 use Rattle.std.specs.List.{Any, filter, range_with_len}
 use Rattle.mdp_math.specs.Rational.{ℚ, of_int, ◌+ℚ◌}
-use Rattle.mdp_spec.specs.Mdp.{Entry, value_at}
-use Rattle.mdp_spec.specs.Row.{row_sum}
+use Rattle.mdp_spec.specs.{Mdp.{Entry, value_at}, Row.{row_sum}}
 use Rattle.mdp_elim.specs.Equation.{Equation, no_equation}
 
 abbrev pub is_active : List Bool → ℕ → Bool

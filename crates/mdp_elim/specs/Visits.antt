@@ -1,14 +1,8 @@
 -- Expected visits: the system of the transposed rows, where the equation of a state has an entry for each active state that leads to it.
-use Rattle.std.specs.Prelude.{◌≡◌, ℕ, Bool, true, false, List, [], ◌∷◌, ◌++◌, length, map, ◌==◌, if◌then◌else◌, Result, pos}
-use Rattle.std.specs.List.{flat_map, range_with_len}
-use Rattle.mdp_math.specs.Rational.{ℚ, of_int, ◌+ℚ◌, ◌*ℚ◌}
-use Rattle.mdp_math.specs.Sum.{sum_of}
-use Rattle.mdp_math.specs.Pivot.{entry_at}
+use Rattle.std.specs.{Prelude.{◌≡◌, ℕ, Bool, true, false, List, [], ◌∷◌, ◌++◌, length, map, ◌==◌, if◌then◌else◌, Result, pos}, List.{flat_map, range_with_len}}
+use Rattle.mdp_math.specs.{Rational.{ℚ, of_int, ◌+ℚ◌, ◌*ℚ◌}, Sum.{sum_of}, Pivot.{entry_at}}
 use Rattle.mdp_spec.specs.Mdp.{Entry, value_at}
-use Rattle.mdp_elim.specs.Equation.{Equation, Values, no_equation}
-use Rattle.mdp_elim.specs.Elimination.{solution}
-use Rattle.mdp_elim.specs.System.{is_active, row_of, inner, system}
-use Rattle.mdp_elim.specs.Solve.{kept}
+use Rattle.mdp_elim.specs.{Equation.{Equation, Values, no_equation}, Elimination.{solution}, System.{is_active, row_of, inner, system}, Solve.{kept}}
 
 -- the entry of state t's row to s, as an entry to t
 abbrev pub entries_into : ℕ → ℕ → List Entry → List Entry

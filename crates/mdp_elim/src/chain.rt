@@ -1,8 +1,6 @@
-ghost use Rattle.std.specs.Prelude.{ℕ, List, ◌≡◌, ◌<◌, ◌≤◌, ◌⊎◌, ◌^◌, length, map, true, Ok, Err, IfOk, slice_index_or};
-ghost use Rattle.std.specs.List.{All};
+ghost use Rattle.std.specs.{Prelude.{ℕ, List, ◌≡◌, ◌<◌, ◌≤◌, ◌⊎◌, ◌^◌, length, map, true, Ok, Err, IfOk, slice_index_or}, List.{All}};
 ghost use Rattle.mdp_spec.specs.Row.{entries};
-ghost use Rattle.mdp_elim.specs.System.{is_active, inner, column_at, equation_of, system, Leaves, SolveEach};
-ghost use Rattle.mdp_elim.specs.Solve.{columns_of, written_solution};
+ghost use Rattle.mdp_elim.specs.{System.{is_active, inner, column_at, equation_of, system, Leaves, SolveEach}, Solve.{columns_of, written_solution}};
 
 use crate::elimination::{Values, solve_system};
 use crate::entries::Term;

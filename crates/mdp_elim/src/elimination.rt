@@ -1,10 +1,7 @@
-ghost use Rattle.std.specs.Prelude.{ℕ, ◌≡◌, ◌≢◌, ◌<◌, ◌^◌, ◌+◌, length, Some, None, Ok, Err, OnOk, IfOk, pos};
+ghost use Rattle.std.specs.{Prelude.{ℕ, ◌≡◌, ◌≢◌, ◌<◌, ◌^◌, ◌+◌, length, Some, None, Ok, Err, OnOk, IfOk, pos}, List.{All, Contains, remove}};
 ghost use Rattle.mdp_math.specs.Rational.{of_int};
-ghost use Rattle.std.specs.List.{All, Contains, remove};
-ghost use Rattle.mdp_elim.specs.Entries.{Between, entry_to, each};
-ghost use Rattle.mdp_elim.specs.Elimination.{CanEliminate, divided, substituted, eliminated, solution, no_values};
-ghost use Rattle.mdp_elim.specs.Finish.{finish, LeadDown, placed};
-ghost use Rattle.mdp_elim.specs.Predecessors.{IsLinked, IsPutAt, LeadsTo, LeadBelow, at};
+ghost use Rattle.mdp_elim.specs.{Entries.{Between, entry_to, each}, Elimination.{CanEliminate, divided, substituted, eliminated, solution, no_values}};
+ghost use Rattle.mdp_elim.specs.{Finish.{finish, LeadDown, placed}, Predecessors.{IsLinked, IsPutAt, LeadsTo, LeadBelow, at}};
 
 use crate::equation::{Equation, Solved, evaluate};
 use crate::errors::{ElimError, StepError};

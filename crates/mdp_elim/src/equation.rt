@@ -1,9 +1,7 @@
-ghost use Rattle.std.specs.Prelude.{ℕ, ◌≡◌, ◌≢◌, ◌<◌, ◌+◌, ◌++◌, ◌∷◌, [], length, Some, None, OnOk, OnErr, IfOk, pos};
-ghost use Rattle.std.specs.List.{All};
+ghost use Rattle.std.specs.{Prelude.{ℕ, ◌≡◌, ◌≢◌, ◌<◌, ◌+◌, ◌++◌, ◌∷◌, [], length, Some, None, OnOk, OnErr, IfOk, pos}, List.{All}};
 ghost use Rattle.mdp_math.specs.Rational.{of_int};
 ghost use Rattle.mdp_spec.specs.Written.{written_sum};
-ghost use Rattle.mdp_elim.specs.Entries.{Between, entry_to};
-ghost use Rattle.mdp_elim.specs.Equation.{no_equation};
+ghost use Rattle.mdp_elim.specs.{Entries.{Between, entry_to}, Equation.{no_equation}};
 ghost use Rattle.mdp_elim.specs.Elimination.{divided, divided_rest, plus_equation, substituted, evaluated};
 
 use crate::entries::{Term, add_row, divide_row, row_sum, take_entry};

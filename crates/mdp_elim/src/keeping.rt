@@ -1,15 +1,11 @@
-ghost use Rattle.std.specs.Prelude.{ℕ, List, ◌≡◌, ◌≢◌, ◌<◌, ◌+◌, ◌-◌, suc, length, map, false, Some, None, Ok, Err, OnOk, IfOk, IfSome, pos};
-ghost use Rattle.std.specs.List.{All};
+ghost use Rattle.std.specs.{Prelude.{ℕ, List, ◌≡◌, ◌≢◌, ◌<◌, ◌+◌, ◌-◌, suc, length, map, false, Some, None, Ok, Err, OnOk, IfOk, IfSome, pos}, List.{All}};
 ghost use Rattle.mdp_math.specs.Rational.{of_int};
 ghost use Rattle.mdp_spec.specs.Mdp.{value_at};
 ghost use Rattle.mdp_rows.specs.Preds.{is_among};
-ghost use Rattle.mdp_elim.specs.Entries.{Between, entry_to};
-ghost use Rattle.mdp_elim.specs.Elimination.{solution};
-ghost use Rattle.mdp_elim.specs.Equation as spec;
-ghost use Rattle.mdp_elim.specs.Predecessors.{at};
-ghost use Rattle.mdp_elim.specs.System.{system, Leaves};
+ghost use Rattle.mdp_elim.specs.{Entries.{Between, entry_to}, Elimination.{solution}, Predecessors.{at}, System.{system, Leaves}};
 ghost use Rattle.mdp_elim.specs.Kept.{put_in, values_by, LeadToSmaller, AreSolved, AreValues, HasRoom, IsKept, CanServe, Ascend};
 ghost use Rattle.mdp_elim.specs.Kept.{StopsAbove, IsTried, StaySolved, StayOutside, OthersHaveValues};
+ghost use Rattle.mdp_elim.specs.Equation as spec;
 
 use crate::chain::equation_at;
 use crate::elimination::placed;

@@ -1,6 +1,5 @@
 //! For each state the smaller states with an entry to it.
-ghost use Rattle.std.specs.Prelude.{ℕ, ◌≡◌, ◌<◌, ◌⊎◌, ◌^◌, length, OnOk, IfOk};
-ghost use Rattle.std.specs.List.{All};
+ghost use Rattle.std.specs.{Prelude.{ℕ, ◌≡◌, ◌<◌, ◌⊎◌, ◌^◌, length, OnOk, IfOk}, List.{All}};
 ghost use Rattle.mdp_elim.specs.Predecessors.{IsListed, HoldSmaller, ListsMore, LeadsTo, ListsTargets, LeadBelow, IsLinked, at};
 
 use crate::entries::{Term, find};

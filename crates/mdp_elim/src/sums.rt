@@ -1,7 +1,5 @@
-ghost use Rattle.std.specs.Prelude.{◌≡◌, ◌≢◌, option_and_then, pos};
-ghost use Rattle.std.specs.Result.{result_ok};
-ghost use Rattle.mdp_math.specs.Rational.{of_int};
-ghost use Rattle.mdp_math.specs.Written.{written_add, written_mul};
+ghost use Rattle.std.specs.{Prelude.{◌≡◌, ◌≢◌, option_and_then, pos}, Result.{result_ok}};
+ghost use Rattle.mdp_math.specs.{Rational.{of_int}, Written.{written_add, written_mul}};
 ghost use Rattle.mdp_num.specs.Written.{written_div};
 
 use mdp_num::{Frac, Wide};

@@ -1,8 +1,6 @@
-ghost use Rattle.std.specs.Prelude.{ℕ, ◌≡◌, ◌<◌, ◌∷◌, [], true, ◌^◌, length, map, Ok, Err, IfOk, OnOk};
-ghost use Rattle.std.specs.List.{All, range_with_len};
+ghost use Rattle.std.specs.{Prelude.{ℕ, ◌≡◌, ◌<◌, ◌∷◌, [], true, ◌^◌, length, map, Ok, Err, IfOk, OnOk}, List.{All, range_with_len}};
 ghost use Rattle.mdp_spec.specs.Row.{entries};
-ghost use Rattle.mdp_elim.specs.System.{is_active, system, Leaves};
-ghost use Rattle.mdp_elim.specs.Predecessors.{at};
+ghost use Rattle.mdp_elim.specs.{System.{is_active, system, Leaves}, Predecessors.{at}};
 ghost use Rattle.mdp_elim.specs.Visits.{transposed, unit_column, one_at, start_equation, with_row, written_visits, AreVisits};
 
 use crate::chain::Chain;

@@ -1,20 +1,13 @@
 -- Components and maximal end components of a given model, tested by computation.
 use Rattle.std.proofs.Common.{◌≡◌, ◌⊎◌, inl, inr, ℕ, suc, zero, ◌<◌, Bool, true, false, not, ◌||◌, ◌&&◌, ◌==◌}
 use Rattle.std.proofs.Common.{cond, List, length, get_or, map, refl, sym, ap, ◌∙◌, arith, Option, Some, None, is_some}
-use Rattle.std.specs.List.{list_any, range_with_len}
 use Rattle.std.proofs.lemmas.Bool.{false≢true, cases_Bool, cases_eq, or_cases, or_left, or_right, and_parts, and_from, eqb-true, eq-eqb, not_from_true}
-use Rattle.mdp_spec.specs.Mdp.{Mdp, states_of, choices_at}
-use Rattle.mdp_spec.specs.Row.{IsMdp}
-use Rattle.mdp_ends.specs.Walks.{comes_to, AreComponents}
-use Rattle.mdp_ends.specs.Numbers.{is_numbered}
-use Rattle.mdp_ends.specs.Ends.{part_of, has_number, AreEnds}
-use Rattle.mdp_ends.specs.Rounds.{keeps_part, still_allowed, IsSettled, AreLeft}
-use Rattle.mdp_ends.specs.Quotient.{ShareAPart, AreNodes}
-use Rattle.mdp_ends.proofs.Walking.{any-range, range-any}
-use Rattle.mdp_ends.proofs.Numbering.{some-same}
-use Rattle.mdp_ends.proofs.RoundLaws.{has-number, number-has, all_kept, round_kept, ends_found}
-use Rattle.mdp_ends.proofs.Closing.{reaches_by}
-use Rattle.mdp_ends.proofs.Existing.{numbers_for_all}
+use Rattle.std.specs.List.{list_any, range_with_len}
+use Rattle.mdp_spec.specs.{Mdp.{Mdp, states_of, choices_at}, Row.{IsMdp}}
+use Rattle.mdp_ends.specs.{Walks.{comes_to, AreComponents}, Numbers.{is_numbered}, Ends.{part_of, has_number, AreEnds}}
+use Rattle.mdp_ends.specs.{Rounds.{keeps_part, still_allowed, IsSettled, AreLeft}, Quotient.{ShareAPart, AreNodes}}
+use Rattle.mdp_ends.proofs.{Walking.{any-range, range-any}, Numbering.{some-same}, RoundLaws.{has-number, number-has, all_kept, round_kept, ends_found}}
+use Rattle.mdp_ends.proofs.{Closing.{reaches_by}, Existing.{numbers_for_all}}
 
 unfoldable pub agree : Bool → Bool → Bool
 agree a b = cond a b (not b)

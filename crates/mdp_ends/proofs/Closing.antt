@@ -1,14 +1,11 @@
 -- A set of states that is closed under its chosen choices holds an end component.
-use Rattle.std.proofs.Common.{◌≡◌, inl, inr, ℕ, ◌<◌, ◌≤◌, Bool, true, length, sym, ◌∙◌}
-use Rattle.std.proofs.lemmas.Bool.{false≢true}
-use Rattle.mdp_spec.specs.Mdp.{Mdp, states_of, choices_at, row_at}
-use Rattle.mdp_spec.specs.Row.{IsMdp}
+use Rattle.std.proofs.{Common.{◌≡◌, inl, inr, ℕ, ◌<◌, ◌≤◌, Bool, true, length, sym, ◌∙◌}, lemmas.Bool.{false≢true}}
+use Rattle.mdp_spec.specs.{Mdp.{Mdp, states_of, choices_at, row_at}, Row.{IsMdp}}
 use Rattle.mdp_graph.specs.Sets.{stays_in}
-use Rattle.mdp_ends.specs.Walks.{chosen_step, comes_to, Reaches}
-use Rattle.mdp_ends.specs.Ends.{IsEnd}
+use Rattle.mdp_ends.specs.{Walks.{chosen_step, comes_to, Reaches}, Ends.{IsEnd}}
 use Rattle.mdp_ends.proofs.Walking.{stays-by, step-has, step-by, here, one_more, target-below, and_then, stays_along}
-use Rattle.mdp_graph.proofs.Settling.{count_below}
 use Rattle.mdp_ends.proofs.Saturating.{count-same, least_below, saturated}
+use Rattle.mdp_graph.proofs.Settling.{count_below}
 
 module _ (m : Mdp) (ok : IsMdp m) (chosen : ℕ → ℕ → Bool) where
   pub chosen-rises : (p q : ℕ → Bool) → ((t : ℕ) → t < states_of m → p t ≡ true → q t ≡ true)

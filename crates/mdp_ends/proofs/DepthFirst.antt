@@ -2,14 +2,11 @@
 use Rattle.std.proofs.Common.{◌≡◌, ◌⊎◌, inl, inr, ℕ, suc, ◌<◌, ◌≤◌, Bool, true, false, not, ◌&&◌}
 use Rattle.std.proofs.Common.{◌==◌, List, [], ◌∷◌, ◌++◌, length, get_or, refl, sym, ap, ◌∙◌, subst, arith}
 use Rattle.std.proofs.lemmas.Bool.{false≢true, cases_eq, eq-eqb, not_from_false, false_from_ne_true, or_right, and_from}
-use Rattle.mdp_spec.specs.Mdp.{Mdp, states_of, choices_at, row_at}
-use Rattle.mdp_spec.specs.Row.{IsMdp}
+use Rattle.mdp_spec.specs.{Mdp.{Mdp, states_of, choices_at, row_at}, Row.{IsMdp}}
 use Rattle.mdp_rows.specs.Preds.{leads_to}
 use Rattle.mdp_graph.specs.Layers.{reached}
-use Rattle.mdp_ends.specs.Walks.{chosen_step, Reaches, AreJoined}
-use Rattle.mdp_ends.specs.DepthFirst.{StandsIn, IsSearching}
-use Rattle.mdp_ends.proofs.Walking.{step-by, here, one_more, walk_to, and_then}
-use Rattle.mdp_ends.proofs.NumberingFound.{length-more, at_before, at_last}
+use Rattle.mdp_ends.specs.{Walks.{chosen_step, Reaches, AreJoined}, DepthFirst.{StandsIn, IsSearching}}
+use Rattle.mdp_ends.proofs.{Walking.{step-by, here, one_more, walk_to, and_then}, NumberingFound.{length-more, at_before, at_last}}
 
 pub begins : (m : Mdp) (chosen : ℕ → ℕ → Bool) → IsSearching m chosen [] []
 begins m chosen = record {

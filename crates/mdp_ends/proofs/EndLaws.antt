@@ -1,11 +1,8 @@
 -- Laws of end components.
-use Rattle.std.proofs.Common.{◌≡◌, inl, inr, ℕ, ◌<◌, Bool, true, ◌||◌, ◌&&◌, List}
-use Rattle.std.proofs.lemmas.Bool.{or_cases, or_left, or_right, and_parts, and_from}
-use Rattle.mdp_spec.specs.Mdp.{Entry, Mdp, states_of, row_at}
-use Rattle.mdp_spec.specs.Row.{IsMdp}
+use Rattle.std.proofs.{Common.{◌≡◌, inl, inr, ℕ, ◌<◌, Bool, true, ◌||◌, ◌&&◌, List}, lemmas.Bool.{or_cases, or_left, or_right, and_parts, and_from}}
+use Rattle.mdp_spec.specs.{Mdp.{Entry, Mdp, states_of, row_at}, Row.{IsMdp}}
 use Rattle.mdp_graph.specs.Sets.{stays_in}
-use Rattle.mdp_ends.specs.Walks.{Reaches}
-use Rattle.mdp_ends.specs.Ends.{IsEnd, IsWithin, IsMaximal}
+use Rattle.mdp_ends.specs.{Walks.{Reaches}, Ends.{IsEnd, IsWithin, IsMaximal}}
 use Rattle.mdp_ends.proofs.Walking.{stays-at, stays-by, and_then, moved}
 
 -- the union of two sets with their choices

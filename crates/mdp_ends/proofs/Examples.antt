@@ -1,21 +1,16 @@
 -- Small models, computed.
 use Rattle.std.proofs.Common.{◌≡◌, ℕ, zero, suc, ◌<◌, ◌≤◌, length, get_or, sym, arith, Bool, true, false, List, [], ◌∷◌, refl, pos, Option, Some, None}
-use Rattle.std.proofs.lemmas.List.Elements.{All-from_recursion}
-use Rattle.mdp_math.specs.Gcd.{gcd, gcd_with_fuel}
-use Rattle.mdp_math.specs.Rational.{ℚ, of_int, ratio, ◌+ℚ◌, ◌<ℚ◌, le_ℚ, lt_ℚ}
-use Rattle.mdp_spec.specs.Mdp.{Mdp, choices_at, row_at}
-use Rattle.mdp_spec.specs.Row.{IsRow, IsMdp}
+use Rattle.std.proofs.{lemmas.List.Elements.{All-from_recursion}, lemmas.Bool.{false≢true}}
+use Rattle.mdp_math.specs.{Gcd.{gcd, gcd_with_fuel}, Rational.{ℚ, of_int, ratio, ◌+ℚ◌, ◌<ℚ◌, le_ℚ, lt_ℚ}}
+use Rattle.mdp_spec.specs.{Mdp.{Mdp, choices_at, row_at}, Row.{IsRow, IsMdp}}
 use Rattle.mdp_rows.specs.Preds.{pair}
 use Rattle.mdp_graph.proofs.ModelBy.{model_by, one_row}
-use Rattle.mdp_ends.specs.Ends.{is_inside, count_of, AreEnds}
-use Rattle.mdp_ends.specs.Quotient.{AreNodes, exits_of, nodes_in, node_row}
-use Rattle.mdp_graph.specs.Layers.{reached}
-use Rattle.mdp_ends.proofs.ByTest.{each_below, agree, components_test, settled_test, has_test, numbers_test, nodes_test, ends_by_test, nodes_by_test}
-use Rattle.std.proofs.lemmas.Bool.{false≢true}
-use Rattle.mdp_spec.proofs.Small.{choice, entry, half, one, quarter, state}
-use Rattle.mdp_graph.specs.Sets.{marked}
+use Rattle.mdp_ends.specs.{Ends.{is_inside, count_of, AreEnds}, Quotient.{AreNodes, exits_of, nodes_in, node_row}}
 use Rattle.mdp_ends.specs.Toward.{target_in, inner_falls, IsToward, first_below, lifted}
+use Rattle.mdp_graph.specs.{Layers.{reached}, Sets.{marked}}
+use Rattle.mdp_ends.proofs.ByTest.{each_below, agree, components_test, settled_test, has_test, numbers_test, nodes_test, ends_by_test, nodes_by_test}
 use Rattle.mdp_ends.proofs.TowardLaws.{reached_by_test, ranks_by_test}
+use Rattle.mdp_spec.proofs.Small.{choice, entry, half, one, quarter, state}
 
 -- ---- state 0 stays, or goes on to states 1 and 2, which stay: three parts
 

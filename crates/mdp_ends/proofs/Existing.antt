@@ -1,22 +1,18 @@
 -- Each model has its list of maximal end components, and each end component lies in one of them.
 use Rattle.std.proofs.Common.{◌≡◌, ◌⊎◌, inl, inr, ℕ, suc, zero, ◌+◌, ◌<◌, ◌≤◌, ◌↔◌, Bool, true, false, not, ◌&&◌}
 use Rattle.std.proofs.Common.{◌==◌, List, [], ◌∷◌, length, get_or, map, refl, sym, ap, ◌∙◌, subst, arith, Option, Some, None}
-use Rattle.std.specs.List.{list_any, range_with_len}
 use Rattle.std.proofs.lemmas.Bool.{false≢true, cases_Bool, cases_eq, cases_lt, and_parts, and_from, and_right, eqb-true, eq-eqb, not-true, not_from_false}
 use Rattle.std.proofs.lemmas.List.{get_or-map, length-map}
-use Rattle.mdp_spec.specs.Mdp.{Mdp, states_of, choices_at, row_at}
-use Rattle.mdp_spec.specs.Row.{IsMdp}
+use Rattle.std.specs.List.{list_any, range_with_len}
+use Rattle.mdp_spec.specs.{Mdp.{Mdp, states_of, choices_at, row_at}, Row.{IsMdp}}
 use Rattle.mdp_graph.specs.Layers.{reached}
-use Rattle.mdp_ends.specs.Walks.{chosen_step, AreComponents}
-use Rattle.mdp_ends.specs.Numbers.{is_numbered}
+use Rattle.mdp_ends.specs.{Walks.{chosen_step, AreComponents}, Numbers.{is_numbered}}
 use Rattle.mdp_ends.specs.Ends.{IsEnd, IsWithin, IsMaximal, part_of, in_part, is_inside, count_of, AreEnds}
 use Rattle.mdp_ends.specs.Rounds.{KeepsEnds, keeps_part, still_allowed, IsSettled, AreLeft}
-use Rattle.mdp_ends.proofs.Walking.{any-range, range-any, stays-at, stays-by, and_then, target-below}
-use Rattle.mdp_ends.proofs.NumberingFound.{find_below, AreNumbers, numbers_exist}
-use Rattle.mdp_ends.proofs.RoundLaws.{number-has, inside-is, all_kept, round_kept, ends_found}
-use Rattle.mdp_graph.proofs.Settling.{count_below, count-more}
-use Rattle.mdp_ends.proofs.Saturating.{count-same, enough}
+use Rattle.mdp_ends.proofs.{Walking.{any-range, range-any, stays-at, stays-by, and_then, target-below}, NumberingFound.{find_below, AreNumbers, numbers_exist}}
+use Rattle.mdp_ends.proofs.{RoundLaws.{number-has, inside-is, all_kept, round_kept, ends_found}, Saturating.{count-same, enough}}
 use Rattle.mdp_ends.proofs.Closing.{chosen-rises, reaches, reaches_by}
+use Rattle.mdp_graph.proofs.Settling.{count_below, count-more}
 
 -- ---- a list in which each has a number
 

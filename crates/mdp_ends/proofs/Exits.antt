@@ -1,17 +1,14 @@
 -- The exits of a node are the choices of its states that aren't inside.
 use Rattle.std.proofs.Common.{◌≡◌, inl, inr, ℕ, suc, zero, ◌<◌, Bool, true, false, not, ◌&&◌, ◌==◌, List, []}
 use Rattle.std.proofs.Common.{◌∷◌, length, get_or, map, filter, refl, sym, ap, ◌∙◌, subst, arith, Option, Some, None}
-use Rattle.std.specs.List.{range_with_len, flat_map, All, Contains}
 use Rattle.std.proofs.lemmas.Bool.{cases_Bool, and_parts, and_from, eqb-true, eq-eqb, not-true, not_from_false}
 use Rattle.std.proofs.lemmas.List.Elements.{All-append, All-filter, All-map, filter_passes, Contains-append_left, Contains-append_right}
 use Rattle.std.proofs.lemmas.List.FromFn.{length-range_with_len, get_or-range_with_len, length-map-range_with_len, get_or-map-range_with_len}
 use Rattle.std.proofs.lemmas.List.{get_or-map, length-map}
+use Rattle.std.specs.List.{range_with_len, flat_map, All, Contains}
 use Rattle.mdp_spec.specs.Mdp.{Mdp, states_of, choices_at}
-use Rattle.mdp_rows.specs.declared.preds.Pred.{Pred}
-use Rattle.mdp_rows.specs.Preds.{pair, choices_of, choices_below}
-use Rattle.mdp_ends.specs.Ends.{is_inside}
-use Rattle.mdp_ends.specs.Quotient.{AreNodes, nodes_in, exits_of}
-use Rattle.mdp_ends.specs.Selection.{exit_at}
+use Rattle.mdp_rows.specs.{declared.preds.Pred.{Pred}, Preds.{pair, choices_of, choices_below}}
+use Rattle.mdp_ends.specs.{Ends.{is_inside}, Quotient.{AreNodes, nodes_in, exits_of}, Selection.{exit_at}}
 use Rattle.mdp_ends.proofs.Numbering.{some-same, numbered-below, numbered-has}
 
 -- ---- lists

@@ -2,24 +2,14 @@
 use Rattle.std.proofs.Common.{◌≡◌, inl, inr, ℕ, ◌<◌, true, ◌==◌, List, [], ◌∷◌, length, get_or, refl, sym, ap, ◌∙◌, subst, Option, Some, pos, negsuc}
 use Rattle.std.proofs.lemmas.Bool.{false≢true, cases_Bool, eq-eqb}
 use Rattle.mdp_math.specs.Rational.{ℚ, ◌+ℚ◌, ◌-ℚ◌, ◌*ℚ◌, ◌≤ℚ◌}
-use Rattle.mdp_math.proofs.Kernel.{weigh-same, weigh-add, weigh-sub, weigh-scale, weigh-const}
-use Rattle.mdp_math.proofs.Laws.{rat_ring}
-use Rattle.mdp_math.proofs.Linear.{linear, known, at_most, equal}
-use Rattle.mdp_math.proofs.Order.{1ℚ, ≤ℚ_of_eq}
-use Rattle.mdp_math.proofs.Ring.{◌⊕◌, ◌⊗◌, ⊖, lit, ring}
-use Rattle.mdp_spec.specs.Mdp.{Entry, Mdp, states_of, choices_at, row_at}
-use Rattle.mdp_spec.specs.Row.{IsMdp}
+use Rattle.mdp_math.proofs.{Kernel.{weigh-same, weigh-add, weigh-sub, weigh-scale, weigh-const}, Laws.{rat_ring}, Linear.{linear, known, at_most, equal}}
+use Rattle.mdp_math.proofs.{Order.{1ℚ, ≤ℚ_of_eq}, Ring.{◌⊕◌, ◌⊗◌, ⊖, lit, ring}}
+use Rattle.mdp_spec.specs.{Mdp.{Entry, Mdp, states_of, choices_at, row_at}, Row.{IsMdp}}
 use Rattle.mdp_spec.proofs.Rows.{probs_nonneg}
-use Rattle.mdp_rows.specs.Preds.{leads_to}
-use Rattle.mdp_rows.specs.declared.dir.Dir.{Dir}
-use Rattle.mdp_rows.specs.declared.dir.Dir.TheVariants.{Max, Min}
-use Rattle.mdp_ends.specs.Ends.{part_of, in_part, is_inside, stays_with, AreEnds}
-use Rattle.mdp_ends.specs.Quotient.{AreNodes, nodes_in, node_row}
+use Rattle.mdp_rows.specs.{Preds.{leads_to}, declared.dir.Dir.{Dir}, declared.dir.Dir.TheVariants.{Max, Min}}
+use Rattle.mdp_ends.specs.{Ends.{part_of, in_part, is_inside, stays_with, AreEnds}, Quotient.{AreNodes, nodes_in, node_row}}
 use Rattle.mdp_ends.specs.Join.{over, CanJoin, bound_of, IsCoveredBy}
-use Rattle.mdp_ends.proofs.Walking.{some-any, stays-at}
-use Rattle.mdp_ends.proofs.Numbering.{case-number}
-use Rattle.mdp_ends.proofs.RoundLaws.{number-has, inside-stays}
-use Rattle.mdp_ends.proofs.MergedRows.{over-merged}
+use Rattle.mdp_ends.proofs.{Walking.{some-any, stays-at}, Numbering.{case-number}, RoundLaws.{number-has, inside-stays}, MergedRows.{over-merged}}
 use Rattle.mdp_ends.proofs.Leaving.{node_of-below, same_node}
 
 -- what an entry leads to

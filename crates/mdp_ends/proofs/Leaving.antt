@@ -1,31 +1,21 @@
 -- Every selection of exits leaves.
 use Rattle.std.proofs.Common.{◌≡◌, inl, inr, ℕ, suc, ◌<◌, Bool, true, false, not, ◌||◌, ◌&&◌, ◌==◌, nat_le}
 use Rattle.std.proofs.Common.{List, [], ◌∷◌, length, get_or, refl, sym, ap, ◌∙◌, subst, arith, Option, Some}
-use Rattle.std.specs.List.{range_with_len, All}
 use Rattle.std.proofs.lemmas.Bool.{false≢true, cases_Bool, or_cases, or_left, or_right, and_parts, and_from, eqb-true, eq-eqb, not-true, not_from_false, cond-false, le-leb}
 use Rattle.std.proofs.lemmas.List.FromFn.{length-range_with_len, get_or-range_with_len, length-map-range_with_len, get_or-map-range_with_len}
 use Rattle.std.proofs.lemmas.List.Elements.{All-cons, All-map}
+use Rattle.std.specs.List.{range_with_len, All}
 use Rattle.mdp_math.specs.Rational.{◌+ℚ◌, ◌<ℚ◌}
-use Rattle.mdp_math.proofs.Laws.{+ℚ_comm, zero-+ℚ}
-use Rattle.mdp_math.proofs.Order.{0ℚ, 1ℚ}
-use Rattle.mdp_math.proofs.Whole.{one-pos}
-use Rattle.mdp_spec.specs.Mdp.{Entry, Mdp, states_of, choices_at, row_at}
-use Rattle.mdp_spec.specs.Row.{IsRow, IsMdp, AreRows}
-use Rattle.mdp_rows.specs.declared.preds.Pred.{Pred}
-use Rattle.mdp_rows.specs.Preds.{leads_to}
-use Rattle.mdp_graph.specs.Sets.{stays_in}
-use Rattle.mdp_graph.specs.Layers.{reached}
-use Rattle.mdp_graph.specs.Reach.{row_step}
-use Rattle.mdp_ends.specs.Walks.{Reaches}
-use Rattle.mdp_ends.specs.Ends.{IsEnd, part_of, in_part, is_inside, stays_with, count_of, AreEnds}
+use Rattle.mdp_math.proofs.{Laws.{+ℚ_comm, zero-+ℚ}, Order.{0ℚ, 1ℚ}, Whole.{one-pos}}
+use Rattle.mdp_spec.specs.{Mdp.{Entry, Mdp, states_of, choices_at, row_at}, Row.{IsRow, IsMdp, AreRows}}
+use Rattle.mdp_rows.specs.{declared.preds.Pred.{Pred}, Preds.{leads_to}}
+use Rattle.mdp_graph.specs.{Sets.{stays_in}, Layers.{reached}, Reach.{row_step}}
+use Rattle.mdp_ends.specs.{Walks.{Reaches}, Ends.{IsEnd, part_of, in_part, is_inside, stays_with, count_of, AreEnds}}
 use Rattle.mdp_ends.specs.Quotient.{AreNodes, nodes_in, exits_of, node_row}
 use Rattle.mdp_ends.specs.Selection.{is_exitless, IsSelection, exit_at, exit_row, selected_row, selected_rows, EverySelectionLeaves}
 use Rattle.mdp_ends.proofs.Walking.{leads-below, stays-at, stays-by, enters-at, enters-by, target-below, here, moved}
-use Rattle.mdp_ends.proofs.Numbering.{some-same, case-number, numbered-below}
-use Rattle.mdp_ends.proofs.RoundLaws.{has-number, number-has, inside-stays, inside-by}
-use Rattle.mdp_ends.proofs.Closing.{reaches, reaches_by, bottom}
-use Rattle.mdp_ends.proofs.Saturating.{enough, saturated}
-use Rattle.mdp_ends.proofs.MergedRows.{merged-leads, merged_row}
+use Rattle.mdp_ends.proofs.{Numbering.{some-same, case-number, numbered-below}, RoundLaws.{has-number, number-has, inside-stays, inside-by}}
+use Rattle.mdp_ends.proofs.{Closing.{reaches, reaches_by, bottom}, Saturating.{enough, saturated}, MergedRows.{merged-leads, merged_row}}
 use Rattle.mdp_ends.proofs.Exits.{exit_known, node-below, node-has}
 
 module _ (m : Mdp) (ok : IsMdp m) (ends : List (Option ℕ)) (are : AreEnds m ends) (nodes : List ℕ) (numbered : AreNodes ends nodes) where

@@ -1,25 +1,14 @@
 -- The lifted policy reaches the gain, and with its own bias the gain and the bias.
 use Rattle.std.proofs.Common.{◌≡◌, ◌⊎◌, inl, inr, ℕ, suc, ◌<◌, true, false, ◌==◌, List, [], ◌∷◌, length, get_or, refl, sym, ap, ◌∙◌, subst, arith, Option, pos}
-use Rattle.std.proofs.lemmas.Bool.{cases_Bool, eqb-true}
-use Rattle.std.proofs.lemmas.List.FromFn.{get_or-map-range_with_len}
+use Rattle.std.proofs.{lemmas.Bool.{cases_Bool, eqb-true}, lemmas.List.FromFn.{get_or-map-range_with_len}}
 use Rattle.mdp_math.specs.Rational.{ℚ, ◌+ℚ◌, ◌-ℚ◌}
-use Rattle.mdp_math.proofs.Kernel.{weigh-same}
-use Rattle.mdp_math.proofs.Linear.{combine, equal}
-use Rattle.mdp_math.proofs.Ring.{◌⊕◌, ⊖, lit}
-use Rattle.mdp_spec.specs.Mdp.{Entry, Mdp, states_of, choices_at, row_at}
-use Rattle.mdp_spec.specs.Row.{IsMdp}
-use Rattle.mdp_rows.specs.declared.dir.Dir.{Dir}
-use Rattle.mdp_rows.specs.declared.preds.Pred.{Pred}
-use Rattle.mdp_ends.specs.Ends.{part_of, in_part, is_inside, AreEnds}
-use Rattle.mdp_ends.specs.Quotient.{AreNodes, nodes_in, node_row}
-use Rattle.mdp_ends.specs.Selection.{exit_row}
-use Rattle.mdp_ends.specs.Toward.{IsOuter, lifted_choice, lifted}
-use Rattle.mdp_ends.specs.Join.{over, IsReachedBy}
-use Rattle.mdp_ends.proofs.Walking.{stays-at}
-use Rattle.mdp_ends.proofs.RoundLaws.{number-has, inside-stays}
-use Rattle.mdp_ends.proofs.Leaving.{node_of-below, same_node}
-use Rattle.mdp_ends.proofs.Joining.{leads-to_entry, over-node_row, over-inside, part_inside}
-use Rattle.mdp_ends.proofs.Lifting.{less_one, exit_of, goes-on, lifted_falls}
+use Rattle.mdp_math.proofs.{Kernel.{weigh-same}, Linear.{combine, equal}, Ring.{◌⊕◌, ⊖, lit}}
+use Rattle.mdp_spec.specs.{Mdp.{Entry, Mdp, states_of, choices_at, row_at}, Row.{IsMdp}}
+use Rattle.mdp_rows.specs.{declared.dir.Dir.{Dir}, declared.preds.Pred.{Pred}}
+use Rattle.mdp_ends.specs.{Ends.{part_of, in_part, is_inside, AreEnds}, Quotient.{AreNodes, nodes_in, node_row}, Selection.{exit_row}}
+use Rattle.mdp_ends.specs.{Toward.{IsOuter, lifted_choice, lifted}, Join.{over, IsReachedBy}}
+use Rattle.mdp_ends.proofs.{Walking.{stays-at}, RoundLaws.{number-has, inside-stays}, Leaving.{node_of-below, same_node}}
+use Rattle.mdp_ends.proofs.{Joining.{leads-to_entry, over-node_row, over-inside, part_inside}, Lifting.{less_one, exit_of, goes-on, lifted_falls}}
 
 module _ (m : Mdp) (ok : IsMdp m) (ends : List (Option ℕ)) (are : AreEnds m ends) (nodes : List ℕ) (numbered : AreNodes ends nodes) (outer : List ℕ) (o : IsOuter m ends nodes outer) (inner : List ℕ)
     (inner_in : (s : ℕ) → s < states_of m → get_or outer (get_or nodes s 0) 0 ≡ 0 → (get_or inner s 0 < length (choices_at m s)) × (is_inside m ends s (get_or inner s 0) ≡ true)) where

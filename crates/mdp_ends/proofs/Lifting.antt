@@ -1,33 +1,19 @@
 -- A policy of the nodes leaves the nodes that don't stop, and the policy that it is lifted to leaves their states.
 use Rattle.std.proofs.Common.{◌≡◌, ◌⊎◌, inl, inr, ℕ, suc, zero, ◌+◌, ◌*◌, ◌<◌, ◌≤◌, Bool, true, false, not, ◌&&◌}
-use Rattle.std.proofs.Common.{◌==◌, nat_lt, List, [], length, get_or, map, refl, sym, ap, ◌∙◌, subst, arith, Option, Some}
-use Rattle.std.proofs.Math.Nat.{mul-le-mul_right}
-use Rattle.std.specs.List.{range_with_len, All, Any}
+use Rattle.std.proofs.{Common.{◌==◌, nat_lt, List, [], length, get_or, map, refl, sym, ap, ◌∙◌, subst, arith, Option, Some}, Math.Nat.{mul-le-mul_right}}
 use Rattle.std.proofs.lemmas.Bool.{false≢true, cases_eq, or_cases, and_parts, and_from, eqb-true, ne_eqb, eq-eqb, not-true, ltb-true, lt-ltb, cond-true, cond-false}
-use Rattle.std.proofs.lemmas.List.Elements.{All-map}
-use Rattle.std.proofs.lemmas.List.Folds.{Any-from_list_any}
+use Rattle.std.proofs.{lemmas.List.Elements.{All-map}, lemmas.List.Folds.{Any-from_list_any}}
 use Rattle.std.proofs.lemmas.List.FromFn.{length-range_with_len, get_or-range_with_len, length-map-range_with_len, get_or-map-range_with_len}
-use Rattle.mdp_spec.specs.Mdp.{Entry, Mdp, states_of, choices_at, row_at}
-use Rattle.mdp_spec.specs.Row.{IsRow, IsMdp, AreRows}
-use Rattle.mdp_rows.specs.declared.preds.Pred.{Pred}
-use Rattle.mdp_rows.specs.Preds.{leads_to}
-use Rattle.mdp_graph.specs.Sets.{can_enter}
-use Rattle.mdp_graph.specs.Layers.{reached}
-use Rattle.mdp_graph.specs.Reach.{row_step}
+use Rattle.std.specs.List.{range_with_len, All, Any}
+use Rattle.mdp_spec.specs.{Mdp.{Entry, Mdp, states_of, choices_at, row_at}, Row.{IsRow, IsMdp, AreRows}}
+use Rattle.mdp_rows.specs.{declared.preds.Pred.{Pred}, Preds.{leads_to}}
+use Rattle.mdp_graph.specs.{Sets.{can_enter}, Layers.{reached}, Reach.{row_step}}
 use Rattle.mdp_elim.specs.System.{is_active, Leaves}
-use Rattle.mdp_ends.specs.Walks.{chosen_step, comes_to}
-use Rattle.mdp_ends.specs.Ends.{part_of, in_part, is_inside, AreEnds}
-use Rattle.mdp_ends.specs.Quotient.{AreNodes, nodes_in, exits_of}
-use Rattle.mdp_ends.specs.Selection.{exit_at, exit_row}
-use Rattle.mdp_ends.specs.Toward.{first_below, rank_to, choice_to, IsOuter, outer_row, lifted_by, lifted_choice, lifted}
-use Rattle.mdp_ends.proofs.Walking.{leads-below, stays-at, enters-at, enters-by, step-has, target-below}
-use Rattle.mdp_ends.proofs.Numbering.{numbered-below}
-use Rattle.mdp_ends.proofs.RoundLaws.{has-number, number-has, inside-stays}
-use Rattle.mdp_ends.proofs.Closing.{reaches_by}
-use Rattle.mdp_ends.proofs.MergedRows.{merged-from}
-use Rattle.mdp_ends.proofs.Exits.{exit_known}
-use Rattle.mdp_ends.proofs.Leaving.{node_of-below, same_node, exit_row-is, loop, leaves_all}
-use Rattle.mdp_ends.proofs.Firsts.{first-le, first-least, first-found}
+use Rattle.mdp_ends.specs.{Walks.{chosen_step, comes_to}, Ends.{part_of, in_part, is_inside, AreEnds}, Quotient.{AreNodes, nodes_in, exits_of}}
+use Rattle.mdp_ends.specs.{Selection.{exit_at, exit_row}, Toward.{first_below, rank_to, choice_to, IsOuter, outer_row, lifted_by, lifted_choice, lifted}}
+use Rattle.mdp_ends.proofs.{Walking.{leads-below, stays-at, enters-at, enters-by, step-has, target-below}, Numbering.{numbered-below}}
+use Rattle.mdp_ends.proofs.{RoundLaws.{has-number, number-has, inside-stays}, Closing.{reaches_by}, MergedRows.{merged-from}, Exits.{exit_known}}
+use Rattle.mdp_ends.proofs.{Leaving.{node_of-below, same_node, exit_row-is, loop, leaves_all}, Firsts.{first-le, first-least, first-found}}
 
 -- ---- layers
 

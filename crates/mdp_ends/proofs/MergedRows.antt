@@ -1,21 +1,14 @@
 -- Rows merged by node: distributions, which lead where the row leads, and over which values of nodes sum as over the row.
 use Rattle.std.proofs.Common.{◌≡◌, inl, inr, ℕ, suc, zero, ◌+◌, ◌<◌, ◌≤◌, Bool, true, not, ◌==◌, nat_le}
 use Rattle.std.proofs.Common.{cond, List, [], ◌∷◌, get_or, map, filter, refl, sym, ap, ◌∙◌, subst, arith, pos}
-use Rattle.std.specs.List.{range_with_len, All}
 use Rattle.std.proofs.lemmas.Bool.{false≢true, cases_Bool, cases_eq, or_cases, or_left, or_right, and_from, eqb-true, eq-eqb, ne_eqb, le-leb, not_from_false, not-true}
-use Rattle.std.proofs.lemmas.List.Elements.{All-filter, All-map, filter_passes}
-use Rattle.std.proofs.lemmas.List.FromFn.{length-range_with_len, get_or-range_with_len}
-use Rattle.mdp_math.specs.Rational.{ℚ, of_int, ◌+ℚ◌, ◌*ℚ◌, ◌≤ℚ◌, ◌<ℚ◌, le_ℚ}
-use Rattle.mdp_math.specs.Sum.{sum_of}
-use Rattle.mdp_math.proofs.Extremes.{le_of_test, gt_of_test}
-use Rattle.mdp_math.proofs.Kernel.{All-head, All-tail}
-use Rattle.mdp_math.proofs.Laws.{rat_ring, +ℚ_comm, zero-+ℚ, zero-*ℚ}
-use Rattle.mdp_math.proofs.Linear.{combine, equal}
-use Rattle.mdp_math.proofs.Order.{0ℚ, 1ℚ, ≤ℚ_refl, ≤ℚ_of_lt, ≤ℚ_antisymm, add-nonneg, add-pos-nonneg, clash_ℚ, <ℚ_irrefl}
-use Rattle.mdp_math.proofs.Ring.{◌⊕◌, ◌⊗◌, lit, ring}
+use Rattle.std.proofs.{lemmas.List.Elements.{All-filter, All-map, filter_passes}, lemmas.List.FromFn.{length-range_with_len, get_or-range_with_len}}
+use Rattle.std.specs.List.{range_with_len, All}
+use Rattle.mdp_math.specs.{Rational.{ℚ, of_int, ◌+ℚ◌, ◌*ℚ◌, ◌≤ℚ◌, ◌<ℚ◌, le_ℚ}, Sum.{sum_of}}
+use Rattle.mdp_math.proofs.{Extremes.{le_of_test, gt_of_test}, Kernel.{All-head, All-tail}, Laws.{rat_ring, +ℚ_comm, zero-+ℚ, zero-*ℚ}, Linear.{combine, equal}}
+use Rattle.mdp_math.proofs.{Order.{0ℚ, 1ℚ, ≤ℚ_refl, ≤ℚ_of_lt, ≤ℚ_antisymm, add-nonneg, add-pos-nonneg, clash_ℚ, <ℚ_irrefl}, Ring.{◌⊕◌, ◌⊗◌, lit, ring}}
 use Rattle.mdp_math.proofs.Sums.{sum_of-scale_right, sum_of-swap, sum_of-map, sum_of-same, sum_of-same_all}
-use Rattle.mdp_spec.specs.Mdp.{Entry}
-use Rattle.mdp_spec.specs.Row.{ascends_from, IsDistribution, IsRow}
+use Rattle.mdp_spec.specs.{Mdp.{Entry}, Row.{ascends_from, IsDistribution, IsRow}}
 use Rattle.mdp_rows.specs.Preds.{leads_to}
 use Rattle.mdp_graph.specs.Sets.{stays_in}
 use Rattle.mdp_ends.specs.Quotient.{mass_in, merged}

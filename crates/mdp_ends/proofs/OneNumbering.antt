@@ -1,15 +1,10 @@
 -- Components, maximal end components and nodes have one numbering each.
 use Rattle.std.proofs.Common.{◌≡◌, inl, inr, ℕ, suc, zero, ◌+◌, ◌<◌, ◌≤◌, ◌↔◌, Bool, true, ◌&&◌, ◌==◌, nat_lt, List}
 use Rattle.std.proofs.Common.{[], ◌∷◌, ◌++◌, length, get_or, map, refl, sym, ap, ◌∙◌, subst, arith, Option, Some, None}
-use Rattle.std.proofs.lemmas.Bool.{or_left, or_right, and_from, eq-eqb, cases_lt}
-use Rattle.std.proofs.lemmas.List.{get_or-map, length-map}
+use Rattle.std.proofs.{lemmas.Bool.{or_left, or_right, and_from, eq-eqb, cases_lt}, lemmas.List.{get_or-map, length-map}}
 use Rattle.mdp_spec.specs.Mdp.{Mdp, states_of}
-use Rattle.mdp_ends.specs.Walks.{AreComponents}
-use Rattle.mdp_ends.specs.Numbers.{is_numbered, count_from}
-use Rattle.mdp_ends.specs.Ends.{part_of, in_part, AreEnds}
-use Rattle.mdp_ends.specs.Quotient.{AreNodes}
-use Rattle.mdp_ends.proofs.Numbering.{head_cases, some-same, some≢none, case-number, numbered-below, numbered-has}
-use Rattle.mdp_ends.proofs.RoundLaws.{has-number, number-has}
+use Rattle.mdp_ends.specs.{Walks.{AreComponents}, Numbers.{is_numbered, count_from}, Ends.{part_of, in_part, AreEnds}, Quotient.{AreNodes}}
+use Rattle.mdp_ends.proofs.{Numbering.{head_cases, some-same, some≢none, case-number, numbered-below, numbered-has}, RoundLaws.{has-number, number-has}}
 
 -- ---- a list in two pieces
 

@@ -1,14 +1,11 @@
 -- A search that forbids each choice that leaves its component ends with the maximal end components.
 use Rattle.std.proofs.Common.{◌≡◌, inl, inr, ℕ, ◌<◌, Bool, true, ◌==◌, List, length, get_or, Option, Some, None, refl, sym, ap, ◌∙◌, arith}
 use Rattle.std.proofs.lemmas.Bool.{false≢true, eqb-true, eq-eqb, and_from}
-use Rattle.mdp_spec.specs.Mdp.{Mdp, states_of, choices_at, row_at}
-use Rattle.mdp_spec.specs.Row.{IsMdp}
+use Rattle.mdp_spec.specs.{Mdp.{Mdp, states_of, choices_at, row_at}, Row.{IsMdp}}
 use Rattle.mdp_graph.specs.Sets.{stays_in}
-use Rattle.mdp_ends.specs.Walks.{AreComponents}
-use Rattle.mdp_ends.specs.Ends.{IsEnd, IsWithin, IsMaximal, part_of, has_number, in_part, stays_with, is_inside, count_of, AreEnds}
+use Rattle.mdp_ends.specs.{Walks.{AreComponents}, Ends.{IsEnd, IsWithin, IsMaximal, part_of, has_number, in_part, stays_with, is_inside, count_of, AreEnds}}
 use Rattle.mdp_ends.specs.Rounds.{KeepsEnds, keeps_part, still_allowed, IsSettled, AreLeft}
-use Rattle.mdp_ends.proofs.Walking.{stays-at, stays-by, target-below, walk_to, moved}
-use Rattle.mdp_ends.proofs.Numbering.{some-same, case-number, numbered-below, numbered-has}
+use Rattle.mdp_ends.proofs.{Walking.{stays-at, stays-by, target-below, walk_to, moved}, Numbering.{some-same, case-number, numbered-below, numbered-has}}
 
 -- ---- parts
 

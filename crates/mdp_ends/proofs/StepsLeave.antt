@@ -1,19 +1,12 @@
 -- A selection of exits is a policy of the nodes that stops only where there is no exit.
 use Rattle.std.proofs.Common.{◌≡◌, inl, inr, ℕ, suc, ◌<◌, true, cond, List, length, get_or, map, sym, ◌∙◌, arith, Option, Some}
-use Rattle.std.specs.List.{range_with_len}
 use Rattle.std.proofs.lemmas.Bool.{false≢true, cases_Bool, eqb-true, cond-true, cond-false}
 use Rattle.std.proofs.lemmas.List.FromFn.{length-map-range_with_len, get_or-map-range_with_len}
-use Rattle.mdp_spec.specs.Mdp.{Mdp, states_of}
-use Rattle.mdp_spec.specs.Row.{IsMdp}
+use Rattle.std.specs.List.{range_with_len}
+use Rattle.mdp_spec.specs.{Mdp.{Mdp, states_of}, Row.{IsMdp}}
 use Rattle.mdp_elim.specs.System.{Leaves}
-use Rattle.mdp_ends.specs.Ends.{part_of, is_inside, AreEnds}
-use Rattle.mdp_ends.specs.Quotient.{AreNodes, nodes_in, exits_of}
-use Rattle.mdp_ends.specs.Selection.{is_exitless, IsSelection}
-use Rattle.mdp_ends.specs.Toward.{IsOuter}
-use Rattle.mdp_ends.proofs.Exits.{exit_found}
-use Rattle.mdp_ends.proofs.Leaving.{node_of-below}
-use Rattle.mdp_ends.proofs.Joining.{part_inside}
-use Rattle.mdp_ends.proofs.Lifting.{outer_rows, active_nodes, node_ranks, outer_leaves}
+use Rattle.mdp_ends.specs.{Ends.{part_of, is_inside, AreEnds}, Quotient.{AreNodes, nodes_in, exits_of}, Selection.{is_exitless, IsSelection}, Toward.{IsOuter}}
+use Rattle.mdp_ends.proofs.{Exits.{exit_found}, Leaving.{node_of-below}, Joining.{part_inside}, Lifting.{outer_rows, active_nodes, node_ranks, outer_leaves}}
 
 module _ (m : Mdp) (ok : IsMdp m) (ends : List (Option ℕ)) (are : AreEnds m ends) (nodes : List ℕ) (numbered : AreNodes ends nodes) where
   -- a state of a node without exits is in a part

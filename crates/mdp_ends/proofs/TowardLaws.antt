@@ -1,20 +1,12 @@
 -- A pass toward states of a part marks the part.
 use Rattle.std.proofs.Common.{◌≡◌, inl, inr, ℕ, suc, zero, ◌<◌, Bool, true, not, ◌||◌, ◌==◌, List, length, get_or, sym, ap, ◌∙◌, Option}
 use Rattle.std.proofs.lemmas.Bool.{false≢true, cases_Bool, cases_lt, or_cases, or_left, or_right, and_parts, and_from, eqb-true, not_from_true}
-use Rattle.mdp_spec.specs.Mdp.{Mdp, states_of, row_at}
-use Rattle.mdp_spec.specs.Row.{IsMdp}
-use Rattle.mdp_graph.specs.Sets.{marked}
-use Rattle.mdp_graph.specs.Layers.{reached, AreReached, AreLeastRanks}
-use Rattle.mdp_ends.specs.Walks.{chosen_step}
-use Rattle.mdp_ends.specs.Ends.{part_of, in_part, is_inside, stays_with, count_of, AreEnds}
-use Rattle.mdp_ends.specs.Toward.{inner_step, target_in}
-use Rattle.mdp_ends.proofs.Walking.{stays-at, step-has, step-by}
-use Rattle.mdp_ends.proofs.Numbering.{case-number}
-use Rattle.mdp_ends.proofs.RoundLaws.{has-number, number-has, inside-stays}
+use Rattle.mdp_spec.specs.{Mdp.{Mdp, states_of, row_at}, Row.{IsMdp}}
+use Rattle.mdp_graph.specs.{Sets.{marked}, Layers.{reached, AreReached, AreLeastRanks}}
+use Rattle.mdp_ends.specs.{Walks.{chosen_step}, Ends.{part_of, in_part, is_inside, stays_with, count_of, AreEnds}, Toward.{inner_step, target_in}}
+use Rattle.mdp_ends.proofs.{Walking.{stays-at, step-has, step-by}, Numbering.{case-number}, RoundLaws.{has-number, number-has, inside-stays}}
+use Rattle.mdp_ends.proofs.{Saturating.{saturated}, Closing.{chosen-rises}, ByTest.{each_below, agree, each-at, agreed}}
 use Rattle.mdp_rows.specs.Preds.{leads_to}
-use Rattle.mdp_ends.proofs.Saturating.{saturated}
-use Rattle.mdp_ends.proofs.Closing.{chosen-rises}
-use Rattle.mdp_ends.proofs.ByTest.{each_below, agree, each-at, agreed}
 
 -- what is reached from one state of the first set is reached from the set
 pub wider : (step : (ℕ → Bool) → ℕ → Bool) (rises : (p q : ℕ → Bool) → ((t : ℕ) → p t ≡ true → q t ≡ true) → (s : ℕ)

@@ -1,20 +1,13 @@
 -- The pass toward one state of a part has the ranks and choices that are computed for this state.
 use Rattle.std.proofs.Common.{◌≡◌, ℕ, suc, ◌<◌, Bool, true, false, ◌&&◌, ◌==◌, nat_lt, List, length, get_or, ap, ◌∙◌, arith, Option}
 use Rattle.std.proofs.lemmas.Bool.{and_parts, and_from, eqb-true, eq-eqb, false_from_ne_true, ltb-true, lt-ltb}
-use Rattle.mdp_spec.specs.Mdp.{Mdp, states_of, choices_at, row_at}
-use Rattle.mdp_spec.specs.Row.{IsMdp}
+use Rattle.mdp_spec.specs.{Mdp.{Mdp, states_of, choices_at, row_at}, Row.{IsMdp}}
 use Rattle.mdp_rows.specs.Preds.{leads_to}
-use Rattle.mdp_graph.specs.Sets.{marked, can_enter}
-use Rattle.mdp_graph.specs.Layers.{reached, AreLeastRanks}
-use Rattle.mdp_graph.specs.Choices.{AreLeast}
-use Rattle.mdp_ends.specs.Walks.{comes_to}
-use Rattle.mdp_ends.specs.Ends.{part_of, in_part, is_inside, count_of, AreEnds}
+use Rattle.mdp_graph.specs.{Sets.{marked, can_enter}, Layers.{reached, AreLeastRanks}, Choices.{AreLeast}}
+use Rattle.mdp_ends.specs.{Walks.{comes_to}, Ends.{part_of, in_part, is_inside, count_of, AreEnds}}
 use Rattle.mdp_ends.specs.Toward.{inner_step, target_in, inner_falls, IsToward, rank_to, choice_to}
-use Rattle.mdp_ends.proofs.Walking.{stays-at, enters-at, enters-by, target-below}
-use Rattle.mdp_ends.proofs.RoundLaws.{number-has, inside-stays}
-use Rattle.mdp_ends.proofs.Closing.{reaches_by}
-use Rattle.mdp_ends.proofs.TowardLaws.{wider, steps_rise, toward_marks}
-use Rattle.mdp_ends.proofs.Firsts.{first-least, first-found}
+use Rattle.mdp_ends.proofs.{Walking.{stays-at, enters-at, enters-by, target-below}, RoundLaws.{number-has, inside-stays}, Closing.{reaches_by}}
+use Rattle.mdp_ends.proofs.{TowardLaws.{wider, steps_rise, toward_marks}, Firsts.{first-least, first-found}}
 
 -- the choices that fall, within a part with one target alone whose ranks are known
 module _ (m : Mdp) (ok : IsMdp m) (ends : List (Option ℕ)) (i : ℕ) (target marks : List Bool) (ranks choices : List ℕ) (chosen : AreLeast m target marks (inner_falls m ends marks ranks) choices)

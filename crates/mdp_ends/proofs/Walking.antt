@@ -1,14 +1,12 @@
 -- Walks by chosen choices.
 use Rattle.std.proofs.Common.{◌≡◌, inl, inr, ℕ, suc, zero, ◌<◌, Bool, true, ◌&&◌, ◌==◌, List, [], ◌∷◌, length, get_or, refl, sym, ap, ◌∙◌, subst, arith, pos}
-use Rattle.std.specs.List.{list_any, range_with_len, All}
 use Rattle.std.proofs.lemmas.Bool.{false≢true, eqb-true, eq-eqb, or_cases, or_left, or_right, and_parts, and_from}
 use Rattle.std.proofs.lemmas.List.FromFn.{length-range_with_len, get_or-range_with_len}
+use Rattle.std.specs.List.{list_any, range_with_len, All}
 use Rattle.mdp_math.specs.Rational.{of_int}
-use Rattle.mdp_spec.specs.Mdp.{Entry, Mdp, states_of, choices_at, row_at}
-use Rattle.mdp_spec.specs.Row.{IsMdp}
+use Rattle.mdp_spec.specs.{Mdp.{Entry, Mdp, states_of, choices_at, row_at}, Row.{IsMdp}}
 use Rattle.mdp_rows.specs.Preds.{leads_to}
-use Rattle.mdp_graph.specs.Sets.{can_enter, stays_in}
-use Rattle.mdp_graph.specs.Layers.{reached}
+use Rattle.mdp_graph.specs.{Sets.{can_enter, stays_in}, Layers.{reached}}
 use Rattle.mdp_graph.proofs.RowSets.{list_any-at, list_any-by}
 use Rattle.mdp_ends.specs.Walks.{chosen_step, comes_to, Reaches, AreJoined}
 

@@ -2,8 +2,7 @@
 use Rattle.std.specs.Prelude.{◌≡◌, ℕ, ◌<◌, Bool, true, false, ◌==◌, List, length, Option, Some, None, slice_index_or}
 use Rattle.mdp_spec.specs.Mdp.{Entry, Mdp, states_of, choices_at, row_at}
 use Rattle.mdp_graph.specs.Sets.{stays_in}
-use Rattle.mdp_ends.specs.Walks.{Reaches}
-use Rattle.mdp_ends.specs.Numbers.{is_numbered, count_from}
+use Rattle.mdp_ends.specs.{Walks.{Reaches}, Numbers.{is_numbered, count_from}}
 
 -- a nonempty set of states with chosen choices, at least one at each, whose targets are in the set and by which each state comes to each
 pub record IsEnd (m : Mdp) (set : ℕ → Bool) (chosen : ℕ → ℕ → Bool) : Type 0 where

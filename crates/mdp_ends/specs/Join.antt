@@ -1,12 +1,9 @@
 -- Values of the parts and of the quotient, joined to values of the states that meet the rules of mean payoff.
 use Rattle.std.specs.Prelude.{◌≡◌, ℕ, ◌<◌, true, false, List, length, Option, Some, pos, slice_index}
-use Rattle.mdp_math.specs.Rational.{ℚ, of_int, ◌+ℚ◌, ◌-ℚ◌, ◌*ℚ◌, ◌≤ℚ◌}
-use Rattle.mdp_math.specs.Kernel.{weigh}
+use Rattle.mdp_math.specs.{Rational.{ℚ, of_int, ◌+ℚ◌, ◌-ℚ◌, ◌*ℚ◌, ◌≤ℚ◌}, Kernel.{weigh}}
 use Rattle.mdp_spec.specs.Mdp.{Entry, Mdp, states_of, choices_at, row_at}
-use Rattle.mdp_rows.specs.declared.dir.Dir.{Dir}
-use Rattle.mdp_rows.specs.declared.dir.Dir.TheVariants.{Max, Min}
-use Rattle.mdp_ends.specs.Ends.{part_of, is_inside}
-use Rattle.mdp_ends.specs.Quotient.{node_row}
+use Rattle.mdp_rows.specs.{declared.dir.Dir.{Dir}, declared.dir.Dir.TheVariants.{Max, Min}}
+use Rattle.mdp_ends.specs.{Ends.{part_of, is_inside}, Quotient.{node_row}}
 
 -- at least for Max, at most for Min
 abbrev pub IsAsGood : Dir → ℚ → ℚ → Type 0

@@ -1,13 +1,10 @@
 -- The quotient of a model by its end components: its nodes, their exits, and the rows of exits over nodes.
 use Rattle.std.specs.Prelude.{◌≡◌, ℕ, ◌<◌, ◌↔◌, ◌⊎◌, Bool, true, ◌&&◌, ◌==◌, not, cond, List, length, map, filter, Option, Some, pos, slice_index}
 use Rattle.std.specs.List.{range_with_len}
-use Rattle.mdp_math.specs.Rational.{ℚ, of_int, le_ℚ}
-use Rattle.mdp_math.specs.Sum.{sum_of}
+use Rattle.mdp_math.specs.{Rational.{ℚ, of_int, le_ℚ}, Sum.{sum_of}}
 use Rattle.mdp_spec.specs.Mdp.{Entry, Mdp, states_of, row_at}
-use Rattle.mdp_rows.specs.declared.preds.Pred.{Pred}
-use Rattle.mdp_rows.specs.Preds.{choices_below}
-use Rattle.mdp_ends.specs.Numbers.{is_numbered, count_from}
-use Rattle.mdp_ends.specs.Ends.{part_of, is_inside}
+use Rattle.mdp_rows.specs.{declared.preds.Pred.{Pred}, Preds.{choices_below}}
+use Rattle.mdp_ends.specs.{Numbers.{is_numbered, count_from}, Ends.{part_of, is_inside}}
 
 -- both are in the same part
 abbrev pub ShareAPart : List (Option ℕ) → ℕ → ℕ → Type 0

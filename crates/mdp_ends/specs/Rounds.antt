@@ -2,8 +2,7 @@
 use Rattle.std.specs.Prelude.{◌≡◌, ℕ, ◌<◌, ◌↔◌, Bool, true, false, ◌&&◌, ◌==◌, List, length, Option, Some, None, slice_index}
 use Rattle.mdp_spec.specs.Mdp.{Mdp, states_of, choices_at, row_at}
 use Rattle.mdp_graph.specs.Sets.{stays_in}
-use Rattle.mdp_ends.specs.Numbers.{is_numbered}
-use Rattle.mdp_ends.specs.Ends.{IsEnd, part_of}
+use Rattle.mdp_ends.specs.{Numbers.{is_numbered}, Ends.{IsEnd, part_of}}
 
 -- the choices of each end component are allowed
 abbrev pub KeepsEnds : Mdp → (ℕ → ℕ → Bool) → Type 0

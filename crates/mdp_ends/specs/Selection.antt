@@ -2,14 +2,10 @@
 use Rattle.std.specs.Prelude.{◌≡◌, ℕ, ◌<◌, ◌⊎◌, Bool, true, ◌==◌, List, [], ◌∷◌, length, map, cond, Option, pos, slice_index, slice_index_or}
 use Rattle.std.specs.List.{range_with_len}
 use Rattle.mdp_math.specs.Rational.{of_int}
-use Rattle.mdp_spec.specs.Mdp.{Entry, Mdp}
-use Rattle.mdp_spec.specs.Row.{IsMdp}
-use Rattle.mdp_rows.specs.declared.preds.Pred.{Pred}
-use Rattle.mdp_rows.specs.Preds.{pair}
-use Rattle.mdp_graph.specs.Layers.{reached}
-use Rattle.mdp_graph.specs.Reach.{row_step}
-use Rattle.mdp_ends.specs.Ends.{AreEnds}
-use Rattle.mdp_ends.specs.Quotient.{AreNodes, nodes_in, exits_of, node_row}
+use Rattle.mdp_spec.specs.{Mdp.{Entry, Mdp}, Row.{IsMdp}}
+use Rattle.mdp_rows.specs.{declared.preds.Pred.{Pred}, Preds.{pair}}
+use Rattle.mdp_graph.specs.{Layers.{reached}, Reach.{row_step}}
+use Rattle.mdp_ends.specs.{Ends.{AreEnds}, Quotient.{AreNodes, nodes_in, exits_of, node_row}}
 
 abbrev pub is_exitless : Mdp → List (Option ℕ) → List ℕ → ℕ → Bool
 is_exitless m ends nodes q = length (exits_of m ends nodes q) == 0

@@ -4,14 +4,8 @@ use Rattle.std.specs.List.{range_with_len}
 use Rattle.mdp_math.specs.Rational.{of_int}
 use Rattle.mdp_spec.specs.Mdp.{Entry, Mdp, states_of, choices_at, row_at}
 use Rattle.mdp_rows.specs.declared.preds.Pred.{Pred}
-use Rattle.mdp_graph.specs.Sets.{marked, can_enter}
-use Rattle.mdp_graph.specs.Layers.{AreReached, AreLeastRanks}
-use Rattle.mdp_graph.specs.Choices.{AreLeast}
-use Rattle.mdp_graph.specs.Reach.{falls}
-use Rattle.mdp_ends.specs.Walks.{chosen_step, comes_to}
-use Rattle.mdp_ends.specs.Ends.{part_of, in_part, is_inside}
-use Rattle.mdp_ends.specs.Quotient.{nodes_in, exits_of}
-use Rattle.mdp_ends.specs.Selection.{exit_at, exit_row}
+use Rattle.mdp_graph.specs.{Sets.{marked, can_enter}, Layers.{AreReached, AreLeastRanks}, Choices.{AreLeast}, Reach.{falls}}
+use Rattle.mdp_ends.specs.{Walks.{chosen_step, comes_to}, Ends.{part_of, in_part, is_inside}, Quotient.{nodes_in, exits_of}, Selection.{exit_at, exit_row}}
 
 -- ---- the pass toward targets of a part
 

@@ -1,9 +1,7 @@
 -- Which states reach one another by chosen choices, and the components that they form.
-use Rattle.std.specs.Prelude.{◌≡◌, ℕ, ◌<◌, ◌↔◌, Bool, true, ◌&&◌, ◌==◌, List, length, map, Some, slice_index}
-use Rattle.std.specs.List.{list_any, range_with_len}
+use Rattle.std.specs.{Prelude.{◌≡◌, ℕ, ◌<◌, ◌↔◌, Bool, true, ◌&&◌, ◌==◌, List, length, map, Some, slice_index}, List.{list_any, range_with_len}}
 use Rattle.mdp_spec.specs.Mdp.{Mdp, states_of, choices_at, row_at}
-use Rattle.mdp_graph.specs.Sets.{can_enter}
-use Rattle.mdp_graph.specs.Layers.{reached}
+use Rattle.mdp_graph.specs.{Sets.{can_enter}, Layers.{reached}}
 use Rattle.mdp_ends.specs.Numbers.{is_numbered}
 
 -- some chosen choice of state s has a successor in the set

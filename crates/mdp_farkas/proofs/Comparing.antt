@@ -1,12 +1,8 @@
 -- What a comparison by written terms says of the numbers.
 use Rattle.std.proofs.Common.{◌≡◌, Bool, true, true≢false, Option, Some, None, refl, sym, ap}
-use Rattle.std.specs.Option.{IsSome, option_map}
-use Rattle.std.specs.declared.cmp.Ordering.{Ordering}
-use Rattle.std.specs.declared.cmp.Ordering.TheVariants.{Less, Equal, Greater}
-use Rattle.mdp_math.specs.Rational.{ℚ, ◌≤ℚ◌}
-use Rattle.mdp_math.specs.Written.{written_compare, cmp_ℚ}
-use Rattle.mdp_math.proofs.Written.{written_compare-some}
-use Rattle.mdp_math.proofs.Order.{≤ℚ_of_eq, ≤ℚ_of_lt, clash_ℚ, lt_of_cmp, eq_of_cmp, gt_of_cmp}
+use Rattle.std.specs.{Option.{IsSome, option_map}, declared.cmp.Ordering.{Ordering}, declared.cmp.Ordering.TheVariants.{Less, Equal, Greater}}
+use Rattle.mdp_math.specs.{Rational.{ℚ, ◌≤ℚ◌}, Written.{written_compare, cmp_ℚ}}
+use Rattle.mdp_math.proofs.{Written.{written_compare-some}, Order.{≤ℚ_of_eq, ≤ℚ_of_lt, clash_ℚ, lt_of_cmp, eq_of_cmp, gt_of_cmp}}
 use Rattle.mdp_farkas.specs.Compare.{not_less, not_greater, no_order, is_at_least, is_at_most, is_equal}
 
 -- a test of the order, and what it means

@@ -2,8 +2,7 @@
 use Rattle.std.proofs.Common.{◌≡◌, ℕ, Bool, ◌||◌, ◌&&◌, List, [], ◌∷◌, length, refl, sym, ap, ◌∙◌, arith}
 use Rattle.std.specs.List.{list_all, list_any}
 use Rattle.mdp_math.specs.Rational.{ℚ}
-use Rattle.mdp_spec.specs.Mdp.{Entry}
-use Rattle.mdp_spec.specs.Row.{entries}
+use Rattle.mdp_spec.specs.{Mdp.{Entry}, Row.{entries}}
 
 pub list_any-entries : (p : ℕ → Bool) (ts : List ℕ) (ps : List ℚ) → length ts ≡ length ps → list_any (λ (y : Entry). p y.target) (entries ts ps) ≡ list_any p ts
 list_any-entries p [] ps e = refl

@@ -1,24 +1,16 @@
 -- Verdicts, computed, on the model `split`.
 use Rattle.std.proofs.Common.{◌≡◌, ℕ, ◌+◌, ◌^◌, ◌∙◌, Bool, true, false, true≢false, [], ◌∷◌, refl, sym, pos, Option, Some, None, arith}
-use Rattle.mdp_math.specs.Gcd.{gcd, gcd_with_fuel}
-use Rattle.mdp_math.specs.Rational.{ℚ, of_int, ratio, le_ℚ, lt_ℚ, ◌+ℚ◌, ◌*ℚ◌}
+use Rattle.mdp_math.specs.{Gcd.{gcd, gcd_with_fuel}, Rational.{ℚ, of_int, ratio, le_ℚ, lt_ℚ, ◌+ℚ◌, ◌*ℚ◌}}
 use Rattle.mdp_math.specs.Written.{narrow, narrow_ℚ, written_add, written_mul, written_compare}
-use Rattle.mdp_math.proofs.Extremes.{le_of_test, test_of_le}
-use Rattle.mdp_math.proofs.Tables.{AreEqual}
-use Rattle.mdp_spec.specs.Mdp.{row_at}
-use Rattle.mdp_spec.specs.Row.{row_sum}
+use Rattle.mdp_math.proofs.{Extremes.{le_of_test, test_of_le}, Tables.{AreEqual}}
+use Rattle.mdp_spec.specs.{Mdp.{row_at}, Row.{row_sum}}
 use Rattle.mdp_spec.proofs.Small.{nought, one, third, split, split_goals}
-use Rattle.mdp_farkas.specs.Verdict.{verdict_of}
-use Rattle.mdp_farkas.specs.Upper.{upper_checks}
-use Rattle.mdp_farkas.specs.Reach.{reach_checks}
-use Rattle.mdp_farkas.specs.Says.{UpperSays, ReachSays}
+use Rattle.mdp_farkas.specs.{Verdict.{verdict_of}, Upper.{upper_checks}, Reach.{reach_checks}, Says.{UpperSays, ReachSays}}
 use Rattle.mdp_farkas.proofs.ReachTelling.{upper_refuted, reach_refuted}
 use Rattle.mdp_rows.specs.declared.dir.Dir.TheVariants.{Max, Min}
-use Rattle.mdp_claims.specs.declared.verdict.Verdict.{Verdict}
-use Rattle.mdp_claims.specs.declared.verdict.Verdict.TheVariants.{Yes, No, Wide}
+use Rattle.mdp_claims.specs.{declared.verdict.Verdict.{Verdict}, declared.verdict.Verdict.TheVariants.{Yes, No, Wide}}
 use Rattle.mdp_claims.specs.declared.rule.Rule.TheVariants.{BiasOnPolicy, ChoiceExists, GoalValue, Probability, RankFalls, RankZero, ValueOnEachChoice}
-use Rattle.mdp_claims.specs.declared.rule.Rule.TheVariants.{ValueOnPolicy}
-use Rattle.mdp_claims.specs.declared.rule.Rule.{Rule}
+use Rattle.mdp_claims.specs.{declared.rule.Rule.TheVariants.{ValueOnPolicy}, declared.rule.Rule.{Rule}}
 
 abbrev fault : Rule → ℕ → Option ℕ → Verdict
 fault rule state choice = No (record { rule = rule; state = Some state; choice = choice })

@@ -2,21 +2,15 @@
 -- each step, or moves to 1, which earns 4 in each step, or to 2, which earns nothing, with 1/2 each; `leave` earns 1 in each step, and 5 once
 -- on the way from 0 to 1; `pay` loses 1 in each step at 0, or 5 once on the way to 1, which loses 1/2 in each step.
 use Rattle.std.proofs.Common.{◌≡◌, ℕ, ◌+◌, ◌^◌, ◌∙◌, Bool, true, false, true≢false, List, [], ◌∷◌, refl, sym, Option, Some, None, arith}
-use Rattle.mdp_math.specs.Gcd.{gcd, gcd_with_fuel}
-use Rattle.mdp_math.specs.Rational.{ℚ, of_int, ratio, le_ℚ, neg_ℚ, ◌+ℚ◌, ◌*ℚ◌}
+use Rattle.mdp_math.specs.{Gcd.{gcd, gcd_with_fuel}, Rational.{ℚ, of_int, ratio, le_ℚ, neg_ℚ, ◌+ℚ◌, ◌*ℚ◌}}
 use Rattle.mdp_math.specs.Written.{narrow, narrow_ℚ, written_add, written_mul, written_compare}
-use Rattle.mdp_math.proofs.Extremes.{le_of_test, test_of_le}
-use Rattle.mdp_math.proofs.Tables.{AreEqual}
-use Rattle.mdp_spec.specs.Mdp.{Mdp, row_at}
-use Rattle.mdp_spec.specs.Row.{row_sum}
+use Rattle.mdp_math.proofs.{Extremes.{le_of_test, test_of_le}, Tables.{AreEqual}}
+use Rattle.mdp_spec.specs.{Mdp.{Mdp, row_at}, Row.{row_sum}}
 use Rattle.mdp_spec.proofs.Small.{gamble, leave, minus, model, number, over, pay, state, to}
-use Rattle.mdp_farkas.specs.Verdict.{verdict_of}
-use Rattle.mdp_farkas.specs.Mean.{mean_checks}
-use Rattle.mdp_farkas.specs.Says.{MeanSays}
+use Rattle.mdp_farkas.specs.{Verdict.{verdict_of}, Mean.{mean_checks}, Says.{MeanSays}}
 use Rattle.mdp_farkas.proofs.MeanTelling.{mean_refuted}
 use Rattle.mdp_rows.specs.declared.dir.Dir.TheVariants.{Max, Min}
-use Rattle.mdp_claims.specs.declared.verdict.Verdict.{Verdict}
-use Rattle.mdp_claims.specs.declared.verdict.Verdict.TheVariants.{Yes, No, Wide}
+use Rattle.mdp_claims.specs.{declared.verdict.Verdict.{Verdict}, declared.verdict.Verdict.TheVariants.{Yes, No, Wide}}
 use Rattle.mdp_claims.specs.declared.rule.Rule.TheVariants.{BiasOnPolicy, BoundOnEachChoice, ChoiceExists, GainOnEachChoice, GainOnPolicy, SpreadIsGreatest}
 use Rattle.mdp_claims.specs.declared.rule.Rule.{Rule}
 

@@ -1,25 +1,17 @@
 -- Verdicts on rewards, computed, on four models: `wait` waits at 0 for nothing or goes to the goal 1 for 3; `trap` goes from 0 to 1, which is left
 -- nowhere, or to the goal 2 for 4; `arrived` has a goal alone; `loss` goes on to a goal that earns -1.
 use Rattle.std.proofs.Common.{◌≡◌, ℕ, ◌+◌, ◌^◌, ◌∙◌, Bool, true, false, true≢false, List, [], ◌∷◌, refl, sym, pos, negsuc, Option, Some, None, arith}
-use Rattle.mdp_math.specs.Gcd.{gcd, gcd_with_fuel}
-use Rattle.mdp_math.specs.Rational.{ℚ, of_int, ratio, le_ℚ, ◌+ℚ◌, ◌*ℚ◌}
+use Rattle.mdp_math.specs.{Gcd.{gcd, gcd_with_fuel}, Rational.{ℚ, of_int, ratio, le_ℚ, ◌+ℚ◌, ◌*ℚ◌}}
 use Rattle.mdp_math.specs.Written.{narrow, narrow_ℚ, written_add, written_mul, written_compare}
-use Rattle.mdp_math.proofs.Extremes.{le_of_test, test_of_le}
-use Rattle.mdp_math.proofs.Tables.{AreEqual}
-use Rattle.mdp_spec.specs.Mdp.{Choice, Mdp}
-use Rattle.mdp_spec.specs.RewardRules.{backup}
+use Rattle.mdp_math.proofs.{Extremes.{le_of_test, test_of_le}, Tables.{AreEqual}}
+use Rattle.mdp_spec.specs.{Mdp.{Choice, Mdp}, RewardRules.{backup}}
 use Rattle.mdp_spec.proofs.Small.{model, number, state}
-use Rattle.mdp_farkas.specs.Verdict.{verdict_of}
-use Rattle.mdp_farkas.specs.Reward.{reward_checks}
-use Rattle.mdp_farkas.specs.Says.{RewardSays}
+use Rattle.mdp_farkas.specs.{Verdict.{verdict_of}, Reward.{reward_checks}, Says.{RewardSays}}
 use Rattle.mdp_farkas.proofs.RewardTelling.{reward_refuted}
-use Rattle.mdp_rows.specs.declared.dir.Dir.{Dir}
-use Rattle.mdp_rows.specs.declared.dir.Dir.TheVariants.{Max, Min}
-use Rattle.mdp_claims.specs.declared.verdict.Verdict.{Verdict}
-use Rattle.mdp_claims.specs.declared.verdict.Verdict.TheVariants.{Yes, No, Wide}
+use Rattle.mdp_rows.specs.{declared.dir.Dir.{Dir}, declared.dir.Dir.TheVariants.{Max, Min}}
+use Rattle.mdp_claims.specs.{declared.verdict.Verdict.{Verdict}, declared.verdict.Verdict.TheVariants.{Yes, No, Wide}}
 use Rattle.mdp_claims.specs.declared.rule.Rule.TheVariants.{ChoiceExists, EachChoiceMisses, FiniteRankFalls, FiniteTargets, PolicyMisses, RewardNotNegative}
-use Rattle.mdp_claims.specs.declared.rule.Rule.TheVariants.{RewardOnEachChoice, RewardOnPolicy, RewardValue}
-use Rattle.mdp_claims.specs.declared.rule.Rule.{Rule}
+use Rattle.mdp_claims.specs.{declared.rule.Rule.TheVariants.{RewardOnEachChoice, RewardOnPolicy, RewardValue}, declared.rule.Rule.{Rule}}
 
 abbrev value : ℕ → Option ℚ
 value n = Some (number n)

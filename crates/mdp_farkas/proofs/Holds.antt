@@ -1,16 +1,11 @@
 -- A verdict is yes exactly where each check holds; and the claims on lists of checks, part by part.
 use Rattle.std.proofs.Common.{◌≡◌, ℕ, zero, suc, ◌+◌, ◌<◌, Bool, true, false, cond, List, [], ◌∷◌, ◌++◌, map, Option, Some, None, ⊎_elim, refl, sym, ap, subst, ◌∙◌, arith}
-use Rattle.std.specs.List.{flat_map, range_with_len, AllByRecursion}
-use Rattle.std.specs.Option.{IsSome}
-use Rattle.mdp_math.proofs.Numbers.{last_or}
+use Rattle.std.specs.{List.{flat_map, range_with_len, AllByRecursion}, Option.{IsSome}, Prelude.{Result}}
+use Rattle.mdp_math.proofs.{Numbers.{last_or}, Lists.{flat_more, map_more}}
 use Rattle.mdp_farkas.specs.Verdict.{Check, objection, objection_to, verdict, verdict_of, InWidth, IfYes}
-use Rattle.mdp_claims.specs.declared.verdict.Fault.{Fault}
-use Rattle.mdp_claims.specs.declared.verdict.Verdict.{Verdict}
-use Rattle.mdp_claims.specs.declared.verdict.Verdict.TheVariants.{Yes, No, Wide}
+use Rattle.mdp_claims.specs.{declared.verdict.Fault.{Fault}, declared.verdict.Verdict.{Verdict}, declared.verdict.Verdict.TheVariants.{Yes, No, Wide}}
 use Rattle.mdp_claims.specs.declared.verdict.Objection.{Objection}
 use Rattle.mdp_math.specs.Result.{◌>>=◌}
-use Rattle.mdp_math.proofs.Lists.{flat_more, map_more}
-use Rattle.std.specs.Prelude.{Result}
 
 abbrev pub Each : (Check → Type 0) → List Check → Type 0
 Each P cs = AllByRecursion P cs

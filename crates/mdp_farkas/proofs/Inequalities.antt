@@ -2,17 +2,11 @@
 use Rattle.std.proofs.Common.{◌≡◌, ℕ, true, List, Some, sym, subst}
 use Rattle.std.specs.Option.{IsSome}
 use Rattle.mdp_math.specs.Rational.{ℚ, ◌+ℚ◌}
-use Rattle.mdp_spec.specs.Mdp.{Entry, Mdp, row_at, value_at}
-use Rattle.mdp_spec.specs.Row.{row_sum}
-use Rattle.mdp_spec.specs.Written.{written_sum}
+use Rattle.mdp_spec.specs.{Mdp.{Entry, Mdp, row_at, value_at}, Row.{row_sum}, Written.{written_sum}}
 use Rattle.mdp_math.proofs.Laws.{zero-+ℚ}
-use Rattle.mdp_farkas.specs.Compare.{0ℚ}
-use Rattle.mdp_farkas.specs.Bellman.{stands, sum_stands, stands_at}
-use Rattle.mdp_farkas.specs.Says.{IsBound}
-use Rattle.mdp_rows.specs.declared.dir.Dir.{Dir}
-use Rattle.mdp_rows.specs.declared.dir.Dir.TheVariants.{Max, Min}
-use Rattle.mdp_farkas.proofs.Comparing.{le_of_at_least, at_least_of_le, le_of_at_most, at_most_of_le}
-use Rattle.mdp_farkas.proofs.Asking.{asked_holds, asked_sound}
+use Rattle.mdp_farkas.specs.{Compare.{0ℚ}, Bellman.{stands, sum_stands, stands_at}, Says.{IsBound}}
+use Rattle.mdp_rows.specs.{declared.dir.Dir.{Dir}, declared.dir.Dir.TheVariants.{Max, Min}}
+use Rattle.mdp_farkas.proofs.{Comparing.{le_of_at_least, at_least_of_le, le_of_at_most, at_most_of_le}, Asking.{asked_holds, asked_sound}}
 use Rattle.mdp_spec.proofs.Summed.{written_sum-some}
 
 abbrev pub Stands : Dir → ℚ → ℚ → Type 0

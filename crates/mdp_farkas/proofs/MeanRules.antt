@@ -1,38 +1,22 @@
 -- The verdict on mean payoffs is yes exactly where the rules hold in exact numbers and no written term is past width.
 use Rattle.std.proofs.Common.{◌≡◌, ℕ, ◌<◌, lt-ltb, ltb-true, List, [], ◌∷◌, ◌++◌, length, slice_index, true, Some, ◌↔◌, sym, ap, subst, ◌∙◌}
-use Rattle.std.specs.Option.{IsSome, option_and_then}
 use Rattle.std.proofs.lemmas.List.Elements.{All-from_recursion, recursion_from_All}
+use Rattle.std.specs.Option.{IsSome, option_and_then}
 use Rattle.mdp_math.specs.Rational.{ℚ, ◌+ℚ◌}
-use Rattle.mdp_math.proofs.Laws.{zero-+ℚ}
-use Rattle.mdp_math.proofs.Options.{Some_same}
-use Rattle.mdp_math.proofs.Written.{written_add-some}
-use Rattle.mdp_spec.specs.Mdp.{Mdp, states_of, choices_at, choice_at, row_at, value_at}
-use Rattle.mdp_spec.specs.Row.{IsMdp, row_sum}
-use Rattle.mdp_spec.specs.Unit.{reward_of}
-use Rattle.mdp_spec.specs.Tree.{IsPolicy}
-use Rattle.mdp_spec.specs.Bounds.{MeanMax, MeanMin}
-use Rattle.mdp_spec.specs.Written.{written_sum}
-use Rattle.mdp_spec.specs.RewardRules.{backup}
-use Rattle.mdp_spec.specs.MeanRules.{spread_of, IsEvaluation, HasSpread}
-use Rattle.mdp_spec.proofs.Mean.{mean_max_of_rules, mean_min_of_rules}
-use Rattle.mdp_farkas.specs.Verdict.{Check, verdict_of, InWidth, at_choices, IsYes, IfYes}
-use Rattle.mdp_farkas.specs.Compare.{0ℚ, is_equal}
-use Rattle.mdp_farkas.specs.Bellman.{sum_stands}
+use Rattle.mdp_math.proofs.{Laws.{zero-+ℚ}, Options.{Some_same}, Written.{written_add-some}}
+use Rattle.mdp_spec.specs.{Mdp.{Mdp, states_of, choices_at, choice_at, row_at, value_at}, Row.{IsMdp, row_sum}, Unit.{reward_of}, Tree.{IsPolicy}}
+use Rattle.mdp_spec.specs.{Bounds.{MeanMax, MeanMin}, Written.{written_sum}, RewardRules.{backup}, MeanRules.{spread_of, IsEvaluation, HasSpread}}
+use Rattle.mdp_spec.proofs.{Mean.{mean_max_of_rules, mean_min_of_rules}, Summed.{written_sum-some}}
+use Rattle.mdp_farkas.specs.{Verdict.{Check, verdict_of, InWidth, at_choices, IsYes, IfYes}, Compare.{0ℚ, is_equal}, Bellman.{sum_stands}}
 use Rattle.mdp_farkas.specs.Spread.{written_spread}
 use Rattle.mdp_farkas.specs.Mean.{gain_check, written_step, bound_stands, relative_check, keeps_gain, policy_gain_check, earns_gain, policy_bias_check, spread_check}
 use Rattle.mdp_farkas.specs.Mean.{mean_checks_at, state_checks, mean_checks, MeetsMean, IsMean}
-use Rattle.mdp_rows.specs.declared.dir.Dir.{Dir}
-use Rattle.mdp_rows.specs.declared.dir.Dir.TheVariants.{Max, Min}
-use Rattle.mdp_claims.specs.declared.verdict.Fault.{Fault}
-use Rattle.mdp_claims.specs.declared.verdict.Verdict.{Verdict}
-use Rattle.mdp_claims.specs.declared.verdict.Verdict.TheVariants.{No}
+use Rattle.mdp_rows.specs.{declared.dir.Dir.{Dir}, declared.dir.Dir.TheVariants.{Max, Min}}
+use Rattle.mdp_claims.specs.{declared.verdict.Fault.{Fault}, declared.verdict.Verdict.{Verdict}, declared.verdict.Verdict.TheVariants.{No}}
 use Rattle.mdp_farkas.proofs.Holds.{Each, Holds, Sound, each_of_yes, yes_of_each, told_of_each, if_yes, holds_of_sound, never_no}
 use Rattle.mdp_farkas.proofs.Holds.{each_append, each_left, each_right, each_flat, each_flat_at, each_map, each_map_at}
-use Rattle.mdp_farkas.proofs.Comparing.{same_of_equal, equal_of_same}
-use Rattle.mdp_farkas.proofs.Asking.{asked_holds, asked_sound}
-use Rattle.mdp_spec.proofs.Summed.{written_sum-some}
-use Rattle.mdp_farkas.proofs.Inequalities.{Stands, stands_at_of, of_stands_at, sum_stands_of, of_sum_stands}
-use Rattle.mdp_farkas.proofs.Spreading.{written_spread-some}
+use Rattle.mdp_farkas.proofs.{Comparing.{same_of_equal, equal_of_same}, Asking.{asked_holds, asked_sound}}
+use Rattle.mdp_farkas.proofs.{Inequalities.{Stands, stands_at_of, of_stands_at, sum_stands_of, of_sum_stands}, Spreading.{written_spread-some}}
 
 -- ---- what each rule says of the numbers
 

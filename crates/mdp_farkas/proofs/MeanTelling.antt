@@ -1,25 +1,14 @@
 -- A no on mean payoffs: what the named rule says of the named place is false.
 use Rattle.std.proofs.Common.{◌≡◌, ℕ, ◌<◌, lt-ltb, List, [], ◌∷◌, ◌++◌, length, slice_index, Some, refl, ap}
 use Rattle.mdp_math.specs.Rational.{ℚ, ◌+ℚ◌}
-use Rattle.mdp_spec.specs.Mdp.{Mdp, states_of, choices_at, row_at, value_at}
-use Rattle.mdp_spec.specs.Row.{row_sum}
-use Rattle.mdp_spec.specs.RewardRules.{backup}
-use Rattle.mdp_spec.specs.MeanRules.{spread_of}
-use Rattle.mdp_farkas.specs.Verdict.{verdict_of, at_choices}
-use Rattle.mdp_farkas.specs.Compare.{is_equal}
-use Rattle.mdp_farkas.specs.Reach.{choice_exists}
-use Rattle.mdp_farkas.specs.Spread.{written_spread}
+use Rattle.mdp_spec.specs.{Mdp.{Mdp, states_of, choices_at, row_at, value_at}, Row.{row_sum}, RewardRules.{backup}, MeanRules.{spread_of}}
+use Rattle.mdp_farkas.specs.{Verdict.{verdict_of, at_choices}, Compare.{is_equal}, Reach.{choice_exists}, Spread.{written_spread}}
 use Rattle.mdp_farkas.specs.Mean.{gain_check, relative_check, policy_gain_check, policy_bias_check, spread_check, mean_checks_at, state_checks, mean_checks}
 use Rattle.mdp_farkas.specs.Says.{IsBound, IsChoice, IsRowBound, MeanSays}
 use Rattle.mdp_rows.specs.declared.dir.Dir.{Dir}
-use Rattle.mdp_claims.specs.declared.verdict.Fault.{Fault}
-use Rattle.mdp_claims.specs.declared.verdict.Verdict.TheVariants.{No}
-use Rattle.mdp_farkas.proofs.Comparing.{equal_of_same}
-use Rattle.mdp_farkas.proofs.Asking.{asked_sound}
-use Rattle.mdp_farkas.proofs.Inequalities.{of_stands_at}
-use Rattle.mdp_farkas.proofs.Spreading.{written_spread-some}
-use Rattle.mdp_farkas.proofs.MeanRules.{of_bound, of_keeps, of_earns}
-use Rattle.mdp_farkas.proofs.Telling.{refuted, Tells, tells_first, tells_one, tells_append, tells_flat, tells_map}
+use Rattle.mdp_claims.specs.{declared.verdict.Fault.{Fault}, declared.verdict.Verdict.TheVariants.{No}}
+use Rattle.mdp_farkas.proofs.{Comparing.{equal_of_same}, Asking.{asked_sound}, Inequalities.{of_stands_at}, Spreading.{written_spread-some}}
+use Rattle.mdp_farkas.proofs.{MeanRules.{of_bound, of_keeps, of_earns}, Telling.{refuted, Tells, tells_first, tells_one, tells_append, tells_flat, tells_map}}
 
 module _ (dir : Dir) (m : Mdp) (r : ℕ) (g a b : List ℚ) (spread : ℚ) (policy : List ℕ) where
   abbrev Refutes : Fault → Type 0

@@ -2,11 +2,8 @@
 use Rattle.std.proofs.Common.{◌≡◌, suc, Bool, true, false, List, [], ◌∷◌, Option, Some, None, refl, ap, arith}
 use Rattle.std.specs.List.{Any}
 use Rattle.mdp_math.specs.Result.{◌>>=◌}
-use Rattle.mdp_farkas.specs.Verdict.{Check, objection, objection_to, verdict, verdict_of}
-use Rattle.mdp_farkas.specs.Laws.{IsFalse}
-use Rattle.mdp_claims.specs.declared.verdict.Fault.{Fault}
-use Rattle.mdp_claims.specs.declared.verdict.Verdict.{Verdict}
-use Rattle.mdp_claims.specs.declared.verdict.Verdict.TheVariants.{Yes, No, Wide}
+use Rattle.mdp_farkas.specs.{Verdict.{Check, objection, objection_to, verdict, verdict_of}, Laws.{IsFalse}}
+use Rattle.mdp_claims.specs.{declared.verdict.Fault.{Fault}, declared.verdict.Verdict.{Verdict}, declared.verdict.Verdict.TheVariants.{Yes, No, Wide}}
 
 abbrev fault_or : Fault → Verdict → Fault
 fault_or f Yes = f

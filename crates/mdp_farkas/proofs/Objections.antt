@@ -1,7 +1,6 @@
 -- What stands against a list of checks that is walked part by part.
 use Rattle.std.proofs.Common.{◌≡◌, ℕ, zero, suc, ◌+◌, ◌-◌, ◌<◌, Bool, true, false, true≢false, cond, List, [], ◌∷◌, ◌++◌, map, Option, Some, None, refl, sym, ap, ◌∙◌, subst, arith}
-use Rattle.std.specs.Prelude.{Result, Ok, Err}
-use Rattle.std.specs.List.{flat_map, range_with_len}
+use Rattle.std.specs.{Prelude.{Result, Ok, Err}, List.{flat_map, range_with_len}}
 use Rattle.mdp_math.specs.Result.{◌>>=◌}
 use Rattle.mdp_math.proofs.Lists.{flat_more}
 use Rattle.mdp_farkas.specs.Verdict.{Check, objection, objection_to}

@@ -1,11 +1,9 @@
 -- A rule says nothing of a state that the model doesn't have, so where what it says is false the state is one of the model.
 use Rattle.std.proofs.Common.{◌≡◌, ℕ, ◌<◌, ◌≤◌, ⊎_elim, Bool, List, Option, Some, None, arith}
 use Rattle.mdp_math.specs.Rational.{ℚ}
-use Rattle.mdp_math.proofs.Numbers.{le_or}
-use Rattle.mdp_math.proofs.Options.{Some_same}
+use Rattle.mdp_math.proofs.{Numbers.{le_or}, Options.{Some_same}}
 use Rattle.mdp_spec.specs.Mdp.{Mdp, states_of}
-use Rattle.mdp_farkas.specs.Says.{UpperSays, ReachSays, RewardSays, MeanSays}
-use Rattle.mdp_farkas.specs.Laws.{IsInModel}
+use Rattle.mdp_farkas.specs.{Says.{UpperSays, ReachSays, RewardSays, MeanSays}, Laws.{IsInModel}}
 use Rattle.mdp_rows.specs.declared.dir.Dir.{Dir}
 use Rattle.mdp_claims.specs.declared.rule.Rule.{Rule}
 use Rattle.mdp_claims.specs.declared.rule.Rule.TheVariants.{ChoiceExists, Probability, GoalValue, ValueOnEachChoice, ValueOnPolicy, RankZero, RankFalls}

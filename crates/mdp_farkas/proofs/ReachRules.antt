@@ -1,33 +1,21 @@
 -- The verdict on values and a policy is yes exactly where the rules hold in exact numbers and no written term is past width.
 use Rattle.std.proofs.Common.{◌≡◌, ℕ, ◌<◌, ◌⊎◌, inl, inr, ⊎_elim, Bool, true, false, true≢false, not, ◌||◌, ltb, lt-ltb, ltb-true, eqb-true, eq-eqb, List, []}
 use Rattle.std.proofs.Common.{◌∷◌, ◌++◌, length, slice_index, Some, ◌↔◌, refl, sym, ap, subst, ◌∙◌, pos}
+use Rattle.std.proofs.{lemmas.List.Elements.{All-from_recursion, recursion_from_All}, lemmas.List.Folds.{Any-from_list_any, list_any-from_Any}}
 use Rattle.std.specs.List.{Any, list_any}
-use Rattle.std.proofs.lemmas.List.Elements.{All-from_recursion, recursion_from_All}
-use Rattle.std.proofs.lemmas.List.Folds.{Any-from_list_any, list_any-from_Any}
 use Rattle.mdp_math.specs.Rational.{ℚ, of_int, lt_ℚ, ◌<ℚ◌}
-use Rattle.mdp_math.proofs.Booleans.{and-parts, and-both}
-use Rattle.mdp_math.proofs.Options.{Some_same}
-use Rattle.mdp_math.proofs.Extremes.{lt_of_test, test_of_lt, le_of_no_test, no_test_of_le}
+use Rattle.mdp_math.proofs.{Booleans.{and-parts, and-both}, Options.{Some_same}, Extremes.{lt_of_test, test_of_lt, le_of_no_test, no_test_of_le}}
 use Rattle.mdp_math.proofs.Order.{≤ℚ_of_eq, ≤ℚ_antisymm}
-use Rattle.mdp_spec.specs.Mdp.{Entry, Mdp, states_of, choices_at, row_at, value_at}
-use Rattle.mdp_spec.specs.Row.{IsMdp, row_sum}
-use Rattle.mdp_spec.specs.Rules.{AreProbabilities, RanksEnd}
-use Rattle.mdp_spec.specs.Bounds.{ReachMax, ReachMin}
-use Rattle.mdp_spec.specs.Tree.{IsPolicy, is_marked}
+use Rattle.mdp_spec.specs.{Mdp.{Entry, Mdp, states_of, choices_at, row_at, value_at}, Row.{IsMdp, row_sum}, Rules.{AreProbabilities, RanksEnd}}
+use Rattle.mdp_spec.specs.{Bounds.{ReachMax, ReachMin}, Tree.{IsPolicy, is_marked}}
 use Rattle.mdp_spec.proofs.Reach.{reach_max_of_rules, reach_min_of_rules}
-use Rattle.mdp_farkas.specs.Verdict.{Check, verdict_of, InWidth, IsYes, IfYes}
-use Rattle.mdp_farkas.specs.Compare.{0ℚ}
-use Rattle.mdp_farkas.specs.Bellman.{bound_check, bound_checks}
+use Rattle.mdp_farkas.specs.{Verdict.{Check, verdict_of, InWidth, IsYes, IfYes}, Compare.{0ℚ}, Bellman.{bound_check, bound_checks}}
 use Rattle.mdp_farkas.specs.Reach.{other, policy_check, ends, rank_check, leads_down, fall_check, fall_checks, rank_checks, reach_at, reach_checks, MeetsReach, IsReach}
-use Rattle.mdp_rows.specs.declared.dir.Dir.{Dir}
-use Rattle.mdp_rows.specs.declared.dir.Dir.TheVariants.{Max, Min}
-use Rattle.mdp_claims.specs.declared.verdict.Fault.{Fault}
-use Rattle.mdp_claims.specs.declared.verdict.Verdict.{Verdict}
-use Rattle.mdp_claims.specs.declared.verdict.Verdict.TheVariants.{No}
+use Rattle.mdp_rows.specs.{declared.dir.Dir.{Dir}, declared.dir.Dir.TheVariants.{Max, Min}}
+use Rattle.mdp_claims.specs.{declared.verdict.Fault.{Fault}, declared.verdict.Verdict.{Verdict}, declared.verdict.Verdict.TheVariants.{No}}
 use Rattle.mdp_farkas.proofs.Holds.{Each, Holds, Sound, each_of_yes, yes_of_each, told_of_each, if_yes, sound_of_holds, holds_of_sound, never_no}
 use Rattle.mdp_farkas.proofs.Holds.{each_append, each_left, each_right, each_flat, each_flat_at, each_map, each_map_at, each_if, each_if_true, each_if_false}
-use Rattle.mdp_farkas.proofs.Inequalities.{Stands, stands_at_of, of_stands_at}
-use Rattle.mdp_farkas.proofs.UpperRules.{values_at, probabilities_of, rest_of, values_sound}
+use Rattle.mdp_farkas.proofs.{Inequalities.{Stands, stands_at_of, of_stands_at}, UpperRules.{values_at, probabilities_of, rest_of, values_sound}}
 
 -- ---- tests
 

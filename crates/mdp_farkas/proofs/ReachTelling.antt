@@ -2,23 +2,16 @@
 use Rattle.std.proofs.Common.{◌≡◌, ℕ, ◌<◌, ◌⊎◌, inl, inr, ⊎_elim, Bool, true, false, lt-ltb, eq-eqb, List}
 use Rattle.std.proofs.Common.{[], ◌∷◌, ◌++◌, cond, length, slice_index, Some, None, refl, ap}
 use Rattle.mdp_math.specs.Rational.{ℚ, lt_ℚ, ◌≤ℚ◌, ◌<ℚ◌}
-use Rattle.mdp_math.proofs.Extremes.{lt_of_test, le_of_no_test}
-use Rattle.mdp_math.proofs.Order.{≤ℚ_antisymm}
-use Rattle.mdp_spec.specs.Mdp.{Mdp, states_of, choices_at, value_at}
-use Rattle.mdp_spec.specs.Tree.{is_marked}
-use Rattle.mdp_farkas.specs.Verdict.{Check, verdict_of, at_state}
-use Rattle.mdp_farkas.specs.Compare.{0ℚ, 1ℚ, is_at_least, is_at_most}
-use Rattle.mdp_farkas.specs.Bellman.{bound_check, bound_checks}
+use Rattle.mdp_math.proofs.{Extremes.{lt_of_test, le_of_no_test}, Order.{≤ℚ_antisymm}}
+use Rattle.mdp_spec.specs.{Mdp.{Mdp, states_of, choices_at, value_at}, Tree.{is_marked}}
+use Rattle.mdp_farkas.specs.{Verdict.{Check, verdict_of, at_state}, Compare.{0ℚ, 1ℚ, is_at_least, is_at_most}, Bellman.{bound_check, bound_checks}}
 use Rattle.mdp_farkas.specs.Upper.{probability_checks, goal_check, upper_at, upper_checks}
 use Rattle.mdp_farkas.specs.Reach.{other, choice_exists, policy_check, value_checks, ends, rank_check, fall_check, fall_checks, rank_checks, reach_at, reach_checks}
 use Rattle.mdp_farkas.specs.Says.{IsChoice, IsRowBound, LeadsOn, IsProbability, UpperSays, ReachSays}
-use Rattle.mdp_rows.specs.declared.dir.Dir.{Dir}
-use Rattle.mdp_rows.specs.declared.dir.Dir.TheVariants.{Max, Min}
-use Rattle.mdp_claims.specs.declared.verdict.Fault.{Fault}
-use Rattle.mdp_claims.specs.declared.verdict.Verdict.TheVariants.{No}
+use Rattle.mdp_rows.specs.{declared.dir.Dir.{Dir}, declared.dir.Dir.TheVariants.{Max, Min}}
+use Rattle.mdp_claims.specs.{declared.verdict.Fault.{Fault}, declared.verdict.Verdict.TheVariants.{No}}
 use Rattle.mdp_claims.specs.declared.rule.Rule.TheVariants.{GoalValue, Probability, ValueOnEachChoice}
-use Rattle.mdp_farkas.proofs.Comparing.{le_of_at_least, at_least_of_le, at_most_of_le, equal_of_same}
-use Rattle.mdp_farkas.proofs.Inequalities.{of_stands_at}
+use Rattle.mdp_farkas.proofs.{Comparing.{le_of_at_least, at_least_of_le, at_most_of_le, equal_of_same}, Inequalities.{of_stands_at}}
 use Rattle.mdp_farkas.proofs.ReachRules.{of_end, of_no_end, falls_max, falls_min}
 use Rattle.mdp_farkas.proofs.Telling.{refuted, Tells, tells_first, tells_one, tells_append, tells_if, tells_flat, tells_map}
 

@@ -1,34 +1,23 @@
 -- The verdict on rewards until a goal is yes exactly where the rules hold in exact numbers and no written term is past width.
 use Rattle.std.proofs.Common.{◌≡◌, ℕ, ◌<◌, ◌⊎◌, inl, inr, ⊎_elim, Bool, true, false, true≢false, not, ◌&&◌, ◌||◌, ltb, lt-ltb, ltb-true, eqb, eqb-true, eq-eqb}
 use Rattle.std.proofs.Common.{List, [], ◌∷◌, ◌++◌, cond, length, slice_index, Option, Some, None, ◌↔◌, refl, sym, ap, subst, ◌∙◌}
-use Rattle.std.specs.Option.{IsSome}
 use Rattle.std.proofs.lemmas.List.Elements.{All-from_recursion, recursion_from_All}
+use Rattle.std.specs.Option.{IsSome}
 use Rattle.mdp_math.specs.Rational.{ℚ, ◌≤ℚ◌}
-use Rattle.mdp_math.proofs.Booleans.{and-parts, and-both, not_true}
-use Rattle.mdp_math.proofs.Options.{Some_same}
-use Rattle.mdp_spec.specs.Mdp.{Entry, Mdp, states_of, choices_at, choice_at, row_at, value_at}
-use Rattle.mdp_spec.specs.Row.{IsMdp}
-use Rattle.mdp_spec.specs.Unit.{reward_of}
-use Rattle.mdp_spec.specs.Tree.{IsPolicy, is_marked}
+use Rattle.mdp_math.proofs.{Booleans.{and-parts, and-both, not_true}, Options.{Some_same}}
+use Rattle.mdp_spec.specs.{Mdp.{Entry, Mdp, states_of, choices_at, choice_at, row_at, value_at}, Row.{IsMdp}, Unit.{reward_of}, Tree.{IsPolicy, is_marked}}
 use Rattle.mdp_spec.specs.Bounds.{RewardMax, RewardMin, reward_at, finite_part, infinite}
 use Rattle.mdp_spec.specs.RewardRules.{backup, IsInfinite, IsTransient, StaysFinite, Falls, FallsInfinite, StaysInfinite, AreRewards}
-use Rattle.mdp_spec.proofs.Values.{finite_of_some}
-use Rattle.mdp_spec.proofs.Reward.{reward_max_of_rules, reward_min_of_rules}
-use Rattle.mdp_farkas.specs.Verdict.{Check, verdict_of, InWidth, IsYes, IfYes}
-use Rattle.mdp_farkas.specs.Compare.{0ℚ}
-use Rattle.mdp_farkas.specs.Reach.{other}
+use Rattle.mdp_spec.proofs.{Values.{finite_of_some}, Reward.{reward_max_of_rules, reward_min_of_rules}}
+use Rattle.mdp_farkas.specs.{Verdict.{Check, verdict_of, InWidth, IsYes, IfYes}, Compare.{0ℚ}, Reach.{other}}
 use Rattle.mdp_farkas.specs.Reward.{is_nonneg, is_zero, goal_checks, stays_finite, stay_check, stay_checks, is_looked_at, earning_check, earning_checks, policy_earning_check}
 use Rattle.mdp_farkas.specs.Reward.{falls, rank_fall_check, rank_fall_checks, transient_checks, falls_infinite, stays_infinite, all_miss_check, infinite_checks, place_checks}
 use Rattle.mdp_farkas.specs.Reward.{sign_check, sign_checks, reward_checks_at, reward_checks, MeetsReward, IsReward}
-use Rattle.mdp_rows.specs.declared.dir.Dir.{Dir}
-use Rattle.mdp_rows.specs.declared.dir.Dir.TheVariants.{Max, Min}
-use Rattle.mdp_claims.specs.declared.verdict.Fault.{Fault}
-use Rattle.mdp_claims.specs.declared.verdict.Verdict.{Verdict}
-use Rattle.mdp_claims.specs.declared.verdict.Verdict.TheVariants.{No}
+use Rattle.mdp_rows.specs.{declared.dir.Dir.{Dir}, declared.dir.Dir.TheVariants.{Max, Min}}
+use Rattle.mdp_claims.specs.{declared.verdict.Fault.{Fault}, declared.verdict.Verdict.{Verdict}, declared.verdict.Verdict.TheVariants.{No}}
 use Rattle.mdp_farkas.proofs.Holds.{Each, Holds, Sound, each_of_yes, yes_of_each, told_of_each, if_yes, holds_of_sound, never_no}
 use Rattle.mdp_farkas.proofs.Holds.{each_append, each_left, each_right, each_flat, each_flat_at, each_map, each_map_at, each_if, each_if_true, each_if_false}
-use Rattle.mdp_farkas.proofs.Comparing.{le_of_at_least, at_least_of_le, same_of_equal, equal_of_same}
-use Rattle.mdp_farkas.proofs.Inequalities.{Stands, sum_stands_of, of_sum_stands}
+use Rattle.mdp_farkas.proofs.{Comparing.{le_of_at_least, at_least_of_le, same_of_equal, equal_of_same}, Inequalities.{Stands, sum_stands_of, of_sum_stands}}
 use Rattle.mdp_farkas.proofs.Tests.{or-parts, or-first, or-second, all_passed, all_pass, some_passed, some_passes}
 
 -- ---- values that may be infinite

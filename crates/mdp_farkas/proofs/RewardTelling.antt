@@ -1,26 +1,15 @@
 -- A no on rewards until a goal: what the named rule says of the named place is false.
-use Rattle.std.proofs.Common.{◌≡◌, ℕ, ◌<◌, Bool, true, ◌==◌, lt-ltb, eq-eqb, List, [], ◌∷◌, ◌++◌}
-use Rattle.std.proofs.Common.{cond, length, slice_index, Option, Some, refl, ap}
+use Rattle.std.proofs.Common.{◌≡◌, ℕ, ◌<◌, Bool, true, ◌==◌, lt-ltb, eq-eqb, List, [], ◌∷◌, ◌++◌, cond, length, slice_index, Option, Some, refl, ap}
 use Rattle.mdp_math.specs.Rational.{ℚ, ◌≤ℚ◌}
-use Rattle.mdp_spec.specs.Mdp.{Mdp, states_of, choices_at, choice_at, row_at, value_at}
-use Rattle.mdp_spec.specs.Unit.{reward_of}
-use Rattle.mdp_spec.specs.Tree.{is_marked}
-use Rattle.mdp_spec.specs.Bounds.{reward_at, finite_part, infinite}
-use Rattle.mdp_spec.specs.RewardRules.{IsTransient, StaysFinite, Falls}
-use Rattle.mdp_farkas.specs.Verdict.{Check, verdict_of, at_state}
-use Rattle.mdp_farkas.specs.Compare.{0ℚ}
-use Rattle.mdp_farkas.specs.Reach.{other, choice_exists}
+use Rattle.mdp_spec.specs.{Mdp.{Mdp, states_of, choices_at, choice_at, row_at, value_at}, Unit.{reward_of}, Tree.{is_marked}}
+use Rattle.mdp_spec.specs.{Bounds.{reward_at, finite_part, infinite}, RewardRules.{IsTransient, StaysFinite, Falls}}
+use Rattle.mdp_farkas.specs.{Verdict.{Check, verdict_of, at_state}, Compare.{0ℚ}, Reach.{other, choice_exists}}
 use Rattle.mdp_farkas.specs.Reward.{is_zero, nonneg_check, goal_checks, stay_check, stay_checks, is_looked_at, earning_check, earning_checks, policy_earning_check}
 use Rattle.mdp_farkas.specs.Reward.{rank_fall_check, rank_fall_checks, transient_checks, miss_check, all_miss_check, infinite_checks, place_checks, sign_check, sign_checks}
-use Rattle.mdp_farkas.specs.Reward.{reward_checks_at, reward_checks}
-use Rattle.mdp_farkas.specs.Says.{IsChoice, IsSeen, IsEarningBound, Misses, MayMiss, RewardSays}
-use Rattle.mdp_rows.specs.declared.dir.Dir.{Dir}
-use Rattle.mdp_rows.specs.declared.dir.Dir.TheVariants.{Max, Min}
-use Rattle.mdp_claims.specs.declared.verdict.Fault.{Fault}
-use Rattle.mdp_claims.specs.declared.verdict.Verdict.TheVariants.{No}
-use Rattle.mdp_claims.specs.declared.rule.Rule.TheVariants.{RewardValue}
-use Rattle.mdp_farkas.proofs.Comparing.{at_least_of_le}
-use Rattle.mdp_farkas.proofs.Inequalities.{of_sum_stands}
+use Rattle.mdp_farkas.specs.{Reward.{reward_checks_at, reward_checks}, Says.{IsChoice, IsSeen, IsEarningBound, Misses, MayMiss, RewardSays}}
+use Rattle.mdp_rows.specs.{declared.dir.Dir.{Dir}, declared.dir.Dir.TheVariants.{Max, Min}}
+use Rattle.mdp_claims.specs.{declared.verdict.Fault.{Fault}, declared.verdict.Verdict.TheVariants.{No}, declared.rule.Rule.TheVariants.{RewardValue}}
+use Rattle.mdp_farkas.proofs.{Comparing.{at_least_of_le}, Inequalities.{of_sum_stands}}
 use Rattle.mdp_farkas.proofs.RewardRules.{nonneg_sound, zero_sound, stays_of_test, test_of_stays, test_of_falls, test_of_misses, test_of_all_misses}
 use Rattle.mdp_farkas.proofs.Telling.{refuted, Tells, tells_none, tells_first, tells_one, tells_append, tells_if, tells_flat, tells_map}
 

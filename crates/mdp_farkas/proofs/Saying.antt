@@ -1,20 +1,11 @@
 -- What the rules say of all places is together what they ask in exact numbers.
 use Rattle.std.proofs.Common.{◌≡◌, ◌↔◌, ℕ, ◌<◌, Bool, List, length, slice_index, Option, Some, None, refl, sym, subst}
 use Rattle.mdp_math.specs.Rational.{ℚ, ◌+ℚ◌, ◌≤ℚ◌}
-use Rattle.mdp_spec.specs.Mdp.{Mdp, states_of, choices_at, choice_at, row_at, value_at}
-use Rattle.mdp_spec.specs.Row.{row_sum}
-use Rattle.mdp_spec.specs.Unit.{reward_of}
-use Rattle.mdp_spec.specs.Tree.{IsPolicy}
-use Rattle.mdp_spec.specs.Rules.{AreProbabilities, MeetsUpper}
-use Rattle.mdp_spec.specs.RewardRules.{backup, Falls, StaysFinite, AreRewards}
-use Rattle.mdp_spec.specs.MeanRules.{IsEvaluation}
-use Rattle.mdp_farkas.specs.Compare.{0ℚ}
-use Rattle.mdp_farkas.specs.Reach.{MeetsReach}
-use Rattle.mdp_farkas.specs.Reward.{MeetsReward}
-use Rattle.mdp_farkas.specs.Mean.{MeetsMean}
+use Rattle.mdp_spec.specs.{Mdp.{Mdp, states_of, choices_at, choice_at, row_at, value_at}, Row.{row_sum}, Unit.{reward_of}, Tree.{IsPolicy}}
+use Rattle.mdp_spec.specs.{Rules.{AreProbabilities, MeetsUpper}, RewardRules.{backup, Falls, StaysFinite, AreRewards}, MeanRules.{IsEvaluation}}
+use Rattle.mdp_farkas.specs.{Compare.{0ℚ}, Reach.{MeetsReach}, Reward.{MeetsReward}, Mean.{MeetsMean}}
 use Rattle.mdp_farkas.specs.Says.{IsRowBound, LeadsOn, IsEarningBound, Misses, UpperSays, ReachSays, RewardSays, MeanSays}
-use Rattle.mdp_rows.specs.declared.dir.Dir.{Dir}
-use Rattle.mdp_rows.specs.declared.dir.Dir.TheVariants.{Max, Min}
+use Rattle.mdp_rows.specs.{declared.dir.Dir.{Dir}, declared.dir.Dir.TheVariants.{Max, Min}}
 use Rattle.mdp_claims.specs.declared.rule.Rule.{Rule}
 use Rattle.mdp_claims.specs.declared.rule.Rule.TheVariants.{ChoiceExists, Probability, GoalValue, ValueOnEachChoice, ValueOnPolicy, RankZero, RankFalls}
 use Rattle.mdp_claims.specs.declared.rule.Rule.TheVariants.{RewardValue, FiniteTargets, RewardOnEachChoice, RewardOnPolicy, FiniteRankFalls, PolicyMisses, EachChoiceMisses}

@@ -1,24 +1,16 @@
 -- The written spread of two lists is their spread.
 use Rattle.std.proofs.Common.{◌≡◌, Bool, true, false, true≢false, cond, List, [], ◌∷◌, Some, refl, sym, ap, subst, ◌∙◌}
-use Rattle.std.specs.List.{AllByRecursion}
-use Rattle.std.specs.Option.{option_and_then}
-use Rattle.std.specs.declared.cmp.Ordering.{Ordering}
-use Rattle.std.specs.declared.cmp.Ordering.TheVariants.{Less, Equal, Greater}
 use Rattle.std.proofs.lemmas.List.Elements.{All-from_recursion, recursion_from_All}
-use Rattle.mdp_math.specs.Rational.{ℚ, neg_ℚ, ◌+ℚ◌, ◌≤ℚ◌}
-use Rattle.mdp_math.specs.Written.{written_compare, cmp_ℚ}
-use Rattle.mdp_math.specs.Extremes.{least, greatest}
-use Rattle.mdp_math.proofs.Options.{Some_same, step_told}
-use Rattle.mdp_math.proofs.Written.{written_compare-some, written_add-some}
+use Rattle.std.specs.{List.{AllByRecursion}, Option.{option_and_then}, declared.cmp.Ordering.{Ordering}}
+use Rattle.std.specs.declared.cmp.Ordering.TheVariants.{Less, Equal, Greater}
+use Rattle.mdp_math.specs.{Rational.{ℚ, neg_ℚ, ◌+ℚ◌, ◌≤ℚ◌}, Written.{written_compare, cmp_ℚ}, Extremes.{least, greatest}}
+use Rattle.mdp_math.proofs.{Options.{Some_same, step_told}, Written.{written_compare-some, written_add-some}}
 use Rattle.mdp_math.proofs.Order.{≤ℚ_refl, ≤ℚ_trans, ≤ℚ_antisymm, ≤ℚ_of_eq, ≤ℚ_of_lt, lt_of_cmp, eq_of_cmp, gt_of_cmp}
 use Rattle.mdp_math.proofs.Extremes.{least-le, least-ge, greatest-ge, greatest-le}
 use Rattle.mdp_num.specs.Written.{written_sub}
 use Rattle.mdp_spec.specs.MeanRules.{width_of, spread_of}
-use Rattle.mdp_farkas.specs.Compare.{0ℚ}
-use Rattle.mdp_rows.specs.Better.{is_better}
-use Rattle.mdp_farkas.specs.Spread.{written_best, written_extreme, written_width, written_spread}
-use Rattle.mdp_rows.specs.declared.dir.Dir.{Dir}
-use Rattle.mdp_rows.specs.declared.dir.Dir.TheVariants.{Max, Min}
+use Rattle.mdp_farkas.specs.{Compare.{0ℚ}, Spread.{written_best, written_extreme, written_width, written_spread}}
+use Rattle.mdp_rows.specs.{Better.{is_better}, declared.dir.Dir.{Dir}, declared.dir.Dir.TheVariants.{Max, Min}}
 
 -- ---- the best of a list, by steps
 

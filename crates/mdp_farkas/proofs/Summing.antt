@@ -3,9 +3,7 @@ use Rattle.std.proofs.Common.{◌≡◌, Bool, List, Option, ap, ◌∙◌, pos}
 use Rattle.std.specs.Option.{IsSome, option_and_then}
 use Rattle.mdp_math.specs.Rational.{ℚ, of_int, ◌+ℚ◌}
 use Rattle.mdp_math.proofs.Laws.{zero-+ℚ}
-use Rattle.mdp_spec.specs.Mdp.{Entry}
-use Rattle.mdp_spec.specs.Row.{row_sum}
-use Rattle.mdp_spec.specs.Written.{written_sum}
+use Rattle.mdp_spec.specs.{Mdp.{Entry}, Row.{row_sum}, Written.{written_sum}}
 use Rattle.mdp_spec.proofs.Summed.{written_sum-some}
 use Rattle.mdp_farkas.proofs.Asking.{asked}
 

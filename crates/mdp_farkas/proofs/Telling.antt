@@ -1,16 +1,12 @@
 -- What a no says of the fault that it names, part by part: the checks before that one hold.
 use Rattle.std.proofs.Common.{◌≡◌, ℕ, zero, suc, ◌+◌, ◌<◌, Bool, true, false, true≢false, cond, List, [], ◌∷◌, ◌++◌, map}
 use Rattle.std.proofs.Common.{Option, Some, None, sym, ap, subst, ◌∙◌, refl, arith}
-use Rattle.std.specs.List.{flat_map, range_with_len}
-use Rattle.std.specs.Option.{IsSome}
+use Rattle.std.specs.{List.{flat_map, range_with_len}, Option.{IsSome}}
 use Rattle.mdp_math.specs.Result.{◌>>=◌}
-use Rattle.mdp_math.proofs.Lists.{flat_more, map_more}
-use Rattle.mdp_math.proofs.Options.{Some_same}
+use Rattle.mdp_math.proofs.{Lists.{flat_more, map_more}, Options.{Some_same}}
 use Rattle.mdp_farkas.specs.Verdict.{Check, objection, objection_to, verdict, verdict_of}
 use Rattle.mdp_farkas.proofs.Holds.{Each, Holds}
-use Rattle.mdp_claims.specs.declared.verdict.Fault.{Fault}
-use Rattle.mdp_claims.specs.declared.verdict.Verdict.{Verdict}
-use Rattle.mdp_claims.specs.declared.verdict.Verdict.TheVariants.{Yes, No, Wide}
+use Rattle.mdp_claims.specs.{declared.verdict.Fault.{Fault}, declared.verdict.Verdict.{Verdict}, declared.verdict.Verdict.TheVariants.{Yes, No, Wide}}
 
 -- what is named where the check is false
 abbrev pub fault_of : Check → Fault

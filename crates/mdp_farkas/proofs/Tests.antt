@@ -1,8 +1,7 @@
 -- What a test of each, or of some, element of a list says, and of one of two.
 use Rattle.std.proofs.Common.{◌≡◌, ◌⊎◌, inl, inr, Bool, true, false, true≢false, ◌||◌, List, [], ◌∷◌, refl, sym}
+use Rattle.std.proofs.{lemmas.List.Elements.{All-from_recursion, recursion_from_All}, lemmas.List.Folds.{Any-from_list_any, list_any-from_Any}}
 use Rattle.std.specs.List.{All, Any, AllByRecursion, list_all, list_any}
-use Rattle.std.proofs.lemmas.List.Elements.{All-from_recursion, recursion_from_All}
-use Rattle.std.proofs.lemmas.List.Folds.{Any-from_list_any, list_any-from_Any}
 use Rattle.mdp_math.proofs.Booleans.{and-parts, and-both}
 
 pub or-parts : (a b : Bool) → (a || b) ≡ true → (a ≡ true) ⊎ (b ≡ true)

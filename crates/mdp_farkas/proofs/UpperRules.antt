@@ -2,20 +2,12 @@
 use Rattle.std.proofs.Common.{◌≡◌, ℕ, ◌<◌, Bool, false, cond, List, [], ◌∷◌, ◌++◌, length, ◌↔◌, sym, ◌∙◌}
 use Rattle.std.proofs.lemmas.List.Elements.{All-from_recursion, recursion_from_All}
 use Rattle.mdp_math.specs.Rational.{ℚ}
-use Rattle.mdp_spec.specs.Mdp.{Mdp, states_of, choices_at, value_at}
-use Rattle.mdp_spec.specs.Row.{IsMdp}
-use Rattle.mdp_spec.specs.Tree.{is_marked}
-use Rattle.mdp_spec.specs.Rules.{AreProbabilities, MeetsUpper}
-use Rattle.mdp_spec.specs.Bounds.{Above}
+use Rattle.mdp_spec.specs.{Mdp.{Mdp, states_of, choices_at, value_at}, Row.{IsMdp}, Tree.{is_marked}, Rules.{AreProbabilities, MeetsUpper}, Bounds.{Above}}
 use Rattle.mdp_spec.proofs.Reach.{above_of_rules}
-use Rattle.mdp_farkas.specs.Verdict.{Check, verdict_of, InWidth, IsYes, IfYes}
-use Rattle.mdp_farkas.specs.Compare.{0ℚ, 1ℚ}
-use Rattle.mdp_farkas.specs.Bellman.{bound_check, bound_checks}
+use Rattle.mdp_farkas.specs.{Verdict.{Check, verdict_of, InWidth, IsYes, IfYes}, Compare.{0ℚ, 1ℚ}, Bellman.{bound_check, bound_checks}}
 use Rattle.mdp_farkas.specs.Upper.{probability_checks, goal_check, upper_at, upper_checks, IsUpper}
 use Rattle.mdp_rows.specs.declared.dir.Dir.TheVariants.{Max}
-use Rattle.mdp_claims.specs.declared.verdict.Fault.{Fault}
-use Rattle.mdp_claims.specs.declared.verdict.Verdict.{Verdict}
-use Rattle.mdp_claims.specs.declared.verdict.Verdict.TheVariants.{No}
+use Rattle.mdp_claims.specs.{declared.verdict.Fault.{Fault}, declared.verdict.Verdict.{Verdict}, declared.verdict.Verdict.TheVariants.{No}}
 use Rattle.mdp_farkas.proofs.Holds.{Each, Holds, Sound, each_of_yes, yes_of_each, told_of_each, if_yes, holds_of_sound, never_no}
 use Rattle.mdp_farkas.proofs.Holds.{each_flat, each_flat_at, each_map, each_map_at, each_if, each_if_true, each_if_false}
 use Rattle.mdp_farkas.proofs.Comparing.{le_of_at_least, at_least_of_le, le_of_at_most, at_most_of_le, same_of_equal, equal_of_same}

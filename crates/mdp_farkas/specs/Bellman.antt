@@ -1,13 +1,9 @@
 -- Bellman's inequality, by written operations: how the value of a state stands to the sum over the row of a choice.
 use Rattle.std.specs.Prelude.{ℕ, Bool, List, Option}
-use Rattle.mdp_math.specs.Rational.{ℚ}
-use Rattle.mdp_math.specs.Written.{◌>>=◌}
-use Rattle.mdp_spec.specs.Mdp.{Entry, Mdp, row_at, value_at}
-use Rattle.mdp_spec.specs.Written.{written_sum}
-use Rattle.mdp_farkas.specs.Compare.{0ℚ, is_at_least, is_at_most}
-use Rattle.mdp_farkas.specs.Verdict.{Check, at_choice, at_choices}
-use Rattle.mdp_rows.specs.declared.dir.Dir.{Dir}
-use Rattle.mdp_rows.specs.declared.dir.Dir.TheVariants.{Max, Min}
+use Rattle.mdp_math.specs.{Rational.{ℚ}, Written.{◌>>=◌}}
+use Rattle.mdp_spec.specs.{Mdp.{Entry, Mdp, row_at, value_at}, Written.{written_sum}}
+use Rattle.mdp_farkas.specs.{Compare.{0ℚ, is_at_least, is_at_most}, Verdict.{Check, at_choice, at_choices}}
+use Rattle.mdp_rows.specs.{declared.dir.Dir.{Dir}, declared.dir.Dir.TheVariants.{Max, Min}}
 use Rattle.mdp_claims.specs.declared.rule.Rule.TheVariants.{ValueOnEachChoice}
 
 -- how a value stands to a sum: at least for Max, at most for Min

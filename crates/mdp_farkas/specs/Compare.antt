@@ -1,9 +1,7 @@
 -- Comparisons by written terms: an answer, or nothing where a term is past width.
-use Rattle.std.specs.Prelude.{Bool, true, false, Option, option_map, pos}
-use Rattle.std.specs.declared.cmp.Ordering.{Ordering}
+use Rattle.std.specs.{Prelude.{Bool, true, false, Option, option_map, pos}, declared.cmp.Ordering.{Ordering}}
 use Rattle.std.specs.declared.cmp.Ordering.TheVariants.{Less, Equal, Greater}
-use Rattle.mdp_math.specs.Rational.{ℚ, of_int}
-use Rattle.mdp_math.specs.Written.{written_compare}
+use Rattle.mdp_math.specs.{Rational.{ℚ, of_int}, Written.{written_compare}}
 
 abbrev pub 0ℚ : ℚ
 0ℚ = of_int (pos 0)

@@ -1,22 +1,12 @@
 -- What a no means: a check of the named rule at the named place is false, and so is, in exact numbers, what the rule says of that place; so the rules
 -- don't hold in exact numbers.
-use Rattle.std.specs.Prelude.{◌≡◌, ◌↔◌, ℕ, ◌<◌, Bool, false, List, length, Option, Some}
-use Rattle.std.specs.List.{Any}
+use Rattle.std.specs.{Prelude.{◌≡◌, ◌↔◌, ℕ, ◌<◌, Bool, false, List, length, Option, Some}, List.{Any}}
 use Rattle.mdp_math.specs.Rational.{ℚ, ◌≤ℚ◌}
-use Rattle.mdp_spec.specs.Mdp.{Mdp, states_of, choices_at, choice_at}
-use Rattle.mdp_spec.specs.Unit.{reward_of}
-use Rattle.mdp_spec.specs.Rules.{MeetsUpper}
-use Rattle.mdp_farkas.specs.Compare.{0ℚ}
-use Rattle.mdp_farkas.specs.Verdict.{Check, verdict_of}
-use Rattle.mdp_farkas.specs.Upper.{upper_checks}
-use Rattle.mdp_farkas.specs.Reach.{reach_checks, MeetsReach}
-use Rattle.mdp_farkas.specs.Reward.{reward_checks, MeetsReward}
-use Rattle.mdp_farkas.specs.Mean.{mean_checks, MeetsMean}
-use Rattle.mdp_farkas.specs.Says.{UpperSays, ReachSays, RewardSays, MeanSays}
+use Rattle.mdp_spec.specs.{Mdp.{Mdp, states_of, choices_at, choice_at}, Unit.{reward_of}, Rules.{MeetsUpper}}
+use Rattle.mdp_farkas.specs.{Compare.{0ℚ}, Verdict.{Check, verdict_of}, Upper.{upper_checks}, Reach.{reach_checks, MeetsReach}}
+use Rattle.mdp_farkas.specs.{Reward.{reward_checks, MeetsReward}, Mean.{mean_checks, MeetsMean}, Says.{UpperSays, ReachSays, RewardSays, MeanSays}}
 use Rattle.mdp_rows.specs.declared.dir.Dir.{Dir}
-use Rattle.mdp_claims.specs.declared.rule.Rule.{Rule}
-use Rattle.mdp_claims.specs.declared.verdict.Fault.{Fault}
-use Rattle.mdp_claims.specs.declared.verdict.Verdict.TheVariants.{No}
+use Rattle.mdp_claims.specs.{declared.rule.Rule.{Rule}, declared.verdict.Fault.{Fault}, declared.verdict.Verdict.TheVariants.{No}}
 
 -- the check is of the rule and at the place that the fault names, and it is false
 abbrev pub IsFalse : Fault → Check → Type 0

@@ -7,21 +7,12 @@
 --     rule 19  the gain and the bias together are what the policy's choice earns by the bias
 -- and at the end, at no state:
 --     rule 20  the spread is the greater of two ranges, from the least to the greatest bound and from the least to the greatest bias
-use Rattle.std.specs.Prelude.{ℕ, Bool, List, [], ◌∷◌, ◌++◌, slice_index, Option, None}
-use Rattle.std.specs.List.{All, flat_map, range_with_len}
-use Rattle.mdp_math.specs.Rational.{ℚ}
-use Rattle.mdp_math.specs.Written.{written_add, ◌>>=◌}
-use Rattle.mdp_spec.specs.Mdp.{Mdp, states_of, choice_at, row_at, value_at}
-use Rattle.mdp_spec.specs.Unit.{reward_of}
-use Rattle.mdp_spec.specs.Written.{written_sum}
-use Rattle.mdp_spec.specs.MeanRules.{MeetsMeanMax, MeetsMeanMin}
-use Rattle.mdp_farkas.specs.Compare.{0ℚ, is_equal}
-use Rattle.mdp_farkas.specs.Verdict.{Check, InWidth, at_choice, at_choices}
-use Rattle.mdp_farkas.specs.Bellman.{sum_stands, stands_at}
-use Rattle.mdp_farkas.specs.Reach.{choice_exists}
+use Rattle.std.specs.{Prelude.{ℕ, Bool, List, [], ◌∷◌, ◌++◌, slice_index, Option, None}, List.{All, flat_map, range_with_len}}
+use Rattle.mdp_math.specs.{Rational.{ℚ}, Written.{written_add, ◌>>=◌}}
+use Rattle.mdp_spec.specs.{Mdp.{Mdp, states_of, choice_at, row_at, value_at}, Unit.{reward_of}, Written.{written_sum}, MeanRules.{MeetsMeanMax, MeetsMeanMin}}
+use Rattle.mdp_farkas.specs.{Compare.{0ℚ, is_equal}, Verdict.{Check, InWidth, at_choice, at_choices}, Bellman.{sum_stands, stands_at}, Reach.{choice_exists}}
 use Rattle.mdp_farkas.specs.Spread.{written_spread}
-use Rattle.mdp_rows.specs.declared.dir.Dir.{Dir}
-use Rattle.mdp_rows.specs.declared.dir.Dir.TheVariants.{Max, Min}
+use Rattle.mdp_rows.specs.{declared.dir.Dir.{Dir}, declared.dir.Dir.TheVariants.{Max, Min}}
 use Rattle.mdp_claims.specs.declared.rule.Rule.TheVariants.{BiasOnPolicy, BoundOnEachChoice, GainOnEachChoice, GainOnPolicy, SpreadIsGreatest}
 
 -- rule 16

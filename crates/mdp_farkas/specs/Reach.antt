@@ -11,15 +11,10 @@
 use Rattle.std.specs.Prelude.{ℕ, Bool, ◌==◌, ◌&&◌, ◌||◌, not, nat_lt, List, [], ◌∷◌, ◌++◌, length, slice_index, Some, if◌then◌else◌}
 use Rattle.std.specs.List.{All, flat_map, list_any, range_with_len}
 use Rattle.mdp_math.specs.Rational.{ℚ, lt_ℚ}
-use Rattle.mdp_spec.specs.Mdp.{Mdp, states_of, choices_at, row_at, value_at}
-use Rattle.mdp_spec.specs.Tree.{is_marked}
-use Rattle.mdp_spec.specs.Rules.{MeetsReachMax, MeetsReachMin}
-use Rattle.mdp_farkas.specs.Compare.{0ℚ}
-use Rattle.mdp_farkas.specs.Verdict.{Check, InWidth, at_state, at_choice, at_choices}
-use Rattle.mdp_farkas.specs.Bellman.{stands_at, bound_checks}
+use Rattle.mdp_spec.specs.{Mdp.{Mdp, states_of, choices_at, row_at, value_at}, Tree.{is_marked}, Rules.{MeetsReachMax, MeetsReachMin}}
+use Rattle.mdp_farkas.specs.{Compare.{0ℚ}, Verdict.{Check, InWidth, at_state, at_choice, at_choices}, Bellman.{stands_at, bound_checks}}
 use Rattle.mdp_farkas.specs.Upper.{probability_checks, goal_check}
-use Rattle.mdp_rows.specs.declared.dir.Dir.{Dir}
-use Rattle.mdp_rows.specs.declared.dir.Dir.TheVariants.{Max, Min}
+use Rattle.mdp_rows.specs.{declared.dir.Dir.{Dir}, declared.dir.Dir.TheVariants.{Max, Min}}
 use Rattle.mdp_claims.specs.declared.rule.Rule.TheVariants.{ChoiceExists, RankFalls, RankZero, ValueOnPolicy}
 
 -- rule 2

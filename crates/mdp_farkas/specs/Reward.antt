@@ -19,17 +19,11 @@
 use Rattle.std.specs.Prelude.{ℕ, ◌<◌, Bool, true, false, ◌==◌, ◌&&◌, ◌||◌, not, nat_lt, List, [], ◌∷◌, ◌++◌, length, slice_index, Option, Some, None, if◌then◌else◌}
 use Rattle.std.specs.List.{All, flat_map, list_all, list_any, range_with_len}
 use Rattle.mdp_math.specs.Rational.{ℚ, ◌≤ℚ◌}
-use Rattle.mdp_spec.specs.Mdp.{Mdp, states_of, choices_at, choice_at, row_at, value_at}
-use Rattle.mdp_spec.specs.Unit.{reward_of}
-use Rattle.mdp_spec.specs.Tree.{is_marked}
-use Rattle.mdp_spec.specs.Bounds.{reward_at, finite_part, infinite}
-use Rattle.mdp_spec.specs.RewardRules.{MeetsRewardMax, MeetsRewardMin}
-use Rattle.mdp_farkas.specs.Compare.{0ℚ, is_at_least, is_equal}
-use Rattle.mdp_farkas.specs.Verdict.{Check, InWidth, at_state, at_choice, at_choices}
-use Rattle.mdp_farkas.specs.Bellman.{sum_stands}
+use Rattle.mdp_spec.specs.{Mdp.{Mdp, states_of, choices_at, choice_at, row_at, value_at}, Unit.{reward_of}, Tree.{is_marked}}
+use Rattle.mdp_spec.specs.{Bounds.{reward_at, finite_part, infinite}, RewardRules.{MeetsRewardMax, MeetsRewardMin}}
+use Rattle.mdp_farkas.specs.{Compare.{0ℚ, is_at_least, is_equal}, Verdict.{Check, InWidth, at_state, at_choice, at_choices}, Bellman.{sum_stands}}
 use Rattle.mdp_farkas.specs.Reach.{choice_exists, other}
-use Rattle.mdp_rows.specs.declared.dir.Dir.{Dir}
-use Rattle.mdp_rows.specs.declared.dir.Dir.TheVariants.{Max, Min}
+use Rattle.mdp_rows.specs.{declared.dir.Dir.{Dir}, declared.dir.Dir.TheVariants.{Max, Min}}
 use Rattle.mdp_claims.specs.declared.rule.Rule.TheVariants.{EachChoiceMisses, FiniteRankFalls, FiniteTargets, PolicyMisses, RewardNotNegative, RewardOnEachChoice}
 use Rattle.mdp_claims.specs.declared.rule.Rule.TheVariants.{RewardOnPolicy, RewardValue}
 

@@ -1,19 +1,12 @@
 -- What each rule says of a place, in exact numbers: of a state, of a choice c of a state where the rule looks at one, or of no place. A rule that
 -- is never asked at such a place says nothing.
-use Rattle.std.specs.Prelude.{◌≡◌, ℕ, ◌<◌, ◌⊎◌, Bool, true, false, List, length, slice_index, Option, Some, None}
-use Rattle.std.specs.List.{Any}
+use Rattle.std.specs.{Prelude.{◌≡◌, ℕ, ◌<◌, ◌⊎◌, Bool, true, false, List, length, slice_index, Option, Some, None}, List.{Any}}
 use Rattle.mdp_math.specs.Rational.{ℚ, ◌+ℚ◌, ◌≤ℚ◌, ◌<ℚ◌}
-use Rattle.mdp_spec.specs.Mdp.{Mdp, states_of, choices_at, choice_at, row_at, value_at}
-use Rattle.mdp_spec.specs.Row.{row_sum}
-use Rattle.mdp_spec.specs.Unit.{reward_of}
-use Rattle.mdp_spec.specs.Tree.{is_marked}
-use Rattle.mdp_spec.specs.Bounds.{reward_at, finite_part}
-use Rattle.mdp_spec.specs.RewardRules.{backup, IsInfinite, IsTransient, StaysFinite, Falls, FallsInfinite, StaysInfinite}
+use Rattle.mdp_spec.specs.{Mdp.{Mdp, states_of, choices_at, choice_at, row_at, value_at}, Row.{row_sum}, Unit.{reward_of}, Tree.{is_marked}}
+use Rattle.mdp_spec.specs.{Bounds.{reward_at, finite_part}, RewardRules.{backup, IsInfinite, IsTransient, StaysFinite, Falls, FallsInfinite, StaysInfinite}}
 use Rattle.mdp_spec.specs.MeanRules.{spread_of}
-use Rattle.mdp_farkas.specs.Compare.{0ℚ, 1ℚ}
-use Rattle.mdp_farkas.specs.Reach.{other}
-use Rattle.mdp_rows.specs.declared.dir.Dir.{Dir}
-use Rattle.mdp_rows.specs.declared.dir.Dir.TheVariants.{Max, Min}
+use Rattle.mdp_farkas.specs.{Compare.{0ℚ, 1ℚ}, Reach.{other}}
+use Rattle.mdp_rows.specs.{declared.dir.Dir.{Dir}, declared.dir.Dir.TheVariants.{Max, Min}}
 use Rattle.mdp_claims.specs.declared.rule.Rule.{Rule}
 use Rattle.mdp_claims.specs.declared.rule.Rule.TheVariants.{ChoiceExists, Probability, GoalValue, ValueOnEachChoice, ValueOnPolicy, RankZero, RankFalls}
 use Rattle.mdp_claims.specs.declared.rule.Rule.TheVariants.{RewardValue, FiniteTargets, RewardOnEachChoice, RewardOnPolicy, FiniteRankFalls, PolicyMisses, EachChoiceMisses}

@@ -1,12 +1,9 @@
 -- The spread of two lists of values, by written operations: the greater of their ranges.
 use Rattle.std.specs.Prelude.{List, [], ◌∷◌, Option, Some, if◌then◌else◌}
-use Rattle.mdp_math.specs.Rational.{ℚ}
-use Rattle.mdp_math.specs.Written.{written_compare, ◌>>=◌}
+use Rattle.mdp_math.specs.{Rational.{ℚ}, Written.{written_compare, ◌>>=◌}}
 use Rattle.mdp_num.specs.Written.{written_sub}
 use Rattle.mdp_farkas.specs.Compare.{0ℚ}
-use Rattle.mdp_rows.specs.declared.dir.Dir.{Dir}
-use Rattle.mdp_rows.specs.Better.{is_better}
-use Rattle.mdp_rows.specs.declared.dir.Dir.TheVariants.{Max, Min}
+use Rattle.mdp_rows.specs.{declared.dir.Dir.{Dir}, Better.{is_better}, declared.dir.Dir.TheVariants.{Max, Min}}
 
 -- the best of these, from a first one on: each is compared with the best before it
 abbrev pub written_best : Dir → ℚ → List ℚ → Option ℚ

@@ -2,15 +2,10 @@
 --     rule 3   the value is from 0 to 1
 --     rule 4   at a goal it is 1
 --     rule 5   at any other state it is at least the sum over each choice's row (Bellman's inequality)
-use Rattle.std.specs.Prelude.{ℕ, Bool, List, [], ◌∷◌, ◌++◌, if◌then◌else◌}
-use Rattle.std.specs.List.{All, flat_map, range_with_len}
+use Rattle.std.specs.{Prelude.{ℕ, Bool, List, [], ◌∷◌, ◌++◌, if◌then◌else◌}, List.{All, flat_map, range_with_len}}
 use Rattle.mdp_math.specs.Rational.{ℚ}
-use Rattle.mdp_spec.specs.Mdp.{Mdp, states_of, value_at}
-use Rattle.mdp_spec.specs.Tree.{is_marked}
-use Rattle.mdp_spec.specs.Rules.{MeetsUpper}
-use Rattle.mdp_farkas.specs.Compare.{0ℚ, 1ℚ, is_at_least, is_at_most, is_equal}
-use Rattle.mdp_farkas.specs.Verdict.{Check, InWidth, at_state}
-use Rattle.mdp_farkas.specs.Bellman.{bound_checks}
+use Rattle.mdp_spec.specs.{Mdp.{Mdp, states_of, value_at}, Tree.{is_marked}, Rules.{MeetsUpper}}
+use Rattle.mdp_farkas.specs.{Compare.{0ℚ, 1ℚ, is_at_least, is_at_most, is_equal}, Verdict.{Check, InWidth, at_state}, Bellman.{bound_checks}}
 use Rattle.mdp_rows.specs.declared.dir.Dir.TheVariants.{Max}
 use Rattle.mdp_claims.specs.declared.rule.Rule.TheVariants.{GoalValue, Probability}
 

@@ -1,14 +1,10 @@
 -- A verdict: what a list of checks, walked in order, says.
-use Rattle.std.specs.Prelude.{◌≡◌, ℕ, Bool, true, false, List, [], ◌∷◌, length, map, Option, Some, None, Result, Ok, Err}
-use Rattle.std.specs.List.{range_with_len}
+use Rattle.std.specs.{Prelude.{◌≡◌, ℕ, Bool, true, false, List, [], ◌∷◌, length, map, Option, Some, None, Result, Ok, Err}, List.{range_with_len}}
 use Rattle.std.specs.Option.{IsSome}
 use Rattle.mdp_math.specs.Result.{◌>>=◌}
 use Rattle.mdp_spec.specs.Mdp.{Mdp, choices_at}
-use Rattle.mdp_claims.specs.declared.rule.Rule.{Rule}
-use Rattle.mdp_claims.specs.declared.verdict.Verdict.{Verdict}
-use Rattle.mdp_claims.specs.declared.verdict.Verdict.TheVariants.{Yes, No, Wide}
-use Rattle.mdp_claims.specs.declared.verdict.Objection.{Objection}
-use Rattle.mdp_claims.specs.declared.verdict.Objection.TheVariants.{Broken, PastWidth}
+use Rattle.mdp_claims.specs.{declared.rule.Rule.{Rule}, declared.verdict.Verdict.{Verdict}, declared.verdict.Verdict.TheVariants.{Yes, No, Wide}}
+use Rattle.mdp_claims.specs.{declared.verdict.Objection.{Objection}, declared.verdict.Objection.TheVariants.{Broken, PastWidth}}
 
 -- a check of a rule at a place: whether it holds, or nothing where one of its written terms is past width
 pub record Check : Type 0 where

@@ -1,10 +1,6 @@
-ghost use Rattle.std.specs.Prelude.{◌≡◌, ◌<◌, length, [], ◌∷◌, All};
-ghost use Rattle.std.specs.Result.{result_ok};
-ghost use Rattle.mdp_spec.specs.Mdp.{states_of, choices_at};
-ghost use Rattle.mdp_spec.specs.Row.{entries};
-ghost use Rattle.mdp_farkas.specs.Bellman.{stands, sum_stands, stands_at};
-ghost use Rattle.mdp_farkas.specs.Reach.{policy_check};
-ghost use Rattle.mdp_farkas.specs.Verdict.{at_choice, objection_to};
+ghost use Rattle.std.specs.{Prelude.{◌≡◌, ◌<◌, length, [], ◌∷◌, All}, Result.{result_ok}};
+ghost use Rattle.mdp_spec.specs.{Mdp.{states_of, choices_at}, Row.{entries}};
+ghost use Rattle.mdp_farkas.specs.{Bellman.{stands, sum_stands, stands_at}, Reach.{policy_check}, Verdict.{at_choice, objection_to}};
 
 use crate::compare::{at_least, at_most};
 use crate::reach::reversed;

@@ -1,5 +1,4 @@
-ghost use Rattle.std.specs.Prelude.{◌≡◌};
-ghost use Rattle.std.specs.Result.{result_ok};
+ghost use Rattle.std.specs.{Prelude.{◌≡◌}, Result.{result_ok}};
 ghost use Rattle.mdp_farkas.specs.Compare.{is_at_least, is_at_most, is_equal};
 
 use mdp_num::{Frac, Wide};

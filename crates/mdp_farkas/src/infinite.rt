@@ -1,9 +1,6 @@
 ghost use Rattle.std.specs.Prelude.{◌≡◌, ◌<◌, ◌==◌, ◌&&◌, length, [], ◌∷◌, nat_lt, slice_index};
-ghost use Rattle.mdp_spec.specs.Bounds.{infinite};
-ghost use Rattle.mdp_spec.specs.Tree.{is_marked};
-ghost use Rattle.mdp_spec.specs.Mdp.{states_of, choices_at};
-ghost use Rattle.mdp_farkas.specs.Reward.{falls_infinite, stays_infinite, miss_check, all_miss_check, infinite_checks};
-ghost use Rattle.mdp_farkas.specs.Verdict.{objection_to};
+ghost use Rattle.mdp_spec.specs.{Bounds.{infinite}, Tree.{is_marked}, Mdp.{states_of, choices_at}};
+ghost use Rattle.mdp_farkas.specs.{Reward.{falls_infinite, stays_infinite, miss_check, all_miss_check, infinite_checks}, Verdict.{objection_to}};
 
 use crate::finite::is_infinite_at;
 use crate::targets::{StateTest, each_target, some_target};

@@ -1,10 +1,7 @@
-ghost use Rattle.std.specs.Prelude.{◌≡◌, ◌<◌, ◌↔◌, length, slice_index, [], ◌∷◌, ◌++◌};
-ghost use Rattle.std.specs.Result.{result_ok};
-ghost use Rattle.mdp_spec.specs.Mdp.{states_of, choices_at};
-ghost use Rattle.mdp_spec.specs.Bounds.{MeanMax, MeanMin};
+ghost use Rattle.std.specs.{Prelude.{◌≡◌, ◌<◌, ◌↔◌, length, slice_index, [], ◌∷◌, ◌++◌}, Result.{result_ok}};
+ghost use Rattle.mdp_spec.specs.{Mdp.{states_of, choices_at}, Bounds.{MeanMax, MeanMin}};
 ghost use Rattle.mdp_farkas.specs.Mean.{gain_check, written_step, bound_stands, relative_check, keeps_gain, policy_gain_check, earns_gain, policy_bias_check};
-ghost use Rattle.mdp_farkas.specs.Mean.{spread_check, mean_checks_at, mean_checks, IsMean};
-ghost use Rattle.mdp_farkas.specs.Verdict.{objection_to, verdict_of, at_choices, IsYes, IfYes};
+ghost use Rattle.mdp_farkas.specs.{Mean.{spread_check, mean_checks_at, mean_checks, IsMean}, Verdict.{objection_to, verdict_of, at_choices, IsYes, IfYes}};
 ghost use Rattle.mdp_rows.specs.declared.dir.Dir.TheVariants.{Max, Min};
 
 use crate::bellman::{Held, row_stands};

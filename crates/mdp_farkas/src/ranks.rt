@@ -1,9 +1,7 @@
 ghost use Rattle.std.specs.Prelude.{◌≡◌, ◌<◌, length};
 ghost use Rattle.mdp_math.specs.Rational.{lt_ℚ};
 ghost use Rattle.mdp_spec.specs.Mdp.{states_of, choices_at};
-ghost use Rattle.mdp_farkas.specs.Compare.{0ℚ};
-ghost use Rattle.mdp_farkas.specs.Reach.{ends, leads_down, fall_check, rank_checks};
-ghost use Rattle.mdp_farkas.specs.Verdict.{objection_to};
+ghost use Rattle.mdp_farkas.specs.{Compare.{0ℚ}, Reach.{ends, leads_down, fall_check, rank_checks}, Verdict.{objection_to}};
 
 use crate::targets::{StateTest, some_target};
 use crate::verdict::judged;

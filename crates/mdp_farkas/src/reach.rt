@@ -1,9 +1,8 @@
 ghost use Rattle.std.specs.Prelude.{◌≡◌, ◌<◌, ◌↔◌, length, slice_index, [], ◌∷◌, ◌++◌};
-ghost use Rattle.mdp_spec.specs.Mdp.{states_of, choices_at};
+ghost use Rattle.mdp_spec.specs.{Mdp.{states_of, choices_at}, Bounds.{ReachMax, ReachMin}};
 ghost use Rattle.mdp_farkas.specs.Reach.{choice_exists, other, value_checks, rank_checks, reach_at, reach_checks, IsReach};
 ghost use Rattle.mdp_farkas.specs.Verdict.{objection_to, verdict_of, IsYes, IfYes};
 ghost use Rattle.mdp_rows.specs.declared.dir.Dir.TheVariants.{Max, Min};
-ghost use Rattle.mdp_spec.specs.Bounds.{ReachMax, ReachMin};
 
 use crate::bellman::Held;
 use crate::ranks::rank_at_state;

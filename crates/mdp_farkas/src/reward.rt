@@ -1,11 +1,8 @@
-ghost use Rattle.std.specs.Prelude.{◌≡◌, ◌<◌, ◌↔◌, length, slice_index, [], ◌∷◌, ◌++◌, if◌then◌else◌};
-ghost use Rattle.std.specs.Result.{result_ok};
-ghost use Rattle.mdp_spec.specs.Mdp.{states_of, choices_at};
-ghost use Rattle.mdp_spec.specs.Bounds.{RewardMax, RewardMin};
+ghost use Rattle.std.specs.{Prelude.{◌≡◌, ◌<◌, ◌↔◌, length, slice_index, [], ◌∷◌, ◌++◌, if◌then◌else◌}, Result.{result_ok}};
+ghost use Rattle.mdp_spec.specs.{Mdp.{states_of, choices_at}, Bounds.{RewardMax, RewardMin}};
 ghost use Rattle.mdp_farkas.specs.Reward.{is_nonneg, is_zero, nonneg_check, goal_checks, place_checks, sign_check, sign_checks};
 ghost use Rattle.mdp_farkas.specs.Reward.{earning_stands, is_looked_at, earning_check, earning_checks, policy_earning_check, rank_fall_checks};
-ghost use Rattle.mdp_farkas.specs.Reward.{transient_checks, reward_checks_at, reward_checks, IsReward};
-ghost use Rattle.mdp_farkas.specs.Verdict.{objection_to, verdict_of, IsYes, IfYes};
+ghost use Rattle.mdp_farkas.specs.{Reward.{transient_checks, reward_checks_at, reward_checks, IsReward}, Verdict.{objection_to, verdict_of, IsYes, IfYes}};
 ghost use Rattle.mdp_rows.specs.declared.dir.Dir.TheVariants.{Max, Min};
 
 use crate::bellman::value_stands;

@@ -1,5 +1,4 @@
-ghost use Rattle.std.specs.Prelude.{◌≡◌};
-ghost use Rattle.std.specs.Result.{result_ok};
+ghost use Rattle.std.specs.{Prelude.{◌≡◌}, Result.{result_ok}};
 ghost use Rattle.mdp_farkas.specs.Spread.{written_best, written_extreme, written_width, written_spread};
 
 use mdp_num::{Frac, Wide};

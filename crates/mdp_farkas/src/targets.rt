@@ -1,5 +1,4 @@
-ghost use Rattle.std.specs.Prelude.{◌≡◌, ℕ, ◌<◌, Bool, length, All};
-ghost use Rattle.std.specs.List.{list_all, list_any};
+ghost use Rattle.std.specs.{Prelude.{◌≡◌, ℕ, ◌<◌, Bool, length, All}, List.{list_all, list_any}};
 ghost use Rattle.mdp_spec.specs.Mdp.{states_of, choices_at, row_at};
 
 use mdp_rows::Model;

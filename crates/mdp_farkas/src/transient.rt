@@ -1,7 +1,6 @@
 ghost use Rattle.std.specs.Prelude.{◌≡◌, ◌<◌, length, nat_lt, slice_index};
 ghost use Rattle.mdp_spec.specs.Mdp.{states_of, choices_at};
-ghost use Rattle.mdp_farkas.specs.Reward.{stay_check, stay_checks, is_looked_at, rank_fall_check, rank_fall_checks};
-ghost use Rattle.mdp_farkas.specs.Verdict.{objection_to};
+ghost use Rattle.mdp_farkas.specs.{Reward.{stay_check, stay_checks, is_looked_at, rank_fall_check, rank_fall_checks}, Verdict.{objection_to}};
 
 use crate::finite::stays_finite_at;
 use crate::targets::{StateTest, some_target};

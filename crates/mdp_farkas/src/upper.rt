@@ -1,8 +1,6 @@
 ghost use Rattle.std.specs.Prelude.{◌≡◌, ◌<◌, ◌↔◌, length, [], ◌∷◌};
-ghost use Rattle.mdp_spec.specs.Mdp.{states_of};
-ghost use Rattle.mdp_farkas.specs.Upper.{probability_checks, goal_check, upper_at, upper_checks, IsUpper};
-ghost use Rattle.mdp_farkas.specs.Verdict.{objection_to, verdict_of, IsYes, IfYes};
-ghost use Rattle.mdp_spec.specs.Bounds.{Above};
+ghost use Rattle.mdp_spec.specs.{Mdp.{states_of}, Bounds.{Above}};
+ghost use Rattle.mdp_farkas.specs.{Upper.{probability_checks, goal_check, upper_at, upper_checks, IsUpper}, Verdict.{objection_to, verdict_of, IsYes, IfYes}};
 
 use crate::bellman::Held;
 use crate::compare::{at_least, at_most, equal};

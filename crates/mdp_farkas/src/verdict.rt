@@ -1,5 +1,4 @@
-ghost use Rattle.std.specs.Prelude.{◌≡◌, [], ◌∷◌};
-ghost use Rattle.std.specs.Result.{result_ok};
+ghost use Rattle.std.specs.{Prelude.{◌≡◌, [], ◌∷◌}, Result.{result_ok}};
 ghost use Rattle.mdp_farkas.specs.Verdict.{objection_to, verdict};
 
 use mdp_claims::{Fault, Objection, Rule, Verdict};

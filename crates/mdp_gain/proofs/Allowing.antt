@@ -1,13 +1,10 @@
 -- The choices that are allowed, while the choices of a policy are gone through.
-use Rattle.std.proofs.Common.{◌≡◌, inl, inr, ℕ, ◌+◌, ◌<◌, Bool, List, [], length, get_or, set, refl, sym, ap, ◌∙◌, subst, arith}
-use Rattle.std.proofs.lemmas.Bool.{cases_eq}
-use Rattle.std.proofs.lemmas.List.{length-set, get_or-set_other}
-use Rattle.std.proofs.lemmas.Grind.{get_or-set_at}
+use Rattle.std.proofs.{Common.{◌≡◌, inl, inr, ℕ, ◌+◌, ◌<◌, Bool, List, [], length, get_or, set, refl, sym, ap, ◌∙◌, subst, arith}, lemmas.Bool.{cases_eq}}
+use Rattle.std.proofs.{lemmas.List.{length-set, get_or-set_other}, lemmas.Grind.{get_or-set_at}}
 use Rattle.mdp_spec.specs.Mdp.{Mdp, states_of, choices_at}
 use Rattle.mdp_graph.specs.Sets.{marked}
 use Rattle.mdp_parts.specs.Allowed.{allowed_at, AreChoices}
-use Rattle.mdp_unichain.specs.Component.{Component}
-use Rattle.mdp_unichain.specs.Classes.{takes}
+use Rattle.mdp_unichain.specs.{Component.{Component}, Classes.{takes}}
 use Rattle.mdp_gain.specs.Classes.{TakesAt, TakesAll}
 
 -- ---- a choice gets a value

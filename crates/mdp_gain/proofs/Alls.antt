@@ -1,8 +1,7 @@
 -- When all of a list, or all numbers below n, pass a test.
 use Rattle.std.proofs.Common.{◌≡◌, ℕ, ◌<◌, ◌≤◌, ◌+◌, Bool, true, false, true≢false, not, List, [], ◌∷◌, ◌&&◌, ◌||◌, get_or, inl, inr, refl, sym, ap, ◌∙◌, arith}
+use Rattle.std.proofs.{lemmas.List.FromFn.{length-range_with_len, get_or-range_with_len}, lemmas.Bool.{cases_eq}}
 use Rattle.std.specs.List.{list_all, list_any, range_with_len}
-use Rattle.std.proofs.lemmas.List.FromFn.{length-range_with_len, get_or-range_with_len}
-use Rattle.std.proofs.lemmas.Bool.{cases_eq}
 use Rattle.mdp_math.proofs.Booleans.{false_of_not}
 use Rattle.mdp_graph.proofs.RowSets.{list_all-at, list_all-by}
 

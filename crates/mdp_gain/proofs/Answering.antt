@@ -2,17 +2,10 @@
 use Rattle.std.specs.Result.{IsErrAnd}
 use Rattle.std.proofs.lemmas.Result.{err_from_is_err_and}
 use Rattle.std.proofs.Common.{◌≡◌, ℕ, zero, suc, ◌<◌, ◌≤◌, ◌⊎◌, inl, inr, List, length, Some, None, Result, Ok, Err, sym, ◌∙◌, ap, arith}
-use Rattle.mdp_math.specs.Rational.{ℚ}
-use Rattle.mdp_math.specs.Result.{◌>>=◌}
-use Rattle.mdp_policy_iteration.specs.Places.{Place, at_place, up_to}
-use Rattle.mdp_policy_iteration.specs.Candidates.{Best}
-use Rattle.mdp_policy_iteration.specs.Path.{comparing, or_kept}
-use Rattle.mdp_policy_iteration.specs.Faults.{Answers}
-use Rattle.mdp_policy_iteration.specs.Errors.{RoundError}
+use Rattle.mdp_math.specs.{Rational.{ℚ}, Result.{◌>>=◌}}
+use Rattle.mdp_policy_iteration.specs.{Places.{Place, at_place, up_to}, Candidates.{Best}, Path.{comparing, or_kept}, Faults.{Answers}, Errors.{RoundError}}
 use Rattle.mdp_policy_iteration.proofs.Answering.{up_to-refused, Says-then, says_of, says_same, answers_err}
-use Rattle.mdp_unichain.specs.Component.{Component, choices_at, choice_at}
-use Rattle.mdp_unichain.specs.Sums.{compared}
-use Rattle.mdp_unichain.specs.Written.{then_compared, best_of}
+use Rattle.mdp_unichain.specs.{Component.{Component, choices_at, choice_at}, Sums.{compared}, Written.{then_compared, best_of}}
 use Rattle.mdp_gain.specs.Code.{choice_over}
 
 -- ---- the comparison at a node

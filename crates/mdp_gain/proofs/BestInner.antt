@@ -1,29 +1,18 @@
 -- What the path's end says of an answer, and what an answer says of the component.
-use Rattle.std.proofs.Common.{◌≡◌, ℕ, ◌<◌, ◌⊎◌, inl, inr, true, false, List, Option, refl, sym, ◌∙◌, ap, subst, pos}
-use Rattle.std.specs.List.{Any}
-use Rattle.std.specs.Prelude.{slice_index}
-use Rattle.std.proofs.lemmas.List.{length-map}
+use Rattle.std.proofs.{Common.{◌≡◌, ℕ, ◌<◌, ◌⊎◌, inl, inr, true, false, List, Option, refl, sym, ◌∙◌, ap, subst, pos}, lemmas.List.{length-map}}
+use Rattle.std.specs.{List.{Any}, Prelude.{slice_index}}
 use Rattle.mdp_math.specs.Rational.{ℚ, of_int, ◌+ℚ◌}
 use Rattle.mdp_math.proofs.Kernel.{weigh-same}
 use Rattle.mdp_spec.specs.Mdp as mdp
-use Rattle.mdp_spec.specs.Mdp.{Entry, Mdp, states_of, row_at, value_at}
-use Rattle.mdp_spec.specs.Unit.{reward_of}
-use Rattle.mdp_rows.specs.declared.dir.Dir.{Dir}
+use Rattle.mdp_spec.specs.{Mdp.{Entry, Mdp, states_of, row_at, value_at}, Unit.{reward_of}}
+use Rattle.mdp_rows.specs.{declared.dir.Dir.{Dir}, Better.{IsAsGood}}
 use Rattle.mdp_ends.specs.Ends.{in_part}
-use Rattle.mdp_rows.specs.Better.{IsAsGood}
-use Rattle.mdp_unichain.specs.BestGain.{HasBestGain}
-use Rattle.mdp_unichain.specs.Chain.{AllLeadTo, IsReference}
-use Rattle.mdp_unichain.specs.Component.{Component, Choice, choice_at, is_state, IsInner, row_by, reward_by, IsPolicy, IsComponent}
-use Rattle.mdp_unichain.specs.Evaluation.{mean, IsGain}
-use Rattle.mdp_unichain.specs.Improvement.{worth, IsEvaluated, NoneBetter}
-use Rattle.mdp_unichain.specs.Part.{IsPart, members, is_inner, inner_component}
-use Rattle.mdp_unichain.specs.Path.{Found, IsBestGain}
-use Rattle.mdp_unichain.proofs.Improving.{meets_equations}
-use Rattle.mdp_unichain.proofs.Members.{inside_of, inner_of}
-use Rattle.mdp_unichain.proofs.Parts.{part-component, part-state, part-choice, member-below, inner_inside, inner_member, inside_inner}
-use Rattle.mdp_unichain.proofs.Reaching.{test_or_not}
-use Rattle.mdp_gain.specs.Query.{Answer, answer_of}
-use Rattle.mdp_gain.specs.Best.{bias_at, taken_at, worth_of, IsInnerChoice, IsBestInner}
+use Rattle.mdp_unichain.specs.{BestGain.{HasBestGain}, Chain.{AllLeadTo, IsReference}}
+use Rattle.mdp_unichain.specs.{Component.{Component, Choice, choice_at, is_state, IsInner, row_by, reward_by, IsPolicy, IsComponent}, Evaluation.{mean, IsGain}}
+use Rattle.mdp_unichain.specs.{Improvement.{worth, IsEvaluated, NoneBetter}, Part.{IsPart, members, is_inner, inner_component}, Path.{Found, IsBestGain}}
+use Rattle.mdp_unichain.proofs.{Improving.{meets_equations}, Members.{inside_of, inner_of}}
+use Rattle.mdp_unichain.proofs.{Parts.{part-component, part-state, part-choice, member-below, inner_inside, inner_member, inside_inner}, Reaching.{test_or_not}}
+use Rattle.mdp_gain.specs.{Query.{Answer, answer_of}, Best.{bias_at, taken_at, worth_of, IsInnerChoice, IsBestInner}}
 use Rattle.mdp_gain.proofs.Listed.{entry-has, entry-none, filtered-has, filtered-not}
 
 module _ (dir : Dir) (m : Mdp) (parts : List (Option ℕ)) (i r : ℕ) (k : IsPart m parts i) where

@@ -1,24 +1,16 @@
 -- The two columns of a policy, as the code hands them over and gets them back.
 use Rattle.std.proofs.Common.{◌≡◌, ℕ, zero, suc, ◌<◌, Bool, List, [], ◌∷◌, length, map, get_or, Result, Ok, pos, refl, sym, ◌∙◌, ap, ap₂, subst, arith}
-use Rattle.std.specs.List.{All, range_with_len}
-use Rattle.std.specs.Prelude.{slice_index, slice_index_or}
-use Rattle.std.proofs.lemmas.List.Elements.{All-nil, All-cons}
-use Rattle.std.proofs.lemmas.List.FromFn.{length-map-range_with_len}
+use Rattle.std.proofs.{lemmas.List.Elements.{All-nil, All-cons}, lemmas.List.FromFn.{length-map-range_with_len}}
+use Rattle.std.specs.{List.{All, range_with_len}, Prelude.{slice_index, slice_index_or}}
 use Rattle.mdp_math.specs.Rational.{ℚ, of_int, ◌+ℚ◌, ◌≤ℚ◌}
 use Rattle.mdp_spec.specs.Mdp.{Entry, states_of, row_at, value_at}
-use Rattle.mdp_elim.specs.System.{Leaves}
-use Rattle.mdp_elim.specs.Solve.{written_solution}
-use Rattle.mdp_elim.specs.Laws.{GivesSolutions}
-use Rattle.mdp_unichain.specs.Evaluation.{mean}
-use Rattle.mdp_policy_iteration.specs.Path.{placed}
-use Rattle.mdp_unichain.specs.Chain.{AllLeadTo}
-use Rattle.mdp_unichain.specs.Component.{Component, count, is_state, row_by, reward_by}
+use Rattle.mdp_elim.specs.{System.{Leaves}, Solve.{written_solution}, Laws.{GivesSolutions}}
+use Rattle.mdp_unichain.specs.{Evaluation.{mean}, Chain.{AllLeadTo}, Component.{Component, count, is_state, row_by, reward_by}}
 use Rattle.mdp_unichain.specs.Written.{active_of, columns_of, written_columns}
+use Rattle.mdp_policy_iteration.specs.Path.{placed}
 use Rattle.mdp_unichain.proofs.Exact.{rows-leave, same-solution, steps-least}
 use Rattle.mdp_parts.specs.FoundEnds.{AreEndsOf}
-use Rattle.mdp_gain.specs.Code.{component_in}
-use Rattle.mdp_gain.specs.declared.chosen.Chosen.{Chosen}
-use Rattle.mdp_gain.specs.declared.referred.Referred.{Referred}
+use Rattle.mdp_gain.specs.{Code.{component_in}, declared.chosen.Chosen.{Chosen}, declared.referred.Referred.{Referred}}
 use Rattle.mdp_gain.proofs.Given.{count-is, is-component, row-of-policy}
 
 module _ {V : Type 0} (f : V → List ℚ) where

@@ -1,21 +1,15 @@
 -- Small components, computed. In the first, state 0 stays and earns 1 or goes to state 1 and earns nothing; state 1 goes to state 0 and earns nothing or
 -- stays and earns 3. Its best gain is 3, and its least gain 0. In the second, one state stays and earns -2, -1 or -3: its best gain is -1.
 use Rattle.std.proofs.Common.{◌≡◌, ℕ, true, false, List, [], ◌∷◌, Option, Some, Ok, refl, pos, negsuc}
-use Rattle.mdp_math.specs.Gcd.{gcd, gcd_with_fuel}
-use Rattle.mdp_math.specs.Rational.{ℚ, of_int, ratio, ◌+ℚ◌, ◌*ℚ◌, neg_ℚ, inv_ℚ, lt_ℚ}
+use Rattle.mdp_math.specs.{Gcd.{gcd, gcd_with_fuel}, Rational.{ℚ, of_int, ratio, ◌+ℚ◌, ◌*ℚ◌, neg_ℚ, inv_ℚ, lt_ℚ}}
 use Rattle.mdp_math.specs.Written.{written_add, written_mul, written_compare, narrow, narrow_ℚ}
 use Rattle.mdp_spec.specs.Mdp.{Choice, Mdp}
 use Rattle.mdp_spec.proofs.Small.{state}
-use Rattle.mdp_elim.specs.Elimination.{divided_rest, plus_equation, eliminated, evaluated}
-use Rattle.mdp_elim.specs.System.{equation_of}
+use Rattle.mdp_elim.specs.{Elimination.{divided_rest, plus_equation, eliminated, evaluated}, System.{equation_of}}
 use Rattle.mdp_ends.specs.Ends.{count_of}
-use Rattle.mdp_rows.specs.declared.dir.Dir.TheVariants.{Max}
-use Rattle.mdp_rows.specs.Better.{IsBetter}
-use Rattle.mdp_unichain.specs.Component.{Component, is_state}
-use Rattle.mdp_unichain.specs.Part.{members, inner_component}
-use Rattle.mdp_unichain.specs.Written.{Values, written_values, written_improved}
-use Rattle.mdp_gain.specs.Query.{Answer, answer_of}
-use Rattle.mdp_gain.specs.Best.{bias_at, taken_at, worth_of}
+use Rattle.mdp_rows.specs.{declared.dir.Dir.TheVariants.{Max}, Better.{IsBetter}}
+use Rattle.mdp_unichain.specs.{Component.{Component, is_state}, Part.{members, inner_component}, Written.{Values, written_values, written_improved}}
+use Rattle.mdp_gain.specs.{Query.{Answer, answer_of}, Best.{bias_at, taken_at, worth_of}}
 
 abbrev choice : ℕ → ℚ → Choice
 choice t reward = record { row = record { target = t; prob = of_int (pos 1) } ∷ []; rewards = reward ∷ [] }

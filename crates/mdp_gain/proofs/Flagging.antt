@@ -1,20 +1,14 @@
 -- Parts that are flagged while the states are gone through, the targets of a row, and the first number of a range that passes a test.
 use Rattle.std.proofs.Common.{◌≡◌, inl, inr, ℕ, zero, suc, ◌+◌, ◌<◌, ◌≤◌, Bool, true, false, ◌&&◌, ◌||◌, ◌==◌, cond, List, [], ◌∷◌, length, map, set, replicate, Option, Some, None}
-use Rattle.std.proofs.Common.{refl, sym, ap, ◌∙◌, subst, arith, eq-eqb}
-use Rattle.std.specs.Option.{unwrap_or}
-use Rattle.std.specs.List.{list_any, find, range_with_len}
-use Rattle.std.specs.Prelude.{slice_index, slice_index_or}
-use Rattle.std.proofs.lemmas.Bool.{false≢true, cases_eq, ne_eqb}
-use Rattle.std.proofs.lemmas.List.{length-set, get_or-set_other, length-replicate, get_or-replicate}
-use Rattle.std.proofs.lemmas.List.Folds.{list_any-append}
+use Rattle.std.proofs.{Common.{refl, sym, ap, ◌∙◌, subst, arith, eq-eqb}, lemmas.Bool.{false≢true, cases_eq, ne_eqb}}
+use Rattle.std.proofs.{lemmas.List.{length-set, get_or-set_other, length-replicate, get_or-replicate}, lemmas.List.Folds.{list_any-append}}
 use Rattle.std.proofs.lemmas.Grind.{get_or-set_at}
+use Rattle.std.specs.{Option.{unwrap_or}, List.{list_any, find, range_with_len}, Prelude.{slice_index, slice_index_or}}
 use Rattle.mdp_math.specs.Rational.{ℚ}
-use Rattle.mdp_math.proofs.Lists.{range_more}
-use Rattle.mdp_math.proofs.Booleans.{or-false}
+use Rattle.mdp_math.proofs.{Lists.{range_more}, Booleans.{or-false}}
 use Rattle.mdp_spec.specs.Row.{entries}
 use Rattle.mdp_graph.specs.Sets.{marked}
-use Rattle.mdp_unichain.specs.Component.{Component, count}
-use Rattle.mdp_unichain.specs.Classes.{differs, has_flag, AreClasses}
+use Rattle.mdp_unichain.specs.{Component.{Component, count}, Classes.{differs, has_flag, AreClasses}}
 use Rattle.mdp_unichain.proofs.Picking.{IsFirst}
 
 -- ---- flags

@@ -1,38 +1,23 @@
 -- The laws of a query of the best gain.
 use Rattle.std.proofs.Common.{◌≡◌, ℕ, ◌<◌, true, List, map, Option, Result, Ok, Err, IfOk, refl, sym, ◌∙◌, ap, subst, arith, zero-add}
-use Rattle.std.specs.List.{All, range_with_len}
 use Rattle.std.proofs.lemmas.List.FromFn.{get_or-map-range_with_len, length-map-range_with_len}
-use Rattle.mdp_math.specs.Rational.{ℚ, ◌-ℚ◌, ◌≤ℚ◌}
-use Rattle.mdp_math.specs.Extremes.{least, greatest}
+use Rattle.std.specs.List.{All, range_with_len}
+use Rattle.mdp_math.specs.{Rational.{ℚ, ◌-ℚ◌, ◌≤ℚ◌}, Extremes.{least, greatest}}
 use Rattle.mdp_math.proofs.Extremes.{least-le, greatest-ge}
 use Rattle.mdp_spec.specs.Mdp.{Mdp, states_of}
-use Rattle.mdp_rows.specs.declared.dir.Dir.{Dir}
-use Rattle.mdp_rows.specs.declared.dir.Dir.TheVariants.{Max, Min}
+use Rattle.mdp_rows.specs.{declared.dir.Dir.{Dir}, declared.dir.Dir.TheVariants.{Max, Min}}
 use Rattle.mdp_elim.specs.Laws.{GivesSolutions}
 use Rattle.mdp_elim.proofs.Finish.{ok_no_err}
-use Rattle.mdp_policy_iteration.specs.Path.{Refusal}
-use Rattle.mdp_policy_iteration.specs.Laws.{first}
-use Rattle.mdp_wide.specs.Term.{WideTerm}
-use Rattle.mdp_policy_iteration.specs.Queries.{term_of}
+use Rattle.mdp_policy_iteration.specs.{Path.{Refusal}, Laws.{first}, Queries.{term_of, Solves}}
+use Rattle.mdp_wide.specs.{Term.{WideTerm}, declared.too_wide.Part.TheVariants.{Inner}, Errors.{SolveError}}
 use Rattle.mdp_policy_iteration.proofs.Results.{ok_same}
-use Rattle.mdp_wide.specs.declared.too_wide.Part.TheVariants.{Inner}
-use Rattle.mdp_unichain.specs.Component.{is_state}
-use Rattle.mdp_unichain.specs.Iteration.{EndsWith}
-use Rattle.mdp_unichain.specs.Part.{IsPart, members, is_inner, inner_component}
-use Rattle.mdp_unichain.specs.Model.{LieBetween}
+use Rattle.mdp_unichain.specs.{Component.{is_state}, Iteration.{EndsWith}, Part.{IsPart, members, is_inner, inner_component}, Model.{LieBetween}}
 use Rattle.mdp_unichain.specs.Path.{Found, Makes, IsFirst}
-use Rattle.mdp_unichain.proofs.Improving.{best_of_all}
-use Rattle.mdp_unichain.proofs.OneGain.{one_best_gain}
-use Rattle.mdp_unichain.proofs.Paths.{has_one_end, ends_at_best_gain, first_is_start}
-use Rattle.mdp_unichain.proofs.Starts.{has_one_first}
-use Rattle.mdp_unichain.proofs.Trees.{no_tree_earns_more, no_tree_earns_less}
+use Rattle.mdp_unichain.proofs.{Improving.{best_of_all}, OneGain.{one_best_gain}, Paths.{has_one_end, ends_at_best_gain, first_is_start}}
+use Rattle.mdp_unichain.proofs.{Starts.{has_one_first}, Trees.{no_tree_earns_more, no_tree_earns_less}, Parts.{part-state}}
 use Rattle.mdp_ends.specs.Ends.{IsEnd, IsMaximal, AreEnds}
-use Rattle.mdp_unichain.proofs.Parts.{part-state}
-use Rattle.mdp_wide.specs.Errors.{SolveError}
-use Rattle.mdp_policy_iteration.specs.Queries.{Solves}
 use Rattle.mdp_gain.specs.declared.inner.Inner as code
-use Rattle.mdp_gain.specs.Query.{Answer, answer_of, refusal_at, after_path, plain, EndsSo}
-use Rattle.mdp_gain.specs.Best.{bias_at, taken_at, IsBestInner}
+use Rattle.mdp_gain.specs.{Query.{Answer, answer_of, refusal_at, after_path, plain, EndsSo}, Best.{bias_at, taken_at, IsBestInner}}
 use Rattle.mdp_gain.specs.Laws.{HasOneEnd, AnswersAreBest, HasOneGain, NoPolicyIsBetter, NoTreeEarnsMore, NoTreeEarnsLess}
 use Rattle.mdp_gain.proofs.BestInner.{known, best_inner, none_is_better, has_best}
 

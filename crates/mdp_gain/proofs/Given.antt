@@ -1,30 +1,17 @@
 -- The component that the code holds, in terms of its model.
-use Rattle.std.proofs.Common.{◌≡◌, ℕ, ◌<◌, true, false, ◌&&◌, List, [], length, Option, Some, None, refl, sym, ◌∙◌, ap, arith}
-use Rattle.std.proofs.Math.Bool.{Bool-set}
-use Rattle.std.proofs.Math.Logic.{∥∥₁_elim}
-use Rattle.std.proofs.Math.Nat.{ℕ_set}
+use Rattle.std.proofs.{Common.{◌≡◌, ℕ, ◌<◌, true, false, ◌&&◌, List, [], length, Option, Some, None, refl, sym, ◌∙◌, ap, arith}, Math.Bool.{Bool-set}}
+use Rattle.std.proofs.{Math.Logic.{∥∥₁_elim}, Math.Nat.{ℕ_set}, Common.{eqb, ◌⊎◌, inl, inr, map, zero-add}, lemmas.List.FromFn.{get_or-map-range_with_len}}
 use Rattle.mdp_spec.specs.Mdp as mdp
-use Rattle.mdp_spec.specs.Mdp.{Entry, Mdp, states_of, row_at}
-use Rattle.mdp_spec.specs.Unit.{reward_of}
+use Rattle.mdp_spec.specs.{Mdp.{Entry, Mdp, states_of, row_at}, Unit.{reward_of}}
 use Rattle.mdp_graph.specs.Sets.{marked}
-use Rattle.std.proofs.Common.{eqb, ◌⊎◌, inl, inr, map, zero-add}
-use Rattle.std.specs.List.{range_with_len}
-use Rattle.std.specs.Prelude.{slice_index}
-use Rattle.std.proofs.lemmas.List.FromFn.{get_or-map-range_with_len}
+use Rattle.std.specs.{List.{range_with_len}, Prelude.{slice_index, slice_index_or}, Option.{option_eq}}
 use Rattle.mdp_spec.specs.Tree as tree
-use Rattle.mdp_unichain.proofs.Improving.{inner-below}
-use Rattle.mdp_unichain.proofs.Improving.{state-below as state-below-of}
-use Rattle.mdp_unichain.proofs.Reaching.{test_or_not}
-use Rattle.std.specs.Option.{option_eq}
-use Rattle.std.specs.Prelude.{slice_index_or}
+use Rattle.mdp_unichain.proofs.{Improving.{inner-below, state-below as state-below-of}, Reaching.{test_or_not}}
+use Rattle.mdp_unichain.proofs.Parts.{part-component, part-state, part-count, part-choices, part-choice}
 use Rattle.mdp_ends.specs.Ends.{has_number, in_part, is_inside}
 use Rattle.mdp_parts.specs.FoundEnds.{AreEndsOf}
-use Rattle.mdp_unichain.specs.Component.{Choice, count, choices_at, choice_at, is_state, row_by, IsComponent}
-use Rattle.mdp_unichain.specs.Part.{IsPart, is_inner}
-use Rattle.mdp_unichain.proofs.Parts.{part-component, part-state, part-count, part-choices, part-choice}
-use Rattle.mdp_gain.specs.Code.{component_in}
-use Rattle.mdp_gain.specs.declared.chosen.Chosen.{Chosen}
-use Rattle.mdp_gain.specs.declared.component.EndComponent.{EndComponent}
+use Rattle.mdp_unichain.specs.{Component.{Choice, count, choices_at, choice_at, is_state, row_by, IsComponent}, Part.{IsPart, is_inner}}
+use Rattle.mdp_gain.specs.{Code.{component_in}, declared.chosen.Chosen.{Chosen}, declared.component.EndComponent.{EndComponent}}
 
 module _ (x : EndComponent) where
   abbrev m : Mdp

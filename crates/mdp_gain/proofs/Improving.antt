@@ -3,24 +3,13 @@ use Rattle.std.proofs.Common.{◌≡◌, ℕ, zero, suc, ◌<◌, ◌⊎◌, inl
 use Rattle.mdp_math.specs.Rational.{ℚ}
 use Rattle.mdp_spec.specs.Mdp.{value_at}
 use Rattle.mdp_elim.specs.Laws.{GivesSolutions}
-use Rattle.mdp_policy_iteration.specs.Iteration.{Step, next}
-use Rattle.mdp_policy_iteration.specs.Path.{Round, Refusal}
-use Rattle.mdp_policy_iteration.specs.Laws.{first}
-use Rattle.mdp_unichain.specs.Chain.{IsReference}
-use Rattle.mdp_unichain.specs.Component.{Component, is_state, row_by, reward_by, IsComponent}
-use Rattle.mdp_unichain.specs.Evaluation.{IsEvaluation}
-use Rattle.mdp_unichain.specs.Improvement.{IsEvaluated, IsImproved, IsNext}
-use Rattle.mdp_unichain.specs.Part.{inner_component}
-use Rattle.mdp_unichain.specs.Path.{Found, Makes, IsStart}
-use Rattle.mdp_unichain.specs.Written.{written_values}
-use Rattle.mdp_unichain.proofs.Classes.{one_reference}
-use Rattle.mdp_unichain.proofs.Ending.{none_twice}
-use Rattle.mdp_unichain.proofs.Improving.{has_one_evaluation, gain_rises_next, bias_rises}
-use Rattle.mdp_unichain.proofs.Nexts.{exact_is_next}
-use Rattle.mdp_unichain.proofs.Paths.{Goes_on, evaluation_next, now, imp, after, some_changed, kept, one, first_is_start}
+use Rattle.mdp_policy_iteration.specs.{Iteration.{Step, next}, Path.{Round, Refusal}, Laws.{first}}
+use Rattle.mdp_unichain.specs.{Chain.{IsReference}, Component.{Component, is_state, row_by, reward_by, IsComponent}, Evaluation.{IsEvaluation}}
+use Rattle.mdp_unichain.specs.{Improvement.{IsEvaluated, IsImproved, IsNext}, Part.{inner_component}, Path.{Found, Makes, IsStart}, Written.{written_values}}
+use Rattle.mdp_unichain.proofs.{Classes.{one_reference}, Ending.{none_twice}, Improving.{has_one_evaluation, gain_rises_next, bias_rises}}
+use Rattle.mdp_unichain.proofs.{Nexts.{exact_is_next}, Paths.{Goes_on, evaluation_next, now, imp, after, some_changed, kept, one, first_is_start}}
 use Rattle.mdp_unichain.proofs.Starts.{has_one_first}
-use Rattle.mdp_gain.specs.Improvement.{LeadsTo, HasValues, GainIsBetter, BiasIsBetter, ImprovesTo}
-use Rattle.mdp_gain.specs.Laws.{StepImproves, NoPolicyTwice}
+use Rattle.mdp_gain.specs.{Improvement.{LeadsTo, HasValues, GainIsBetter, BiasIsBetter, ImprovesTo}, Laws.{StepImproves, NoPolicyTwice}}
 use Rattle.mdp_gain.proofs.BestInner.{known}
 
 module _ (p : Component) (is : IsComponent p) where

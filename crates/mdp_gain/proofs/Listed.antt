@@ -1,7 +1,7 @@
 -- Lists with one entry for each state of a part, read by the state.
 use Rattle.std.proofs.Common.{◌≡◌, ℕ, ◌<◌, Bool, true, false, ◌&&◌, ◌||◌, ◌==◌, if◌then◌else◌, List, [], ◌∷◌, map, filter, refl, sym, ◌∙◌, ap, subst}
-use Rattle.std.specs.List.{list_any, range_with_len}
 use Rattle.std.proofs.lemmas.Bool.{false≢true, eqb-true, eq-eqb, and_from}
+use Rattle.std.specs.List.{list_any, range_with_len}
 use Rattle.mdp_ends.proofs.Walking.{any-range, range-any}
 use Rattle.mdp_gain.specs.Best.{entry_of}
 

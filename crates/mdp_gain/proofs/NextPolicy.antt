@@ -1,24 +1,15 @@
 -- The policy that keeps a class and goes toward it is the next one.
 use Rattle.std.proofs.Common.{◌≡◌, ℕ, ◌<◌, ◌≤◌, ◌⊎◌, inl, inr, Bool, true, false, ◌&&◌, if◌then◌else◌, List, length, refl, sym, ◌∙◌, ap, subst, arith, zero-add}
+use Rattle.std.proofs.{Math.ListN.{get_or-eq_default}, lemmas.List.FromFn.{get_or-map-range_with_len, length-map-range_with_len}}
 use Rattle.std.specs.Prelude.{slice_index}
-use Rattle.std.proofs.Math.ListN.{get_or-eq_default}
-use Rattle.std.proofs.lemmas.List.FromFn.{get_or-map-range_with_len, length-map-range_with_len}
 use Rattle.mdp_math.proofs.Numbers.{le_or}
 use Rattle.mdp_spec.specs.Mdp.{states_of}
-use Rattle.mdp_graph.specs.Sets.{marked}
-use Rattle.mdp_graph.specs.Choices.{AreLeast}
-use Rattle.mdp_ends.specs.Ends.{in_part}
-use Rattle.mdp_ends.specs.Toward.{target_in, IsToward}
-use Rattle.mdp_unichain.specs.Chain.{IsClosedClass}
-use Rattle.mdp_unichain.specs.Component.{Component, count, is_state, IsInner, IsPolicy}
-use Rattle.mdp_unichain.specs.Next.{IsPicked, IsNearest, IsExactNext}
-use Rattle.mdp_unichain.proofs.Improving.{state-below}
-use Rattle.mdp_unichain.proofs.Reaching.{test_or_not, clash_test}
-use Rattle.mdp_unichain.proofs.Toward.{ranks_toward, nearest_choice, outside_choice}
+use Rattle.mdp_graph.specs.{Sets.{marked}, Choices.{AreLeast}}
+use Rattle.mdp_ends.specs.{Ends.{in_part}, Toward.{target_in, IsToward}}
+use Rattle.mdp_unichain.specs.{Chain.{IsClosedClass}, Component.{Component, count, is_state, IsInner, IsPolicy}, Next.{IsPicked, IsNearest, IsExactNext}}
+use Rattle.mdp_unichain.proofs.{Improving.{state-below}, Reaching.{test_or_not, clash_test}, Toward.{ranks_toward, nearest_choice, outside_choice}}
 use Rattle.mdp_parts.specs.FoundEnds.{AreEndsOf}
-use Rattle.mdp_gain.specs.Code.{component_in, joined}
-use Rattle.mdp_gain.specs.declared.chosen.Chosen.{Chosen}
-use Rattle.mdp_gain.specs.declared.component.EndComponent.{EndComponent}
+use Rattle.mdp_gain.specs.{Code.{component_in, joined}, declared.chosen.Chosen.{Chosen}, declared.component.EndComponent.{EndComponent}}
 use Rattle.mdp_gain.proofs.Given.{count-is, part-of, member-is}
 
 module _ (y : Chosen) (ends : AreEndsOf y.component.model.now y.component.ends.now) (policy : List ℕ) (class : List Bool) (pick : IsPicked (component_in y.component) policy y.policy.now (marked class)) where

@@ -1,21 +1,16 @@
 -- A state of an end component at which each choice of the component stays is its only state.
 use Rattle.std.proofs.Common.{◌≡◌, ◌≢◌, ℕ, ◌<◌, ◌⊎◌, inl, inr, Bool, true, false, not, ◌&&◌, ◌||◌}
-use Rattle.std.proofs.Common.{◌==◌, List, [], ◌∷◌, length, Option, refl, sym, ◌∙◌, ap, arith, zero-add}
-use Rattle.std.specs.List.{All, Any, list_all, range_with_len}
-use Rattle.std.proofs.lemmas.Bool.{eqb-true}
+use Rattle.std.proofs.{Common.{◌==◌, List, [], ◌∷◌, length, Option, refl, sym, ◌∙◌, ap, arith, zero-add}, lemmas.Bool.{eqb-true}}
 use Rattle.std.proofs.lemmas.List.FromFn.{length-range_with_len, get_or-range_with_len}
+use Rattle.std.specs.List.{All, Any, list_all, range_with_len}
 use Rattle.mdp_math.specs.Rational.{ℚ}
 use Rattle.mdp_math.proofs.Kernel.{Any-and}
-use Rattle.mdp_spec.specs.Mdp.{Entry, Mdp}
-use Rattle.mdp_spec.specs.Row.{entries}
+use Rattle.mdp_spec.specs.{Mdp.{Entry, Mdp}, Row.{entries}}
 use Rattle.mdp_graph.proofs.RowSets.{list_all-at}
 use Rattle.mdp_rows.specs.declared.dir.Dir.{Dir}
 use Rattle.mdp_ends.specs.Ends.{in_part}
-use Rattle.mdp_unichain.specs.Component.{Component, choices_at, choice_at, IsInner, is_state, CanReach, IsComponent}
-use Rattle.mdp_unichain.specs.Part.{IsPart, inner_component}
-use Rattle.mdp_unichain.proofs.Chains.{same_or_other}
-use Rattle.mdp_unichain.proofs.Improving.{inner-below}
-use Rattle.mdp_unichain.proofs.Parts.{part-state, part-component}
+use Rattle.mdp_unichain.specs.{Component.{Component, choices_at, choice_at, IsInner, is_state, CanReach, IsComponent}, Part.{IsPart, inner_component}}
+use Rattle.mdp_unichain.proofs.{Chains.{same_or_other}, Improving.{inner-below}, Parts.{part-state, part-component}}
 use Rattle.mdp_gain.specs.Only.{IsOnly, leads_to_only, stays}
 
 entries-all : (s : ℕ) (ts : List ℕ) (ps : List ℚ) → length ts ≡ length ps → list_all (λ t. t == s) ts ≡ leads_to_only s (entries ts ps)

@@ -1,18 +1,13 @@
 -- Where no state is active, written elimination has no terms, and all values are 0.
 use Rattle.std.proofs.Common.{◌≡◌, ℕ, zero, suc, ◌+◌, ◌≤◌, Bool, true, false, if◌then◌else◌, List, [], ◌∷◌, ◌++◌}
-use Rattle.std.proofs.Common.{length, map, take, Option, Some, Result, Ok, refl, sym, ◌∙◌, ap, ap₂, arith, pos}
-use Rattle.std.specs.List.{range_with_len}
-use Rattle.std.specs.Prelude.{slice_index_or}
-use Rattle.std.proofs.lemmas.List.FromFn.{length-range_with_len}
-use Rattle.mdp_math.specs.Rational.{ℚ, of_int}
-use Rattle.mdp_math.specs.Written.{◌>>=◌}
+use Rattle.std.proofs.{Common.{length, map, take, Option, Some, Result, Ok, refl, sym, ◌∙◌, ap, ap₂, arith, pos}, lemmas.List.FromFn.{length-range_with_len}}
+use Rattle.std.specs.{List.{range_with_len}, Prelude.{slice_index_or}}
+use Rattle.mdp_math.specs.{Rational.{ℚ, of_int}, Written.{◌>>=◌}}
 use Rattle.mdp_math.proofs.Lists.{map_more}
 use Rattle.mdp_spec.specs.Mdp.{Entry}
-use Rattle.mdp_elim.specs.Equation.{Equation, Values, no_equation}
-use Rattle.mdp_elim.specs.Entries.{each}
+use Rattle.mdp_elim.specs.{Equation.{Equation, Values, no_equation}, Entries.{each}}
 use Rattle.mdp_elim.specs.Elimination.{Eliminated, divided, substituted, eliminated, evaluated, at_state, ◌and_then◌, solution}
-use Rattle.mdp_elim.specs.System.{is_active, inner, row_of, column_at, equation_of, system}
-use Rattle.mdp_elim.specs.Solve.{columns_of, kept, written_solution}
+use Rattle.mdp_elim.specs.{System.{is_active, inner, row_of, column_at, equation_of, system}, Solve.{columns_of, kept, written_solution}}
 use Rattle.mdp_gain.specs.OnlyTerms.{zeros}
 
 nones : ℕ → List Equation

@@ -1,16 +1,13 @@
 -- What a round of an end component of one state makes.
 use Rattle.std.proofs.Common.{◌≡◌, ◌≢◌, ℕ, Result, Ok, Err, sym, ap, subst}
 use Rattle.mdp_math.specs.Rational.{ℚ}
-use Rattle.mdp_unichain.specs.Component.{Component, IsInner, row_by, IsPolicy, IsComponent}
-use Rattle.mdp_unichain.specs.Improvement.{IsImproved}
+use Rattle.mdp_unichain.specs.{Component.{Component, IsInner, row_by, IsPolicy, IsComponent}, Improvement.{IsImproved}}
 use Rattle.mdp_unichain.specs.Written.{Values, written_values, written_improved}
 use Rattle.mdp_unichain.proofs.Compares.{improves_exactly}
 use Rattle.mdp_gain.specs.Code as code
-use Rattle.mdp_policy_iteration.specs.Faults.{Says}
-use Rattle.mdp_gain.specs.Only.{IsOnly, policy_of, values_of, Makes}
-use Rattle.mdp_policy_iteration.specs.Errors.{RoundError}
+use Rattle.mdp_policy_iteration.specs.{Faults.{Says}, Errors.{RoundError}}
+use Rattle.mdp_gain.specs.{Only.{IsOnly, policy_of, values_of, Makes}, declared.only_round.Turn.{Turn}}
 use Rattle.mdp_wide.specs.declared.unfinished.Unfinished.TheVariants as fault
-use Rattle.mdp_gain.specs.declared.only_round.Turn.{Turn}
 use Rattle.mdp_gain.specs.declared.only_round.Turn.TheVariants as turn
 use Rattle.mdp_gain.proofs.OnlyState.{policy-at, policy-is, only-reference, only-next, only-changed}
 use Rattle.mdp_gain.proofs.Rounds.{values_refused, improved_refused, round_done, round_next}

@@ -1,49 +1,26 @@
 -- The path of an end component of one state, choice by choice.
 use Rattle.std.proofs.Common.{◌≡◌, ◌≢◌, ℕ, zero, suc, ◌+◌, ◌-◌, ◌<◌, ◌≤◌, ◌^◌, min, Bool, true, false, if◌then◌else◌}
 use Rattle.std.proofs.Common.{List, [], ◌∷◌, length, map, filter, Some, Result, Ok, Err, refl, sym, ◌∙◌, ap, subst, arith, pos}
-use Rattle.std.specs.List.{find, range_with_len}
-use Rattle.std.specs.Option.{unwrap_or}
-use Rattle.std.specs.Prelude.{slice_index}
+use Rattle.std.specs.{List.{find, range_with_len}, Option.{unwrap_or}, Prelude.{slice_index}}
 use Rattle.mdp_math.specs.Rational.{ℚ, of_int}
 use Rattle.mdp_elim.specs.Laws.{GivesSolutions}
 use Rattle.mdp_spec.specs.Mdp.{states_of, value_at}
-use Rattle.mdp_wide.specs.declared.too_wide.Kind.{Kind}
-use Rattle.mdp_wide.specs.declared.too_wide.Part.TheVariants.{Inner}
-use Rattle.mdp_wide.specs.Term.{WideTerm}
+use Rattle.mdp_wide.specs.{declared.too_wide.Kind.{Kind}, declared.too_wide.Part.TheVariants.{Inner}, Term.{WideTerm}, Errors.{SolveError}}
 use Rattle.mdp_ends.specs.Ends.{in_part}
-use Rattle.mdp_policy_iteration.specs.Iteration.{refused}
-use Rattle.mdp_policy_iteration.specs.Path.{Round, Refusal}
-use Rattle.mdp_policy_iteration.specs.Laws.{first}
-use Rattle.mdp_policy_iteration.specs.Ends.{error_of_part}
-use Rattle.mdp_policy_iteration.specs.Queries.{Solves}
+use Rattle.mdp_policy_iteration.specs.{Iteration.{refused}, Path.{Round, Refusal}, Laws.{first}, Ends.{error_of_part}, Queries.{Solves}}
 use Rattle.mdp_policy_iteration.specs.Errors.{PathError, RoundError}
 use Rattle.mdp_wide.specs.declared.unfinished.Unfinished.TheVariants as error
-use Rattle.mdp_unichain.specs.Component.{Component, count, choices_at, choice_at, IsInner, row_by, IsPolicy, IsComponent}
-use Rattle.mdp_unichain.specs.Iteration.{EndsWith}
-use Rattle.mdp_unichain.specs.Part.{members}
+use Rattle.mdp_unichain.specs.{Component.{Component, count, choices_at, choice_at, IsInner, row_by, IsPolicy, IsComponent}, Iteration.{EndsWith}}
+use Rattle.mdp_unichain.specs.{Part.{members}, Path.{Found, IsStart}}
 use Rattle.mdp_unichain.specs.Path as path
-use Rattle.mdp_unichain.specs.Path.{Found, IsStart}
-use Rattle.mdp_unichain.proofs.Ending.{better_left}
-use Rattle.mdp_unichain.proofs.Best.{inner_of_state}
-use Rattle.mdp_unichain.proofs.Improving.{inner-below}
-use Rattle.mdp_unichain.proofs.Parts.{member-below}
-use Rattle.mdp_unichain.proofs.Picking.{IsFirst}
-use Rattle.mdp_wide.specs.Errors.{SolveError}
+use Rattle.mdp_unichain.proofs.{Ending.{better_left}, Best.{inner_of_state}, Improving.{inner-below}, Parts.{member-below}, Picking.{IsFirst}}
 use Rattle.mdp_parts.specs.FoundEnds.{AreEndsOf}
-use Rattle.mdp_gain.specs.Code.{component_in}
-use Rattle.mdp_gain.specs.declared.component.EndComponent.{EndComponent}
-use Rattle.mdp_gain.specs.declared.only_state.Only.{Only}
-use Rattle.mdp_gain.proofs.Given.{part-of, member-is}
-use Rattle.mdp_gain.specs.Only.{IsOnly, policy_of, values_of, Makes, Ends, IsErrorOf}
-use Rattle.mdp_gain.specs.OnlyTerms.{zeros}
-use Rattle.mdp_gain.specs.Query.{Answer, answer_of, plain, EndsSo}
-use Rattle.mdp_gain.specs.declared.only_round.Settled.{Settled}
-use Rattle.mdp_gain.specs.declared.only_round.Turn.{Turn}
-use Rattle.mdp_gain.specs.declared.only_round.Turn.TheVariants as turn
-use Rattle.mdp_gain.proofs.Flagging.{find-or}
-use Rattle.mdp_gain.proofs.OnlyState.{policy-at, policy-is, only-reference, only-first}
-use Rattle.mdp_gain.proofs.OnlySums.{zero-at}
+use Rattle.mdp_gain.specs.{Code.{component_in}, declared.component.EndComponent.{EndComponent}, declared.only_state.Only.{Only}}
+use Rattle.mdp_gain.specs.{Only.{IsOnly, policy_of, values_of, Makes, Ends, IsErrorOf}, OnlyTerms.{zeros}, Query.{Answer, answer_of, plain, EndsSo}}
+use Rattle.mdp_gain.specs.{declared.only_round.Settled.{Settled}, declared.only_round.Turn.{Turn}}
+use Rattle.mdp_gain.proofs.{Given.{part-of, member-is}, Flagging.{find-or}, OnlyState.{policy-at, policy-is, only-reference, only-first}, OnlySums.{zero-at}}
 use Rattle.mdp_gain.proofs.Rounds.{goes_on, ends_done, next_start, next_fewer}
+use Rattle.mdp_gain.specs.declared.only_round.Turn.TheVariants as turn
 
 pub made_as : (p : Component) (s n c : ℕ) (result : Result Turn RoundError) → ((k : ℕ) → Makes p s k c result) → (r : Result Turn RoundError) → result ≡ r → Makes p s n c r
 made_as p s n c result made r was = subst (λ (q : Result Turn RoundError). Makes p s n c q) was (made n)

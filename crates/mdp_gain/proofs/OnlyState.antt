@@ -1,45 +1,25 @@
 -- An end component of one state: its policies, its values, and its improved choices.
 use Rattle.std.proofs.Common.{◌≡◌, ◌≢◌, ℕ, zero, suc, ◌+◌, ◌<◌, ◌≤◌, ◌⊎◌, inl, inr, Bool, true, false, not, ◌&&◌, ◌==◌, eqb, if◌then◌else◌, List}
-use Rattle.std.proofs.Common.{[], ◌∷◌, ◌++◌, map, Result, Ok, Err, pos, refl, sym, ◌∙◌, ap, subst, arith, zero-add}
-use Rattle.std.specs.List.{range_with_len}
-use Rattle.std.specs.Prelude.{slice_index}
-use Rattle.std.specs.Result.{result_ok}
-use Rattle.std.proofs.Math.ListN.{get_or-eq_default}
-use Rattle.std.proofs.lemmas.Bool.{eq-eqb, ne_eqb}
-use Rattle.std.proofs.lemmas.List.FromFn.{get_or-map-range_with_len, length-map-range_with_len}
-use Rattle.mdp_math.specs.Rational.{ℚ, of_int}
-use Rattle.mdp_math.specs.Result.{◌>>=◌}
-use Rattle.mdp_math.specs.Written.{written_add}
-use Rattle.mdp_math.proofs.Lists.{map_more}
-use Rattle.mdp_math.proofs.Numbers.{le_or, eqb-same}
-use Rattle.mdp_math.proofs.Order.{0ℚ}
+use Rattle.std.proofs.{Common.{[], ◌∷◌, ◌++◌, map, Result, Ok, Err, pos, refl, sym, ◌∙◌, ap, subst, arith, zero-add}, Math.ListN.{get_or-eq_default}}
+use Rattle.std.proofs.{lemmas.Bool.{eq-eqb, ne_eqb}, lemmas.List.FromFn.{get_or-map-range_with_len, length-map-range_with_len}}
+use Rattle.std.specs.{List.{range_with_len}, Prelude.{slice_index}, Result.{result_ok}}
+use Rattle.mdp_math.specs.{Rational.{ℚ, of_int}, Result.{◌>>=◌}, Written.{written_add}}
+use Rattle.mdp_math.proofs.{Lists.{map_more}, Numbers.{le_or, eqb-same}, Order.{0ℚ}}
 use Rattle.mdp_num.specs.declared.errors.Wide.{Wide}
 use Rattle.mdp_spec.specs.Mdp.{Entry}
 use Rattle.mdp_elim.specs.System.{is_active}
 use Rattle.mdp_wide.specs.declared.too_wide.Kind.TheVariants.{Evaluate}
-use Rattle.mdp_policy_iteration.specs.Places.{Place, at_place, up_to}
-use Rattle.mdp_policy_iteration.specs.Path.{evaluating, placed, comparing}
+use Rattle.mdp_policy_iteration.specs.{Places.{Place, at_place, up_to}, Path.{evaluating, placed, comparing}, Faults.{placed_at, Answers}, Errors.{RoundError}}
 use Rattle.mdp_policy_iteration.proofs.Answering.{up_to-refused}
 use Rattle.mdp_unichain.specs.Chain.{AllLeadTo, IsReference, IsClosedClass}
-use Rattle.mdp_unichain.specs.Component.{Component, count, choice_at, IsInner, is_state, row_by, IsPolicy, IsComponent}
-use Rattle.mdp_unichain.specs.Evaluation.{active}
-use Rattle.mdp_unichain.specs.Next.{IsPicked, AreRanksToward, IsExactNext}
-use Rattle.mdp_unichain.specs.Path.{IsFirst}
-use Rattle.mdp_unichain.specs.Sums.{written_ratio}
-use Rattle.mdp_unichain.specs.Written as written
+use Rattle.mdp_unichain.specs.{Component.{Component, count, choice_at, IsInner, is_state, row_by, IsPolicy, IsComponent}, Evaluation.{active}}
+use Rattle.mdp_unichain.specs.{Next.{IsPicked, AreRanksToward, IsExactNext}, Path.{IsFirst}, Sums.{written_ratio}}
 use Rattle.mdp_unichain.specs.Written.{rows_of, row_or_loop, active_of, columns_of, written_columns, bias_of, written_values, improved_choice, improved_at, written_improved}
-use Rattle.mdp_unichain.proofs.Chains.{same_number}
-use Rattle.mdp_unichain.proofs.Improving.{state-below}
-use Rattle.mdp_unichain.proofs.Reaching.{clash_test}
-use Rattle.mdp_policy_iteration.specs.Faults.{placed_at, Answers}
-use Rattle.mdp_gain.specs.Code.{choice_over}
-use Rattle.mdp_gain.specs.Only.{IsOnly, policy_of, values_of}
-use Rattle.mdp_gain.specs.OnlyTerms.{zeros, ratio_of}
-use Rattle.mdp_policy_iteration.specs.Errors.{RoundError}
+use Rattle.mdp_unichain.specs.Written as written
+use Rattle.mdp_unichain.proofs.{Chains.{same_number}, Improving.{state-below}, Reaching.{clash_test}}
+use Rattle.mdp_gain.specs.{Code.{choice_over}, Only.{IsOnly, policy_of, values_of}, OnlyTerms.{zeros, ratio_of}}
 use Rattle.mdp_wide.specs.declared.unfinished.Unfinished.TheVariants as fault
-use Rattle.mdp_gain.proofs.OnlyColumns.{no-solution}
-use Rattle.mdp_gain.proofs.OnlySums.{zero-at}
-use Rattle.mdp_gain.proofs.Told.{bias-zero}
+use Rattle.mdp_gain.proofs.{OnlyColumns.{no-solution}, OnlySums.{zero-at}, Told.{bias-zero}}
 
 -- ---- lists of answers
 

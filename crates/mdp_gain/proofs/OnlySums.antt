@@ -1,18 +1,10 @@
 -- Written sums of biases that are 0.
 use Rattle.std.proofs.Common.{◌≡◌, ℕ, ◌<◌, ◌≤◌, ◌⊎◌, inl, inr, List, [], ◌∷◌, length, Option, Some, None, refl, sym, ◌∙◌, ap, subst, arith, zero-add, pos}
+use Rattle.std.proofs.{Math.ListN.{get_or-eq_default}, lemmas.List.FromFn.{get_or-map-range_with_len, length-map-range_with_len}}
 use Rattle.std.specs.List.{All}
-use Rattle.std.proofs.Math.ListN.{get_or-eq_default}
-use Rattle.std.proofs.lemmas.List.FromFn.{get_or-map-range_with_len, length-map-range_with_len}
-use Rattle.mdp_math.specs.Rational.{ℚ, ◌+ℚ◌}
-use Rattle.mdp_math.specs.Sum.{sum_of}
-use Rattle.mdp_math.specs.Written.{written_add, written_mul, ◌>>=◌}
-use Rattle.mdp_math.proofs.Numbers.{le_or}
-use Rattle.mdp_math.proofs.Kernel.{weigh-const}
-use Rattle.mdp_math.proofs.Laws.{rat_ring}
-use Rattle.mdp_math.proofs.Order.{0ℚ, 1ℚ, ≤ℚ_of_eq}
-use Rattle.mdp_math.proofs.Ring.{◌⊕◌, ◌⊗◌, lit, ring}
-use Rattle.mdp_spec.specs.Mdp.{Entry, value_at}
-use Rattle.mdp_spec.specs.Written.{written_sum}
+use Rattle.mdp_math.specs.{Rational.{ℚ, ◌+ℚ◌}, Sum.{sum_of}, Written.{written_add, written_mul, ◌>>=◌}}
+use Rattle.mdp_math.proofs.{Numbers.{le_or}, Kernel.{weigh-const}, Laws.{rat_ring}, Order.{0ℚ, 1ℚ, ≤ℚ_of_eq}, Ring.{◌⊕◌, ◌⊗◌, lit, ring}}
+use Rattle.mdp_spec.specs.{Mdp.{Entry, value_at}, Written.{written_sum}}
 use Rattle.mdp_unichain.specs.Evaluation.{mean}
 use Rattle.mdp_gain.specs.OnlyTerms.{zeros}
 use Rattle.mdp_gain.proofs.Told.{not_zero}

@@ -3,30 +3,19 @@ use Rattle.std.proofs.Common.{◌≡◌, ◌≢◌, ℕ, ◌+◌, ◌-◌, ◌<�
 use Rattle.std.specs.Global.{Global}
 use Rattle.mdp_spec.specs.Mdp.{value_at}
 use Rattle.mdp_elim.specs.Laws.{GivesSolutions}
-use Rattle.mdp_policy_iteration.specs.Iteration.{Step, next, done, refused}
-use Rattle.mdp_policy_iteration.specs.Path.{Round, Refusal}
-use Rattle.mdp_policy_iteration.specs.Places.{Place}
-use Rattle.mdp_policy_iteration.specs.Laws.{first}
-use Rattle.mdp_unichain.specs.Chain.{IsReference}
-use Rattle.mdp_unichain.specs.Component.{Component, count, is_state, row_by, IsComponent}
-use Rattle.mdp_unichain.specs.Iteration.{EndsWith}
-use Rattle.mdp_unichain.specs.Improvement.{IsEvaluated}
-use Rattle.mdp_unichain.specs.Next.{IsExactNext}
-use Rattle.mdp_unichain.specs.Path as path
-use Rattle.mdp_unichain.specs.Path.{Found, AfterEvaluation, AfterComparison, IsStart}
-use Rattle.mdp_unichain.specs.Written as written
+use Rattle.mdp_policy_iteration.specs.{Iteration.{Step, next, done, refused}, Path.{Round, Refusal}, Places.{Place}, Laws.{first}, Faults.{Says}}
+use Rattle.mdp_policy_iteration.specs.Errors.{RoundError}
+use Rattle.mdp_unichain.specs.{Chain.{IsReference}, Component.{Component, count, is_state, row_by, IsComponent}, Iteration.{EndsWith}}
+use Rattle.mdp_unichain.specs.{Improvement.{IsEvaluated}, Next.{IsExactNext}, Path.{Found, AfterEvaluation, AfterComparison, IsStart}}
 use Rattle.mdp_unichain.specs.Written.{written_values, written_improved}
-use Rattle.mdp_unichain.proofs.Classes.{one_reference}
-use Rattle.mdp_unichain.proofs.Ending.{better_left, next_by}
-use Rattle.mdp_unichain.proofs.Nexts.{exact_is_next}
+use Rattle.mdp_unichain.specs.Path as path
+use Rattle.mdp_unichain.specs.Written as written
+use Rattle.mdp_unichain.proofs.{Classes.{one_reference}, Ending.{better_left, next_by}, Nexts.{exact_is_next}}
 use Rattle.mdp_unichain.proofs.Paths.{Goes_on, evaluation_next, now, imp, after, keeps, some_changed}
 use Rattle.mdp_parts.specs.FoundEnds.{AreEndsOf}
-use Rattle.mdp_gain.specs.Code.{component_in, Makes, Ends, HasEntries, path_error}
-use Rattle.mdp_policy_iteration.specs.Faults.{Says}
-use Rattle.mdp_policy_iteration.specs.Errors.{RoundError}
-use Rattle.mdp_wide.specs.declared.unfinished.Unfinished.TheVariants as fault
-use Rattle.mdp_gain.specs.declared.component.EndComponent.{EndComponent}
+use Rattle.mdp_gain.specs.{Code.{component_in, Makes, Ends, HasEntries, path_error}, declared.component.EndComponent.{EndComponent}}
 use Rattle.mdp_gain.specs.declared.round.RoundEnd.{RoundEnd}
+use Rattle.mdp_wide.specs.declared.unfinished.Unfinished.TheVariants as fault
 use Rattle.mdp_gain.specs.declared.round.RoundEnd.TheVariants as end
 use Rattle.mdp_gain.proofs.Given.{is-component}
 

@@ -1,30 +1,20 @@
 -- The end of the path as that of the query.
 use Rattle.std.proofs.Common.{◌≡◌, ℕ, ◌<◌, Bool, if◌then◌else◌, List, [], ◌∷◌, length, map, filter, Option, Some, Result, Ok, Err, refl, sym, ◌∙◌, ap, ap₂, subst, arith}
-use Rattle.std.specs.List.{All, range_with_len}
-use Rattle.std.specs.Prelude.{slice_index}
-use Rattle.std.proofs.lemmas.List.Elements.{All-filter}
-use Rattle.std.proofs.lemmas.List.FromFn.{length-range_with_len, get_or-range_with_len}
+use Rattle.std.proofs.{lemmas.List.Elements.{All-filter}, lemmas.List.FromFn.{length-range_with_len, get_or-range_with_len}}
+use Rattle.std.specs.{List.{All, range_with_len}, Prelude.{slice_index}}
 use Rattle.mdp_spec.specs.Mdp.{Mdp}
 use Rattle.mdp_rows.specs.declared.dir.Dir.{Dir}
-use Rattle.mdp_wide.specs.declared.too_wide.Kind.{Kind}
-use Rattle.mdp_wide.specs.declared.too_wide.Part.TheVariants.{Inner}
+use Rattle.mdp_wide.specs.{declared.too_wide.Kind.{Kind}, declared.too_wide.Part.TheVariants.{Inner}, Term.{WideTerm}, Errors.{SolveError}}
 use Rattle.mdp_ends.specs.Ends.{in_part}
-use Rattle.mdp_policy_iteration.specs.Ends.{error_of_part}
-use Rattle.mdp_wide.specs.Term.{WideTerm}
-use Rattle.mdp_policy_iteration.specs.Queries.{Solves}
-use Rattle.mdp_policy_iteration.specs.Errors.{PathError}
+use Rattle.mdp_policy_iteration.specs.{Ends.{error_of_part}, Queries.{Solves}, Errors.{PathError}}
 use Rattle.mdp_wide.specs.declared.unfinished.Unfinished.TheVariants as error
-use Rattle.mdp_unichain.specs.Component.{Component, count, is_state}
-use Rattle.mdp_unichain.specs.Part.{IsPart, members, inner_component}
-use Rattle.mdp_unichain.specs.Path.{IsFirst}
+use Rattle.mdp_unichain.specs.{Component.{Component, count, is_state}, Part.{IsPart, members, inner_component}, Path.{IsFirst}}
 use Rattle.mdp_unichain.proofs.Parts.{part-state, part-count}
-use Rattle.mdp_gain.specs.Query.{Answer, plain, EndsSo}
-use Rattle.mdp_wide.specs.Errors.{SolveError}
+use Rattle.mdp_gain.specs.{Query.{Answer, plain, EndsSo}, Code.{component_in, Ends, AtStates, FitsStates, HasEntries, answer_at, values_in}}
+use Rattle.mdp_gain.specs.declared.component.EndComponent.{EndComponent}
 use Rattle.mdp_parts.specs.FoundEnds.{AreEndsOf}
 use Rattle.mdp_gain.proofs.Given.{part-of}
-use Rattle.mdp_gain.specs.Code.{component_in, Ends, AtStates, FitsStates, HasEntries, answer_at, values_in}
 use Rattle.mdp_gain.specs.declared.best_policy.Found as code
-use Rattle.mdp_gain.specs.declared.component.EndComponent.{EndComponent}
 
 -- ---- the states
 

@@ -1,33 +1,19 @@
 -- The start policy: it goes toward the least state of the component, which takes its least choice.
 use Rattle.std.proofs.Common.{◌≡◌, ◌≢◌, ℕ, ◌<◌, ◌≤◌, ◌⊎◌, inl, inr, Bool, true, false, ◌&&◌, ◌==◌, List, length, map, set, refl, sym, ◌∙◌, ap, subst, arith, zero-add}
-use Rattle.std.specs.List.{find, range_with_len}
-use Rattle.std.specs.Option.{unwrap_or}
-use Rattle.std.specs.Prelude.{slice_index}
-use Rattle.std.proofs.Math.ListN.{get_or-eq_default}
-use Rattle.std.proofs.lemmas.Bool.{cases_eq, and_from, eq-eqb, ne_eqb}
-use Rattle.std.proofs.lemmas.List.{length-set, get_or-set_other}
-use Rattle.std.proofs.lemmas.List.FromFn.{get_or-map-range_with_len, length-map-range_with_len}
-use Rattle.std.proofs.lemmas.Grind.{get_or-set_at}
+use Rattle.std.proofs.{Math.ListN.{get_or-eq_default}, lemmas.Bool.{cases_eq, and_from, eq-eqb, ne_eqb}, lemmas.List.{length-set, get_or-set_other}}
+use Rattle.std.proofs.{lemmas.List.FromFn.{get_or-map-range_with_len, length-map-range_with_len}, lemmas.Grind.{get_or-set_at}}
+use Rattle.std.specs.{List.{find, range_with_len}, Option.{unwrap_or}, Prelude.{slice_index}}
 use Rattle.mdp_math.proofs.Numbers.{le_or}
 use Rattle.mdp_spec.specs.Mdp.{states_of}
-use Rattle.mdp_graph.specs.Sets.{marked}
-use Rattle.mdp_graph.specs.Choices.{AreLeast}
-use Rattle.mdp_ends.specs.Ends.{in_part, IsEnd, IsMaximal, AreEnds}
-use Rattle.mdp_ends.specs.Toward.{target_in, IsToward}
-use Rattle.mdp_unichain.specs.Component.{Component, count, choices_at, choice_at, is_state, IsInner}
-use Rattle.mdp_unichain.specs.Next.{IsNearest}
+use Rattle.mdp_graph.specs.{Sets.{marked}, Choices.{AreLeast}}
+use Rattle.mdp_ends.specs.{Ends.{in_part, IsEnd, IsMaximal, AreEnds}, Toward.{target_in, IsToward}}
+use Rattle.mdp_unichain.specs.{Component.{Component, count, choices_at, choice_at, is_state, IsInner}, Next.{IsNearest}}
 use Rattle.mdp_unichain.specs.Path as path
-use Rattle.mdp_unichain.proofs.Best.{inner_of_state}
-use Rattle.mdp_unichain.proofs.Chains.{same_or_other}
-use Rattle.mdp_unichain.proofs.Improving.{state-below, inner-below}
-use Rattle.mdp_unichain.proofs.Picking.{IsFirst}
-use Rattle.mdp_unichain.proofs.Reaching.{clash_test}
+use Rattle.mdp_unichain.proofs.{Best.{inner_of_state}, Chains.{same_or_other}, Improving.{state-below, inner-below}, Picking.{IsFirst}, Reaching.{clash_test}}
 use Rattle.mdp_unichain.proofs.Toward.{ranks_toward, nearest_choice, outside_choice}
 use Rattle.mdp_parts.specs.FoundEnds.{AreEndsOf}
-use Rattle.mdp_gain.specs.Code.{component_in}
-use Rattle.mdp_gain.specs.declared.component.EndComponent.{EndComponent}
-use Rattle.mdp_gain.proofs.Flagging.{find-or}
-use Rattle.mdp_gain.proofs.Given.{count-is, part-of, member-is}
+use Rattle.mdp_gain.specs.{Code.{component_in}, declared.component.EndComponent.{EndComponent}}
+use Rattle.mdp_gain.proofs.{Flagging.{find-or}, Given.{count-is, part-of, member-is}}
 
 pub choices-len : (x : EndComponent) {target marks : List Bool} {ranks choices : List ℕ} → IsToward x.model.now x.ends.now.parts x.number target marks ranks choices
     → length choices ≡ count (component_in x)

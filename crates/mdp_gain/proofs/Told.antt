@@ -1,22 +1,14 @@
 -- Written terms that are told.
 use Rattle.std.proofs.Common.{◌≡◌, ℕ, Bool, true, false, if◌then◌else◌, List, Option, Some, Result, Ok, Err, refl, sym, ◌∙◌, ap, subst}
-use Rattle.std.specs.Prelude.{slice_index}
-use Rattle.std.specs.Result.{result_ok}
+use Rattle.std.specs.{Prelude.{slice_index}, Result.{result_ok}}
 use Rattle.mdp_math.specs.Rational.{ℚ, ◌+ℚ◌, ◌≤ℚ◌}
-use Rattle.mdp_math.proofs.Order.{0ℚ, 1ℚ, clash_ℚ}
-use Rattle.mdp_math.proofs.Whole.{one-pos}
+use Rattle.mdp_math.proofs.{Order.{0ℚ, 1ℚ, clash_ℚ}, Whole.{one-pos}}
 use Rattle.mdp_num.specs.declared.errors.Wide.{Wide}
 use Rattle.mdp_wide.specs.declared.too_wide.Kind.TheVariants.{Evaluate}
-use Rattle.mdp_spec.specs.Mdp.{Entry, value_at}
-use Rattle.mdp_spec.specs.Written.{written_sum}
-use Rattle.mdp_policy_iteration.specs.Places.{Place, at_place}
-use Rattle.mdp_policy_iteration.specs.Path.{evaluating}
+use Rattle.mdp_spec.specs.{Mdp.{Entry, value_at}, Written.{written_sum}}
+use Rattle.mdp_policy_iteration.specs.{Places.{Place, at_place}, Path.{evaluating}, Faults.{placed_at, Answers}}
 use Rattle.mdp_policy_iteration.proofs.Compares.{written_sum-is}
-use Rattle.mdp_unichain.specs.Component.{Component, is_state}
-use Rattle.mdp_unichain.specs.Evaluation.{active, mean}
-use Rattle.mdp_unichain.specs.Sums.{written_bias}
-use Rattle.mdp_unichain.specs.Written.{bias_of}
-use Rattle.mdp_policy_iteration.specs.Faults.{placed_at, Answers}
+use Rattle.mdp_unichain.specs.{Component.{Component, is_state}, Evaluation.{active, mean}, Sums.{written_bias}, Written.{bias_of}}
 
 -- a sum from 1 that is at least 1 isn't 0
 pub not_zero : (z : List ℚ) (row : List Entry) (v : ℚ) → 1ℚ ≤ℚ 1ℚ +ℚ mean row (value_at z) → written_sum z 1ℚ row ≡ Some v → v ≡ 0ℚ → ⊥

@@ -3,13 +3,10 @@
 -- policy earns it exactly.
 use Rattle.std.specs.Prelude.{◌≡◌, ℕ, ◌<◌, true, List, [], ◌∷◌, length, Option, ◌==◌, if◌then◌else◌, pos}
 use Rattle.mdp_math.specs.Rational.{ℚ, of_int, ◌+ℚ◌}
-use Rattle.mdp_spec.specs.Mdp.{Mdp, states_of, choices_at, choice_at, row_at}
-use Rattle.mdp_spec.specs.Unit.{reward_of}
-use Rattle.mdp_rows.specs.declared.dir.Dir.{Dir}
+use Rattle.mdp_spec.specs.{Mdp.{Mdp, states_of, choices_at, choice_at, row_at}, Unit.{reward_of}}
+use Rattle.mdp_rows.specs.{declared.dir.Dir.{Dir}, Better.{IsAsGood}}
 use Rattle.mdp_ends.specs.Ends.{in_part, is_inside}
-use Rattle.mdp_rows.specs.Better.{IsAsGood}
-use Rattle.mdp_unichain.specs.Chain.{AllLeadTo}
-use Rattle.mdp_unichain.specs.Evaluation.{mean}
+use Rattle.mdp_unichain.specs.{Chain.{AllLeadTo}, Evaluation.{mean}}
 use Rattle.mdp_gain.specs.Query.{Answer, members}
 
 -- the entry of state s, where a list has one entry for each of these states; d elsewhere

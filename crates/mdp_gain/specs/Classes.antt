@@ -2,8 +2,7 @@
 use Rattle.std.specs.Prelude.{◌≡◌, ℕ, ◌<◌, List, Bool, length}
 use Rattle.mdp_spec.specs.Mdp.{Mdp, states_of, choices_at}
 use Rattle.mdp_parts.specs.Allowed.{allowed_at, AreChoices}
-use Rattle.mdp_unichain.specs.Component.{Component}
-use Rattle.mdp_unichain.specs.Classes.{takes}
+use Rattle.mdp_unichain.specs.{Component.{Component}, Classes.{takes}}
 
 -- the policy's choice of state s alone is allowed there
 pub record TakesAt (m : Mdp) (p : Component) (policy : List ℕ) (s : ℕ) (old new : List (List Bool)) : Type 0 where

@@ -1,26 +1,16 @@
 -- What the code's contracts say beside the definitions.
-use Rattle.std.specs.Prelude.{◌≡◌, ℕ, ◌+◌, ◌<◌, Bool, List, length, map, slice_index, Result, Ok, Err, Vec, if◌then◌else◌}
-use Rattle.std.specs.Global.{Global}
+use Rattle.std.specs.{Prelude.{◌≡◌, ℕ, ◌+◌, ◌<◌, Bool, List, length, map, slice_index, Result, Ok, Err, Vec, if◌then◌else◌}, Global.{Global}}
 use Rattle.std.specs.List.{All, range_with_len}
-use Rattle.mdp_math.specs.Rational.{ℚ}
-use Rattle.mdp_math.specs.Result.{◌>>=◌}
+use Rattle.mdp_math.specs.{Rational.{ℚ}, Result.{◌>>=◌}}
 use Rattle.mdp_graph.specs.Sets.{marked}
-use Rattle.mdp_policy_iteration.specs.Iteration.{next, done, refused}
-use Rattle.mdp_policy_iteration.specs.Places.{Place}
-use Rattle.mdp_policy_iteration.specs.Path.{or_kept}
-use Rattle.mdp_policy_iteration.specs.Laws.{first}
-use Rattle.mdp_policy_iteration.specs.Ends.{capped}
+use Rattle.mdp_policy_iteration.specs.{Iteration.{next, done, refused}, Places.{Place}, Path.{or_kept}, Laws.{first}, Ends.{capped}}
 use Rattle.mdp_policy_iteration.specs.Errors.{PathError, RoundError}
 use Rattle.mdp_wide.specs.declared.unfinished.Unfinished.TheVariants as error
-use Rattle.mdp_unichain.specs.Component.{Component, count, choices_at}
+use Rattle.mdp_unichain.specs.{Component.{Component, count, choices_at}, Iteration.{EndsWith}}
 use Rattle.mdp_unichain.specs.Written as written
-use Rattle.mdp_unichain.specs.Iteration.{EndsWith}
 use Rattle.mdp_unichain.specs.Path as path
-use Rattle.mdp_gain.specs.Query.{Answer, answer_of, inner_component}
-use Rattle.mdp_gain.specs.declared.component.EndComponent.{EndComponent}
-use Rattle.mdp_gain.specs.declared.values.Values.{Values}
-use Rattle.mdp_gain.specs.declared.best_policy.Found.{Found}
-use Rattle.mdp_gain.specs.declared.round.RoundEnd.{RoundEnd}
+use Rattle.mdp_gain.specs.{Query.{Answer, answer_of, inner_component}, declared.component.EndComponent.{EndComponent}, declared.values.Values.{Values}}
+use Rattle.mdp_gain.specs.{declared.best_policy.Found.{Found}, declared.round.RoundEnd.{RoundEnd}}
 use Rattle.mdp_gain.specs.declared.round.RoundEnd.TheVariants as end
 
 -- the component that the code holds

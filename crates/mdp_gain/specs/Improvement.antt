@@ -2,17 +2,10 @@
 use Rattle.std.specs.Prelude.{◌≡◌, ◌⊎◌, ℕ, zero, suc, Bool, List, Option, Ok}
 use Rattle.mdp_math.specs.Rational.{ℚ}
 use Rattle.mdp_spec.specs.Mdp.{Mdp, value_at}
-use Rattle.mdp_rows.specs.declared.dir.Dir.{Dir}
-use Rattle.mdp_rows.specs.Better.{IsBetter}
-use Rattle.mdp_policy_iteration.specs.Iteration.{Step, next}
-use Rattle.mdp_policy_iteration.specs.Path.{Round}
-use Rattle.mdp_policy_iteration.specs.Laws.{first}
-use Rattle.mdp_unichain.specs.Component.{Component}
-use Rattle.mdp_unichain.specs.Improvement.{IsEvaluated, IsImproved, IsChanged, KeepsClasses, GoesToward}
-use Rattle.mdp_unichain.specs.Laws.{BiasRose}
-use Rattle.mdp_unichain.specs.Part.{inner_component}
-use Rattle.mdp_unichain.specs.Path.{Makes, IsFirst}
-use Rattle.mdp_unichain.specs.Written.{Values, written_values, written_improved}
+use Rattle.mdp_rows.specs.{declared.dir.Dir.{Dir}, Better.{IsBetter}}
+use Rattle.mdp_policy_iteration.specs.{Iteration.{Step, next}, Path.{Round}, Laws.{first}}
+use Rattle.mdp_unichain.specs.{Component.{Component}, Improvement.{IsEvaluated, IsImproved, IsChanged, KeepsClasses, GoesToward}, Laws.{BiasRose}}
+use Rattle.mdp_unichain.specs.{Part.{inner_component}, Path.{Makes, IsFirst}, Written.{Values, written_values, written_improved}}
 
 -- so many steps of an iteration lead from a to b
 abbrev pub LeadsTo : {A E R : Type 0} → (A → Step A E R → Type 0) → ℕ → A → A → Type 0

@@ -1,24 +1,14 @@
 -- What a query of the best gain of an end component ends with, what each step of its path does, and what a best gain says of all policies and trees of the component.
 use Rattle.std.specs.Prelude.{◌≡◌, ℕ, ◌<◌, ◌≤◌, true, List, Option, Result, Ok}
 use Rattle.mdp_math.specs.Rational.{ℚ, ◌+ℚ◌, ◌*ℚ◌, ◌≤ℚ◌}
-use Rattle.mdp_spec.specs.Mdp.{Mdp, states_of}
-use Rattle.mdp_spec.specs.Tree.{Tree}
-use Rattle.mdp_spec.specs.Pay.{total}
-use Rattle.mdp_spec.specs.Bounds.{whole}
-use Rattle.mdp_rows.specs.declared.dir.Dir.{Dir}
-use Rattle.mdp_rows.specs.declared.dir.Dir.TheVariants.{Max, Min}
+use Rattle.mdp_spec.specs.{Mdp.{Mdp, states_of}, Tree.{Tree}, Pay.{total}, Bounds.{whole}}
+use Rattle.mdp_rows.specs.{declared.dir.Dir.{Dir}, declared.dir.Dir.TheVariants.{Max, Min}, Better.{IsAsGood}}
 use Rattle.mdp_ends.specs.Ends.{in_part}
-use Rattle.mdp_policy_iteration.specs.Iteration.{next}
-use Rattle.mdp_policy_iteration.specs.Path.{Round}
+use Rattle.mdp_policy_iteration.specs.{Iteration.{next}, Path.{Round}}
 use Rattle.mdp_wide.specs.Term.{WideTerm}
-use Rattle.mdp_rows.specs.Better.{IsAsGood}
 pub use Rattle.mdp_unichain.specs.Part.{IsPart}
-use Rattle.mdp_unichain.specs.Model.{Takes}
-use Rattle.mdp_unichain.specs.Improvement.{IsEvaluated}
-use Rattle.mdp_unichain.specs.Path.{Makes}
-use Rattle.mdp_gain.specs.Query.{Answer, is_inner, inner_component, EndsSo}
-use Rattle.mdp_gain.specs.Best.{IsBestInner}
-use Rattle.mdp_gain.specs.Improvement.{IsRound, ImprovesTo}
+use Rattle.mdp_unichain.specs.{Model.{Takes}, Improvement.{IsEvaluated}, Path.{Makes}}
+use Rattle.mdp_gain.specs.{Query.{Answer, is_inner, inner_component, EndsSo}, Best.{IsBestInner}, Improvement.{IsRound, ImprovesTo}}
 
 -- a query has exactly one end
 abbrev pub HasOneEnd : Type 0

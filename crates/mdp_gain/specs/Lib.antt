@@ -6,3 +6,9 @@ pub mod Classes
 pub mod Code
 pub mod OnlyTerms
 pub mod Only
+pub mod Renumbering
+pub mod Alone
+pub mod PartQuery
+pub mod FoundMembers
+pub mod PartCode
+pub mod EndCode

@@ -1,20 +1,12 @@
 -- An end component of one state: each of its policies takes one choice there, with bias 0.
-use Rattle.std.specs.Prelude.{◌≡◌, ℕ, ◌+◌, ◌==◌, Bool, not, ◌||◌, true, List, [], ◌∷◌, map, Result, Ok, Err, if◌then◌else◌}
-use Rattle.std.specs.List.{list_all, range_with_len}
+use Rattle.std.specs.{Prelude.{◌≡◌, ℕ, ◌+◌, ◌==◌, Bool, not, ◌||◌, true, List, [], ◌∷◌, map, Result, Ok, Err, if◌then◌else◌}, List.{list_all, range_with_len}}
 use Rattle.mdp_math.specs.Rational.{ℚ}
 use Rattle.mdp_spec.specs.Mdp.{Entry}
-use Rattle.mdp_policy_iteration.specs.Iteration.{next, done, refused}
-use Rattle.mdp_policy_iteration.specs.Laws.{first}
-use Rattle.mdp_policy_iteration.specs.Ends.{capped}
-use Rattle.mdp_policy_iteration.specs.Errors.{PathError, RoundError}
+use Rattle.mdp_policy_iteration.specs.{Iteration.{next, done, refused}, Laws.{first}, Ends.{capped}, Errors.{PathError, RoundError}}
 use Rattle.mdp_wide.specs.declared.unfinished.Unfinished.TheVariants as error
-use Rattle.mdp_unichain.specs.Component.{Component, count, choice_at, is_state}
-use Rattle.mdp_unichain.specs.Written.{Values}
-use Rattle.mdp_unichain.specs.Iteration.{EndsWith}
+use Rattle.mdp_unichain.specs.{Component.{Component, count, choice_at, is_state}, Written.{Values}, Iteration.{EndsWith}}
 use Rattle.mdp_unichain.specs.Path as path
-use Rattle.mdp_gain.specs.OnlyTerms.{zeros}
-use Rattle.mdp_gain.specs.declared.only_round.Settled.{Settled}
-use Rattle.mdp_gain.specs.declared.only_round.Turn.{Turn}
+use Rattle.mdp_gain.specs.{OnlyTerms.{zeros}, declared.only_round.Settled.{Settled}, declared.only_round.Turn.{Turn}}
 use Rattle.mdp_gain.specs.declared.only_round.Turn.TheVariants as turn
 
 -- s is a state of the component, and there is no other

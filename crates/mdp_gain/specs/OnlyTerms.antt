@@ -1,8 +1,6 @@
 -- Written terms where each bias is 0.
-use Rattle.std.specs.Prelude.{ℕ, List, map, Option, pos}
-use Rattle.std.specs.List.{range_with_len}
-use Rattle.mdp_math.specs.Rational.{ℚ, of_int}
-use Rattle.mdp_math.specs.Written.{◌>>=◌}
+use Rattle.std.specs.{Prelude.{ℕ, List, map, Option, pos}, List.{range_with_len}}
+use Rattle.mdp_math.specs.{Rational.{ℚ, of_int}, Written.{◌>>=◌}}
 use Rattle.mdp_num.specs.Written.{written_div}
 use Rattle.mdp_spec.specs.Written.{written_sum}
 use Rattle.mdp_unichain.specs.Component.{Choice}

@@ -3,14 +3,10 @@ use Rattle.std.specs.Prelude.{◌≡◌, ℕ, List, map, Option, slice_index, Re
 use Rattle.mdp_math.specs.Rational.{ℚ}
 use Rattle.mdp_spec.specs.Mdp.{Mdp, value_at}
 use Rattle.mdp_rows.specs.declared.dir.Dir.{Dir}
-use Rattle.mdp_wide.specs.declared.too_wide.Part.TheVariants.{Inner}
-use Rattle.mdp_policy_iteration.specs.Path.{Refusal}
-use Rattle.mdp_policy_iteration.specs.Laws.{first}
-use Rattle.mdp_wide.specs.Term.{WideTerm}
-use Rattle.mdp_policy_iteration.specs.Queries.{term_of}
-use Rattle.mdp_unichain.specs.Iteration.{EndsWith}
+use Rattle.mdp_wide.specs.{declared.too_wide.Part.TheVariants.{Inner}, Term.{WideTerm}}
+use Rattle.mdp_policy_iteration.specs.{Path.{Refusal}, Laws.{first}, Queries.{term_of}}
+use Rattle.mdp_unichain.specs.{Iteration.{EndsWith}, Path.{Found, Makes, IsFirst}}
 pub use Rattle.mdp_unichain.specs.Part.{members, is_inner, inner_component}
-use Rattle.mdp_unichain.specs.Path.{Found, Makes, IsFirst}
 use Rattle.mdp_gain.specs.declared.inner.Inner as code
 
 -- what was found: the states, ascending, the gain, and for each of these states its bias and its choice

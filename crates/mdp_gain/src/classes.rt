@@ -1,15 +1,10 @@
-ghost use Rattle.std.specs.Prelude.{ℕ, ◌==◌, not, ◌≡◌, ◌<◌, ◌^◌, length, map, slice_index, IfOk};
-ghost use Rattle.std.specs.List.{All, list_any, find, range_with_len};
-ghost use Rattle.mdp_parts.specs.FoundEnds.{AreEndsOf};
+ghost use Rattle.std.specs.{Prelude.{ℕ, ◌==◌, not, ◌≡◌, ◌<◌, ◌^◌, length, map, slice_index, IfOk}, List.{All, list_any, find, range_with_len}};
+ghost use Rattle.mdp_parts.specs.{FoundEnds.{AreEndsOf}, Allowed.{AreChoices}};
 ghost use Rattle.mdp_spec.specs.Mdp.{states_of};
 ghost use Rattle.mdp_graph.specs.Sets.{marked};
-ghost use Rattle.mdp_parts.specs.Allowed.{AreChoices};
-ghost use Rattle.mdp_unichain.specs.Chain.{IsReference};
-ghost use Rattle.mdp_unichain.specs.Component.{count, is_state, row_by, IsPolicy};
-ghost use Rattle.mdp_unichain.specs.Path.{IsStart};
-ghost use Rattle.mdp_gain.specs.Code.{component_in};
-ghost use Rattle.mdp_gain.specs.Classes.{TakesAt, TakesAll};
+ghost use Rattle.mdp_unichain.specs.{Chain.{IsReference}, Component.{count, is_state, row_by, IsPolicy}, Path.{IsStart}};
 ghost use Rattle.mdp_unichain.specs.Classes.{takes, leaves, differs, has_flag, shares_part, AreClasses, is_in_class, is_in_changed_class, Picks};
+ghost use Rattle.mdp_gain.specs.{Code.{component_in}, Classes.{TakesAt, TakesAll}};
 
 use crate::chosen::Chosen;
 use crate::component::EndComponent;

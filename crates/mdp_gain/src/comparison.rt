@@ -1,11 +1,6 @@
 ghost use Rattle.std.specs.Prelude.{◌≡◌, ◌<◌, length, Some, None, IfOk, IfErr};
-ghost use Rattle.mdp_policy_iteration.specs.Candidates.{judged};
-ghost use Rattle.mdp_policy_iteration.specs.Path.{or_kept};
-ghost use Rattle.mdp_policy_iteration.specs.Code.{shown};
-ghost use Rattle.mdp_policy_iteration.specs.Faults.{Answers};
-ghost use Rattle.mdp_unichain.specs.Component.{count, choices_at, choice_at};
-ghost use Rattle.mdp_unichain.specs.Sums.{compared};
-ghost use Rattle.mdp_unichain.specs.Written.{improved_choice, improved_at, written_improved};
+ghost use Rattle.mdp_policy_iteration.specs.{Candidates.{judged}, Path.{or_kept}, Code.{shown}, Faults.{Answers}};
+ghost use Rattle.mdp_unichain.specs.{Component.{count, choices_at, choice_at}, Sums.{compared}, Written.{improved_choice, improved_at, written_improved}};
 ghost use Rattle.mdp_gain.specs.Code.{component_in, values_in, choice_over};
 
 use crate::chosen::Chosen;

@@ -1,14 +1,9 @@
-ghost use Rattle.std.specs.Prelude.{◌≡◌, ◌<◌, length, map, pos, IfOk};
-ghost use Rattle.std.specs.Result.{result_ok};
-ghost use Rattle.std.specs.List.{All};
+ghost use Rattle.std.specs.{Prelude.{◌≡◌, ◌<◌, length, map, pos, IfOk}, Result.{result_ok}, List.{All}};
 ghost use Rattle.mdp_parts.specs.FoundEnds.{AreEndsOf};
 ghost use Rattle.mdp_math.specs.Rational.{of_int, ◌+ℚ◌, ◌≤ℚ◌};
 ghost use Rattle.mdp_spec.specs.Mdp.{value_at};
 ghost use Rattle.mdp_wide.specs.declared.too_wide.Kind.TheVariants.{Evaluate};
-ghost use Rattle.mdp_unichain.specs.Chain.{AllLeadTo};
-ghost use Rattle.mdp_unichain.specs.Component.{count, is_state, row_by};
-ghost use Rattle.mdp_unichain.specs.Evaluation.{active, mean};
-ghost use Rattle.mdp_unichain.specs.Sums.{written_ratio, written_bias};
+ghost use Rattle.mdp_unichain.specs.{Chain.{AllLeadTo}, Component.{count, is_state, row_by}, Evaluation.{active, mean}, Sums.{written_ratio, written_bias}};
 ghost use Rattle.mdp_unichain.specs.Written.{active_of, rewards_of, ones_of, columns_of, written_columns, bias_of, written_bias_list, written_biases, written_values};
 ghost use Rattle.mdp_gain.specs.Code.{component_in, values_in};
 ghost use Rattle.mdp_policy_iteration.specs.Faults.{Answers};

@@ -1,8 +1,7 @@
 ghost use Rattle.std.specs.Prelude.{◌≡◌, ◌<◌, ◌^◌, length, slice_index, if◌then◌else◌, IfOk};
 ghost use Rattle.mdp_parts.specs.FoundEnds.{AreEndsOf};
 ghost use Rattle.mdp_graph.specs.Sets.{marked};
-ghost use Rattle.mdp_unichain.specs.Component.{count, IsPolicy};
-ghost use Rattle.mdp_unichain.specs.Next.{IsPicked, IsExactNext};
+ghost use Rattle.mdp_unichain.specs.{Component.{count, IsPolicy}, Next.{IsPicked, IsExactNext}};
 ghost use Rattle.mdp_gain.specs.Code.{component_in, joined};
 
 use crate::chosen::Chosen;

@@ -1,12 +1,9 @@
-ghost use Rattle.std.specs.Prelude.{◌≡◌, ◌<◌, ◌==◌, length, IfOk, pos, [], ◌∷◌};
-ghost use Rattle.std.specs.List.{list_all, range_with_len};
+ghost use Rattle.std.specs.{Prelude.{◌≡◌, ◌<◌, ◌==◌, length, IfOk, pos, [], ◌∷◌}, List.{list_all, range_with_len}};
 ghost use Rattle.mdp_parts.specs.FoundEnds.{AreEndsOf};
 ghost use Rattle.mdp_math.specs.Rational.{of_int};
 ghost use Rattle.mdp_policy_iteration.specs.Queries.{Solves};
 ghost use Rattle.mdp_unichain.specs.Component.{count, choices_at};
-ghost use Rattle.mdp_gain.specs.Code.{component_in};
-ghost use Rattle.mdp_gain.specs.Only.{stays};
-ghost use Rattle.mdp_gain.specs.Query.{plain, EndsSo};
+ghost use Rattle.mdp_gain.specs.{Code.{component_in}, Only.{stays}, Query.{plain, EndsSo}};
 
 use crate::classes::is_other;
 use crate::component::EndComponent;

@@ -1,7 +1,6 @@
 ghost use Rattle.mdp_parts.specs.FoundEnds.{AreEndsOf};
 ghost use Rattle.mdp_unichain.specs.Component.{IsInner};
-ghost use Rattle.mdp_gain.specs.Code.{component_in};
-ghost use Rattle.mdp_gain.specs.Only.{IsErrorOf, Ends};
+ghost use Rattle.mdp_gain.specs.{Code.{component_in}, Only.{IsErrorOf, Ends}};
 
 use crate::only_round::{Settled, Turn};
 use crate::only_state::Only;

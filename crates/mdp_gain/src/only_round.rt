@@ -1,13 +1,9 @@
-ghost use Rattle.std.specs.Prelude.{ℕ, ◌≡◌, ◌<◌, length};
-ghost use Rattle.std.specs.Result.{result_ok};
+ghost use Rattle.std.specs.{Prelude.{ℕ, ◌≡◌, ◌<◌, length}, Result.{result_ok}};
 ghost use Rattle.mdp_parts.specs.FoundEnds.{AreEndsOf};
 ghost use Rattle.mdp_wide.specs.declared.too_wide.Kind.TheVariants.{Evaluate};
-ghost use Rattle.mdp_unichain.specs.Component.{count, choices_at, choice_at, IsInner};
-ghost use Rattle.mdp_unichain.specs.Written.{written_values, written_improved};
+ghost use Rattle.mdp_unichain.specs.{Component.{count, choices_at, choice_at, IsInner}, Written.{written_values, written_improved}};
 ghost use Rattle.mdp_policy_iteration.specs.Faults.{placed_at, Answers};
-ghost use Rattle.mdp_gain.specs.Code.{component_in};
-ghost use Rattle.mdp_gain.specs.Only.{policy_of, values_of, Makes};
-ghost use Rattle.mdp_gain.specs.OnlyTerms.{ratio_of};
+ghost use Rattle.mdp_gain.specs.{Code.{component_in}, Only.{policy_of, values_of, Makes}, OnlyTerms.{ratio_of}};
 
 use crate::only_state::Only;
 use mdp_num::{Frac, Wide};

@@ -1,7 +1,5 @@
 ghost use Rattle.mdp_unichain.specs.Component.{count};
-ghost use Rattle.mdp_gain.specs.Code.{component_in};
-ghost use Rattle.mdp_gain.specs.Only.{IsOnly};
-ghost use Rattle.mdp_gain.specs.OnlyTerms.{zeros};
+ghost use Rattle.mdp_gain.specs.{Code.{component_in}, Only.{IsOnly}, OnlyTerms.{zeros}};
 
 use crate::component::EndComponent;
 use mdp_num::Frac;

@@ -1,7 +1,6 @@
 ghost use Rattle.std.specs.Prelude.{ℕ, ◌≡◌, ◌≢◌, true, false};
 ghost use Rattle.mdp_parts.specs.FoundEnds.{AreEndsOf};
-ghost use Rattle.mdp_unichain.specs.Chain.{IsReference};
-ghost use Rattle.mdp_unichain.specs.Component.{is_state, row_by};
+ghost use Rattle.mdp_unichain.specs.{Chain.{IsReference}, Component.{is_state, row_by}};
 ghost use Rattle.mdp_gain.specs.Code.{component_in, Makes, HasBiases};
 
 use crate::chosen::Chosen;

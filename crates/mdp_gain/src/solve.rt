@@ -1,15 +1,11 @@
-ghost use Rattle.std.specs.Prelude.{ℕ, ◌≡◌, ◌<◌, true, length, map, filter, List, slice_index, IfOk};
-ghost use Rattle.std.specs.List.{All, range_with_len};
+ghost use Rattle.std.specs.{Prelude.{ℕ, ◌≡◌, ◌<◌, true, length, map, filter, List, slice_index, IfOk}, List.{All, range_with_len}};
 ghost use Rattle.mdp_spec.specs.Mdp.{value_at};
 ghost use Rattle.mdp_ends.specs.Ends.{count_of, in_part};
 ghost use Rattle.mdp_parts.specs.FoundEnds.{AreEndsOf};
 ghost use Rattle.mdp_policy_iteration.specs.Queries.{Solves};
-ghost use Rattle.mdp_unichain.specs.Component.{count, is_state};
-ghost use Rattle.mdp_unichain.specs.Path.{IsFirst};
+ghost use Rattle.mdp_unichain.specs.{Component.{count, is_state}, Path.{IsFirst}};
 ghost use Rattle.mdp_gain.specs.Code as code;
-ghost use Rattle.mdp_gain.specs.Code.{component_in, values_in, HasEntries, FitsStates, AtStates, answer_at};
-ghost use Rattle.mdp_gain.specs.Query.{plain, EndsSo};
-ghost use Rattle.mdp_gain.specs.Best.{IsBestInner};
+ghost use Rattle.mdp_gain.specs.{Code.{component_in, values_in, HasEntries, FitsStates, AtStates, answer_at}, Query.{plain, EndsSo}, Best.{IsBestInner}};
 
 use crate::best_policy::Found;
 use crate::component::EndComponent;

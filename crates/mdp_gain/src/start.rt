@@ -1,8 +1,6 @@
-ghost use Rattle.std.specs.Prelude.{◌≡◌, ◌<◌, ◌==◌, length, map, IfOk};
-ghost use Rattle.std.specs.List.{find, range_with_len};
+ghost use Rattle.std.specs.{Prelude.{◌≡◌, ◌<◌, ◌==◌, length, map, IfOk}, List.{find, range_with_len}};
 ghost use Rattle.mdp_parts.specs.FoundEnds.{AreEndsOf};
-ghost use Rattle.mdp_unichain.specs.Component.{count, choices_at, choice_at, is_state};
-ghost use Rattle.mdp_unichain.specs.Path.{IsFirst};
+ghost use Rattle.mdp_unichain.specs.{Component.{count, choices_at, choice_at, is_state}, Path.{IsFirst}};
 ghost use Rattle.mdp_gain.specs.Code.{component_in};
 
 use crate::component::EndComponent;

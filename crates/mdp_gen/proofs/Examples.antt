@@ -1,15 +1,10 @@
 -- The layered model of number 7 with two layers of two states, worked out by hand: its draws, where they lead, its rows and its text.
-use Rattle.std.proofs.Common.{◌≡◌, ℕ, List, [], ◌∷◌, ◌++◌, codes, decimal, lit<, pos, refl, ap, ◌∙◌, arith}
-use Rattle.std.specs.List.{range_with_len}
-use Rattle.std.specs.Prelude.{map}
-use Rattle.std.proofs.lemmas.Fmt.{decimal_digit, decimal_step}
-use Rattle.mdp_math.specs.Gcd.{gcd, gcd_with_fuel}
-use Rattle.mdp_math.specs.Rational.{ℚ, of_int, ratio}
+use Rattle.std.proofs.{Common.{◌≡◌, ℕ, List, [], ◌∷◌, ◌++◌, codes, decimal, lit<, pos, refl, ap, ◌∙◌, arith}, lemmas.Fmt.{decimal_digit, decimal_step}}
+use Rattle.std.specs.{List.{range_with_len}, Prelude.{map}}
+use Rattle.mdp_math.specs.{Gcd.{gcd, gcd_with_fuel}, Rational.{ℚ, of_int, ratio}}
 use Rattle.mdp_num.specs.Value.{spelling}
 use Rattle.mdp_spec.specs.Mdp.{Entry, Choice, State, Mdp}
-use Rattle.mdp_gen.specs.Draws.{draw}
-use Rattle.mdp_gen.specs.Layered.{target, row_to, layered_model}
-use Rattle.mdp_gen.specs.Text.{generated_text}
+use Rattle.mdp_gen.specs.{Draws.{draw}, Layered.{target, row_to, layered_model}, Text.{generated_text}}
 
 drawn : map (draw 7) (range_with_len 1 16)
     ≡ 599 ∷ 44999 ∷ 32612 ∷ 21105 ∷ 10061 ∷ 33742 ∷ 40318 ∷ 9222 ∷ 36354 ∷ 39607 ∷ 21434 ∷ 34736 ∷ 49331 ∷ 29827 ∷ 8841 ∷ 7779 ∷ []

@@ -1,18 +1,13 @@
 -- A layered model keeps what each model keeps.
 use Rattle.std.proofs.Common.{◌≡◌, ℕ, zero, suc, ◌+◌, ◌*◌, ◌≤◌, ◌<◌, Bool, true, false, ◌&&◌, cond, eqb}
 use Rattle.std.proofs.Common.{List, [], ◌∷◌, ◌++◌, length, map, codes, refl, sym, ap, subst, ◌∙◌, arith, sum_by, length-append}
-use Rattle.std.proofs.lemmas.Bool.Decides.{nat_tests}
-use Rattle.std.specs.List.{All, AllByRecursion, range_with_len}
-use Rattle.std.proofs.lemmas.List.Elements.{All-from_recursion, All-get_or}
-use Rattle.std.proofs.lemmas.List.FromFn.{length-map-range_with_len}
+use Rattle.std.proofs.{lemmas.Bool.Decides.{nat_tests}, lemmas.List.Elements.{All-from_recursion, All-get_or}, lemmas.List.FromFn.{length-map-range_with_len}}
 use Rattle.std.proofs.lemmas.List.Sums.{sum_by-cons}
-use Rattle.mdp_spec.specs.Mdp.{Choice, State, no_state, no_choice, states_of}
-use Rattle.mdp_spec.specs.Row.{IsMdp}
-use Rattle.mdp_rows.specs.Name.{IsName, IsRewardName, AreRewardNames}
-use Rattle.mdp_rows.specs.Limits.{known_after, all_below, in_order_of_sight, IsModel}
+use Rattle.std.specs.List.{All, AllByRecursion, range_with_len}
+use Rattle.mdp_spec.specs.{Mdp.{Choice, State, no_state, no_choice, states_of}, Row.{IsMdp}}
+use Rattle.mdp_rows.specs.{Name.{IsName, IsRewardName, AreRewardNames}, Limits.{known_after, all_below, in_order_of_sight, IsModel}}
 use Rattle.mdp_rows.specs.Sound.{IsClosedState, choice_count, entry_count}
-use Rattle.mdp_gen.specs.Draws.{draw}
-use Rattle.mdp_gen.specs.Layered.{IsShape, goal, failing, state_behind, layer_states, last_states, layered_model}
+use Rattle.mdp_gen.specs.{Draws.{draw}, Layered.{IsShape, goal, failing, state_behind, layer_states, last_states, layered_model}}
 use Rattle.mdp_gen.proofs.Rows.{state-closed, loop-closed, no-labels, goal-labels, state-entries, loop-entries}
 
 module _ (number layers width : ℕ) where

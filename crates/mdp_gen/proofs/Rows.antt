@@ -1,22 +1,15 @@
 -- The rows, choices and states of a layered model.
 use Rattle.std.proofs.Common.{IsTrue, if◌then◌else◌, ◌≡◌, ℕ, ◌+◌, ◌*◌, ◌/◌, ◌%◌, ◌≤◌, ◌<◌, ◌≢◌, min, max, Bool, true}
-use Rattle.std.proofs.Common.{false, ◌&&◌, cond, eqb, ltb, le-leb, List, [], ◌∷◌, length, pos, refl, ap, ap₂, arith, sum_by}
-use Rattle.std.proofs.lemmas.Bool.Decides.{nat_tests}
+use Rattle.std.proofs.{Common.{false, ◌&&◌, cond, eqb, ltb, le-leb, List, [], ◌∷◌, length, pos, refl, ap, ap₂, arith, sum_by}, lemmas.Bool.Decides.{nat_tests}}
 use Rattle.std.proofs.lemmas.List.Elements.{All-from_recursion}
 use borrow.Author.Tests.{leb-true}
-use Rattle.mdp_math.specs.Gcd.{gcd, gcd_with_fuel}
-use Rattle.mdp_math.specs.Rational.{of_int, ratio, lt_ℚ, ◌<ℚ◌, ◌+ℚ◌}
-use Rattle.mdp_math.specs.Sum.{sum_of}
+use Rattle.mdp_math.specs.{Gcd.{gcd, gcd_with_fuel}, Rational.{of_int, ratio, lt_ℚ, ◌<ℚ◌, ◌+ℚ◌}, Sum.{sum_of}}
 use Rattle.mdp_num.specs.Numeral.{limit}
-use Rattle.mdp_spec.specs.Mdp.{Entry, State}
-use Rattle.mdp_spec.specs.Row.{IsRow}
-use Rattle.mdp_spec.specs.Unit.{row_den}
-use Rattle.mdp_rows.specs.Limits.{places_ascend, HasSmallTerms, IsChoiceWithin}
-use Rattle.mdp_rows.specs.Sound.{IsClosedState}
+use Rattle.mdp_spec.specs.{Mdp.{Entry, State}, Row.{IsRow}, Unit.{row_den}}
+use Rattle.mdp_rows.specs.{Limits.{places_ascend, HasSmallTerms, IsChoiceWithin}, Sound.{IsClosedState}}
 use Rattle.mdp_rows.proofs.SoundCalls.Rewards.{small_by}
 use Rattle.std.specs.Prelude.{◌==◌}
-use Rattle.mdp_gen.specs.Draws.{next}
-use Rattle.mdp_gen.specs.Layered.{IsShape, target, goal, failing, one, half, row_to, choice_to, state_behind, loop_state}
+use Rattle.mdp_gen.specs.{Draws.{next}, Layered.{IsShape, target, goal, failing, one, half, row_to, choice_to, state_behind, loop_state}}
 
 -- ---- where draws lead
 

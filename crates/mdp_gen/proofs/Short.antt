@@ -1,16 +1,12 @@
 -- The text of a layered model has at most 2^30 bytes.
 use Rattle.std.proofs.Common.{◌≡◌, ℕ, zero, suc, ◌+◌, ◌*◌, ◌<◌, ◌≤◌, ◌^◌, min, max, Bool, true, false, cond}
-use Rattle.std.proofs.Common.{eqb, List, [], ◌∷◌, ◌++◌, length, map, codes, decimal, refl, ap, ◌∙◌, sym, subst, arith, lit<}
-use Rattle.std.specs.List.{range_with_len}
-use Rattle.std.proofs.lemmas.Fmt.{length-decimal-le}
+use Rattle.std.proofs.{Common.{eqb, List, [], ◌∷◌, ◌++◌, length, map, codes, decimal, refl, ap, ◌∙◌, sym, subst, arith, lit<}, lemmas.Fmt.{length-decimal-le}}
 use Rattle.std.proofs.lemmas.List.{length-append}
+use Rattle.std.specs.List.{range_with_len}
 use Rattle.mdp_drn.specs.Writing.{states_text}
-use Rattle.mdp_gen.specs.Draws.{next, draw}
-use Rattle.mdp_gen.specs.Layered.{IsShape, target, state_behind, of_states, layer_states}
-use Rattle.mdp_gen.specs.Text.{generated_text}
+use Rattle.mdp_gen.specs.{Draws.{next, draw}, Layered.{IsShape, target, state_behind, of_states, layer_states}, Text.{generated_text}}
 use Rattle.mdp_gen.specs.Pieces.{header_text, entry_text, row_text, choice_line_text, choice_text, state_line_text, initial_text, drawn_text, state_text, loop_text}
-use Rattle.mdp_gen.proofs.Rows.{target-below}
-use Rattle.mdp_gen.proofs.Written.{states-one, text-parts}
+use Rattle.mdp_gen.proofs.{Rows.{target-below}, Written.{states-one, text-parts}}
 
 number-short : (n : ℕ) → n < 2 ^ 32 → length (decimal n) ≤ 10
 number-short n h = let p : 2 ^ 32 < 10 ^ 10 = lit< tt in let q : 2 ^ 32 < 2 ^ 64 = lit< tt in length-decimal-le 10 n (omega arith) (omega (arith, p, h)) (omega (arith, q, h))

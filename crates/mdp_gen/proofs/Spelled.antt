@@ -1,8 +1,6 @@
 -- The spellings of the numbers in a layered model.
-use Rattle.std.proofs.Common.{◌≡◌, codes, lit<, pos, refl}
-use Rattle.std.proofs.lemmas.Fmt.{decimal_digit}
-use Rattle.mdp_math.specs.Gcd.{gcd, gcd_with_fuel}
-use Rattle.mdp_math.specs.Rational.{of_int, ratio}
+use Rattle.std.proofs.{Common.{◌≡◌, codes, lit<, pos, refl}, lemmas.Fmt.{decimal_digit}}
+use Rattle.mdp_math.specs.{Gcd.{gcd, gcd_with_fuel}, Rational.{of_int, ratio}}
 use Rattle.mdp_num.specs.Value.{spelling}
 use Rattle.mdp_gen.specs.Layered.{one, half}
 

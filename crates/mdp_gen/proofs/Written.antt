@@ -1,19 +1,16 @@
 -- The text of a layered model, by the pieces that are appended.
 use Rattle.std.proofs.Common.{◌≡◌, ℕ, suc, ◌+◌, ◌*◌, ◌<◌, min, max, Bool, true, false, cond, eqb, List, []}
 use Rattle.std.proofs.Common.{◌∷◌, ◌++◌, length, drop, codes, decimal, pos, refl, sym, ap, ap₂, ◌∙◌, append_assoc, append-nil, arith, sum_by}
-use Rattle.std.proofs.lemmas.List.{drop_more}
-use Rattle.std.proofs.lemmas.List.FromFn.{length-map-range_with_len, get_or-map-range_with_len}
+use Rattle.std.proofs.{lemmas.List.{drop_more}, lemmas.List.FromFn.{length-map-range_with_len, get_or-map-range_with_len}}
 use Rattle.mdp_math.specs.Rational.{of_int}
 use Rattle.mdp_num.specs.Value.{spelling}
 use Rattle.mdp_spec.specs.Mdp.{Entry, Choice, State, no_state}
 use Rattle.mdp_drn.specs.Writing.{line, bracket_text, labels_text, choices_text, states_text}
 use Rattle.mdp_drn.specs.Writing as drn
-use Rattle.mdp_gen.specs.Draws.{next, draw}
-use Rattle.mdp_gen.specs.Layered.{target, one, half, row_to, choice_to, state_behind, loop_state, of_states, layer_states, last_states}
+use Rattle.mdp_gen.specs.{Draws.{next, draw}, Layered.{target, one, half, row_to, choice_to, state_behind, loop_state, of_states, layer_states, last_states}}
 use Rattle.mdp_gen.specs.Text.{generated_text}
 use Rattle.mdp_gen.specs.Pieces.{header_text, entry_text, row_text, choice_line_text, choice_text, state_line_text, initial_text, state_text, loop_text}
-use Rattle.mdp_gen.proofs.Spelled.{one-spelled, half-spelled, zero-spelled}
-use Rattle.mdp_gen.proofs.Modelled.{length-layered, layered-choices}
+use Rattle.mdp_gen.proofs.{Spelled.{one-spelled, half-spelled, zero-spelled}, Modelled.{length-layered, layered-choices}}
 
 -- ---- rows and choices
 

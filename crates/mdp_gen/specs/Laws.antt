@@ -1,12 +1,9 @@
 -- What the text of a layered model is.
 use Rattle.std.specs.Prelude.{◌≡◌, ℕ, ◌+◌, ◌*◌, ◌^◌, ◌≤◌, length, sum_by}
-use Rattle.mdp_spec.specs.Mdp.{states_of}
-use Rattle.mdp_spec.specs.Row.{IsMdp}
-use Rattle.mdp_rows.specs.Limits.{IsModel}
-use Rattle.mdp_rows.specs.declared.rule.RowRule.TheVariants.{Exact}
+use Rattle.mdp_spec.specs.{Mdp.{states_of}, Row.{IsMdp}}
+use Rattle.mdp_rows.specs.{Limits.{IsModel}, declared.rule.RowRule.TheVariants.{Exact}}
 use Rattle.mdp_drn.specs.Reading.{Reads}
-use Rattle.mdp_gen.specs.Layered.{IsShape, layered_model}
-use Rattle.mdp_gen.specs.Text.{generated_text}
+use Rattle.mdp_gen.specs.{Layered.{IsShape, layered_model}, Text.{generated_text}}
 
 -- it reads as the layered model
 abbrev pub TextReads : Type 0

@@ -1,9 +1,7 @@
 -- The pieces of the text, each of which one function appends.
 use Rattle.std.specs.Prelude.{ℕ, min, max, List, [], ◌∷◌, ◌++◌, decimal, codes, ◌==◌, if◌then◌else◌}
-use Rattle.mdp_drn.specs.Writing.{line}
-use Rattle.mdp_drn.specs.Pieces.{count_text}
-use Rattle.mdp_gen.specs.Draws.{next}
-use Rattle.mdp_gen.specs.Layered.{target}
+use Rattle.mdp_drn.specs.{Writing.{line}, Pieces.{count_text}}
+use Rattle.mdp_gen.specs.{Draws.{next}, Layered.{target}}
 
 -- so many states and choices, and the end of the header
 abbrev pub counts_text : ℕ → ℕ → List ℕ

@@ -1,8 +1,6 @@
 ghost use Rattle.std.specs.Prelude.{◌≡◌, ◌++◌, ◌+◌, ◌-◌, ◌*◌, ◌^◌, ◌≤◌, ◌<◌, [], ◌∷◌, length, take, codes, OnOk, OnErr};
 ghost use Rattle.mdp_drn.specs.Writing.{states_text};
-ghost use Rattle.mdp_gen.specs.Layered.{IsShape, of_states, layer_states};
-ghost use Rattle.mdp_gen.specs.Text.{generated_text};
-ghost use Rattle.mdp_gen.specs.Pieces.{loop_text};
+ghost use Rattle.mdp_gen.specs.{Layered.{IsShape, of_states, layer_states}, Text.{generated_text}, Pieces.{loop_text}};
 
 use crate::draws::start_of;
 use crate::push::{push_header, push_state_line};

@@ -1,10 +1,8 @@
 -- Which states a list holds.
 use Rattle.std.proofs.Common.{◌≡◌, ◌≢◌, ◌⊎◌, inl, inr, ℕ, suc, zero, Bool, ◌&&◌, ◌+◌, ◌<◌, true, false, ◌||◌, ◌==◌, List, [], ◌∷◌, ◌++◌, length, take, get_or, refl, sym, ap}
-use Rattle.std.proofs.Common.{◌∙◌, arith, Option, Some, None, eq-eqb}
+use Rattle.std.proofs.{Common.{◌∙◌, arith, Option, Some, None, eq-eqb}, lemmas.Bool.{eqb-true, false≢true, cases_Bool, cases_eq, ne_eqb}}
+use Rattle.std.proofs.{lemmas.List.{take_more}, lemmas.List.Folds.{list_any-append}}
 use Rattle.std.specs.List.{All}
-use Rattle.std.proofs.lemmas.Bool.{eqb-true, false≢true, cases_Bool, cases_eq, ne_eqb}
-use Rattle.std.proofs.lemmas.List.{take_more}
-use Rattle.std.proofs.lemmas.List.Folds.{list_any-append}
 use Rattle.mdp_rows.specs.Preds.{is_among}
 use Rattle.mdp_math.proofs.Booleans.{and-both, and-false, or-false, or-true}
 

@@ -1,26 +1,15 @@
 -- The states without a rank are the greatest avoiding set.
 use Rattle.std.proofs.Common.{◌≡◌, inl, inr, ℕ, suc, zero, ◌+◌, ◌<◌, ◌≤◌, Bool, true, false, ◌||◌, ◌&&◌, List, [], ◌∷◌, length, map, get_or, refl, sym, ap, ◌∙◌, arith}
-use Rattle.std.proofs.Common.{Option, Some, None, is_some, is_none}
+use Rattle.std.proofs.{Common.{Option, Some, None, is_some, is_none}, lemmas.Bool.{false≢true, cases_Bool}, lemmas.List.{get_or-map, length-map}}
 use Rattle.std.specs.List.{list_all}
-use Rattle.std.proofs.lemmas.Bool.{false≢true, cases_Bool}
-use Rattle.std.proofs.lemmas.List.{get_or-map, length-map}
 use Rattle.mdp_math.specs.Rational.{ℚ}
-use Rattle.mdp_spec.specs.Mdp.{Entry, Mdp, Choice, no_choice, states_of, choices_at, row_at}
-use Rattle.mdp_spec.specs.Row.{entries, IsMdp}
-use Rattle.mdp_graph.specs.Sets.{marked, can_enter, stays_in}
-use Rattle.mdp_graph.specs.Layers.{reached, rank_at, at_most, AreRanks}
-use Rattle.mdp_graph.specs.Choices.{first_passing, AreLeast}
-use Rattle.mdp_graph.specs.Meet.{must_step}
-use Rattle.mdp_graph.specs.Avoid.{IsAvoiding, IsGreatestAvoiding, keeps}
-use Rattle.mdp_graph.proofs.Among.{cases_rank}
-use Rattle.mdp_graph.proofs.EdgeFacts.{all-as-stays}
-use Rattle.mdp_graph.proofs.Falls.{IsFirst, case-any, firsts, firsts_count}
-use Rattle.mdp_graph.proofs.RankFacts.{some-same}
-use Rattle.mdp_graph.proofs.Reached.{at_most-some}
-use Rattle.mdp_graph.specs.NextLayer.{is_ranked}
-use Rattle.mdp_graph.proofs.Meeting.{none_is, must_respects, some_at_most}
-use Rattle.mdp_math.proofs.Booleans.{and-both, or-right_false}
+use Rattle.mdp_spec.specs.{Mdp.{Entry, Mdp, Choice, no_choice, states_of, choices_at, row_at}, Row.{entries, IsMdp}}
+use Rattle.mdp_graph.specs.{Sets.{marked, can_enter, stays_in}, Layers.{reached, rank_at, at_most, AreRanks}, Choices.{first_passing, AreLeast}}
+use Rattle.mdp_graph.specs.{Meet.{must_step}, Avoid.{IsAvoiding, IsGreatestAvoiding, keeps}, NextLayer.{is_ranked}}
+use Rattle.mdp_graph.proofs.{Among.{cases_rank}, EdgeFacts.{all-as-stays}, Falls.{IsFirst, case-any, firsts, firsts_count}, RankFacts.{some-same}}
+use Rattle.mdp_graph.proofs.{Reached.{at_most-some}, Meeting.{none_is, must_respects, some_at_most}}
 use Rattle.mdp_graph.proofs.RowSets.{list_any-at, list_any-by, list_all-at, list_all-fails, enters-at, stays-at, stays-outside}
+use Rattle.mdp_math.proofs.Booleans.{and-both, or-right_false}
 
 -- the choice as the code tests it
 pub keeps_is : (m : Mdp) (marks : List Bool) (s c : ℕ) (ts : List ℕ) (ps : List ℚ) → length ts ≡ length ps → entries ts ps ≡ row_at m s c

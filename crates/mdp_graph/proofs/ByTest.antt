@@ -1,20 +1,13 @@
 -- Ranks of a given model, tested by computation.
 use Rattle.std.proofs.Common.{◌≡◌, inl, inr, ℕ, suc, zero, ◌+◌, ◌<◌, ◌≤◌, Bool, true, false, not, ◌||◌, ◌&&◌, nat_le, cond, List, [], ◌∷◌, length, get_or, refl, sym, ap}
-use Rattle.std.proofs.Common.{◌∙◌, arith, Option, Some, is_some, is_none}
+use Rattle.std.proofs.{Common.{◌∙◌, arith, Option, Some, is_some, is_none}, lemmas.Bool.{false≢true, cases_eq}}
 use Rattle.std.specs.List.{list_any}
-use Rattle.std.proofs.lemmas.Bool.{false≢true, cases_eq}
 use borrow.Author.Tests.{leb-true}
-use Rattle.mdp_spec.specs.Mdp.{Choice, Mdp, no_choice, states_of, choices_at, row_at}
-use Rattle.mdp_spec.specs.Row.{IsMdp}
-use Rattle.mdp_graph.specs.Sets.{marked, can_enter, stays_in}
-use Rattle.mdp_graph.specs.Reach.{may_step}
-use Rattle.mdp_graph.specs.Sure.{inside_step}
-use Rattle.mdp_graph.specs.Layers.{reached, rank_at, at_most, AreRanks}
-use Rattle.mdp_graph.specs.Ranking.{unranked}
-use Rattle.mdp_graph.specs.NextLayer.{is_ranked}
-use Rattle.mdp_graph.proofs.Meeting.{Respects, IsMeeting, met_all}
+use Rattle.mdp_spec.specs.{Mdp.{Choice, Mdp, no_choice, states_of, choices_at, row_at}, Row.{IsMdp}}
+use Rattle.mdp_graph.specs.{Sets.{marked, can_enter, stays_in}, Reach.{may_step}, Sure.{inside_step}, Layers.{reached, rank_at, at_most, AreRanks}}
+use Rattle.mdp_graph.specs.{Ranking.{unranked}, NextLayer.{is_ranked}}
+use Rattle.mdp_graph.proofs.{Meeting.{Respects, IsMeeting, met_all}, RowSets.{enters-same}}
 use Rattle.mdp_math.proofs.Booleans.{and-left, and-right}
-use Rattle.mdp_graph.proofs.RowSets.{enters-same}
 
 unfoldable pub agree : Bool → Bool → Bool
 agree a b = cond a b (not b)

@@ -1,32 +1,16 @@
 -- Sets that are kept, and in which ranks fall, arrive at a goal with probability 1.
 use Rattle.std.proofs.Common.{◌≡◌, inl, inr, ℕ, ◌<◌, ◌≤◌, Bool, true, false, cond, not, ◌&&◌, nat_lt, lt-ltb}
-use Rattle.std.proofs.Common.{ltb-true, List, [], ◌∷◌, length, get_or, refl, sym, ap, ◌∙◌, subst, arith, pos}
-use Rattle.std.proofs.lemmas.Bool.{false≢true, cases_Bool}
+use Rattle.std.proofs.{Common.{ltb-true, List, [], ◌∷◌, length, get_or, refl, sym, ap, ◌∙◌, subst, arith, pos}, lemmas.Bool.{false≢true, cases_Bool}}
 use Rattle.std.proofs.lemmas.List.Folds.{Any-from_list_any}
 use Rattle.mdp_math.specs.Rational.{ℚ, ◌+ℚ◌, ◌*ℚ◌, ◌≤ℚ◌}
-use Rattle.mdp_math.proofs.Kernel.{weigh-le_mass}
-use Rattle.mdp_math.proofs.Order.{0ℚ, 1ℚ, ≤ℚ_of_eq, ≤ℚ_trans, ≤ℚ_antisymm}
-use Rattle.mdp_math.proofs.Ring.{◌⊕◌, ◌⊗◌, lit, ring}
-use Rattle.mdp_math.proofs.Laws.{rat_ring}
-use Rattle.mdp_math.proofs.Whole.{of_nat-nonneg}
-use Rattle.mdp_spec.specs.Bounds.{part}
-use Rattle.mdp_spec.specs.Hit.{hit}
-use Rattle.mdp_spec.specs.Mdp.{Entry, Choice, Mdp, no_choice, states_of, choices_at, row_at}
-use Rattle.mdp_spec.specs.Row.{IsMdp}
-use Rattle.mdp_spec.specs.Tree.{Tree, unfolded}
-use Rattle.mdp_spec.proofs.Above.{row_weigh, hit-le_by, hit-nonneg}
-use Rattle.mdp_spec.proofs.Arrives.{arrives_by_ranks}
-use Rattle.mdp_spec.proofs.Keeping.{HasChoice, Follows, Keeps, keeps_of_Fits, keeps_unfolded}
-use Rattle.mdp_spec.proofs.Rows.{probs_nonneg}
-use Rattle.mdp_graph.specs.Sets.{marked, can_enter, stays_in}
-use Rattle.mdp_graph.specs.Layers.{reached}
-use Rattle.mdp_graph.specs.Reach.{falls}
-use Rattle.mdp_graph.specs.Meet.{must_step}
+use Rattle.mdp_math.proofs.{Kernel.{weigh-le_mass}, Order.{0ℚ, 1ℚ, ≤ℚ_of_eq, ≤ℚ_trans, ≤ℚ_antisymm}, Ring.{◌⊕◌, ◌⊗◌, lit, ring}, Laws.{rat_ring}}
+use Rattle.mdp_math.proofs.{Whole.{of_nat-nonneg}, Booleans.{and-left, and-right}}
+use Rattle.mdp_spec.specs.{Bounds.{part}, Hit.{hit}, Mdp.{Entry, Choice, Mdp, no_choice, states_of, choices_at, row_at}, Row.{IsMdp}, Tree.{Tree, unfolded}}
+use Rattle.mdp_spec.proofs.{Above.{row_weigh, hit-le_by, hit-nonneg}, Arrives.{arrives_by_ranks}}
+use Rattle.mdp_spec.proofs.{Keeping.{HasChoice, Follows, Keeps, keeps_of_Fits, keeps_unfolded}, Rows.{probs_nonneg}}
+use Rattle.mdp_graph.specs.{Sets.{marked, can_enter, stays_in}, Layers.{reached}, Reach.{falls}, Meet.{must_step}}
 use Rattle.mdp_graph.specs.Laws.{ChoicesArrive, ChoicesMiss, TreesArrive}
-use Rattle.mdp_graph.proofs.PassLaws.{stays_sure}
-use Rattle.mdp_graph.proofs.PolicyLaws.{least_step}
-use Rattle.mdp_math.proofs.Booleans.{and-left, and-right}
-use Rattle.mdp_graph.proofs.RowSets.{list_all-at, enters-at, enters-by}
+use Rattle.mdp_graph.proofs.{PassLaws.{stays_sure}, PolicyLaws.{least_step}, RowSets.{list_all-at, enters-at, enters-by}}
 
 -- where choices that meet a rule keep to the marked states, and lead to a smaller rank, deep trees meet a goal with nearly all their paths
 module _ (m : Mdp) (goals marks : List Bool) (ok : IsMdp m) (P : ℕ → ℕ → Type 0) (rank : ℕ → ℕ)

@@ -1,12 +1,8 @@
 -- Lists that a loop makes element by element, and the first number that a loop finds.
 use Rattle.std.proofs.Common.{◌≡◌, ℕ, zero, suc, ◌+◌, ◌<◌, ◌≤◌, Bool, true, false, ◌||◌, List, [], ◌∷◌, ◌++◌, length, map, filter, take, get_or}
-use Rattle.std.proofs.Common.{inl, inr, refl, sym, ap, ◌∙◌, arith, Some, None}
-use Rattle.std.specs.List.{range_with_len, find, list_any}
-use Rattle.std.proofs.lemmas.List.{take_more, map-append, append-nil}
-use Rattle.std.proofs.lemmas.List.Elements.{filter-append}
-use Rattle.std.proofs.lemmas.List.Folds.{list_any-append}
-use Rattle.std.specs.Option.{unwrap_or}
-use Rattle.std.proofs.lemmas.Bool.{cases_eq}
+use Rattle.std.proofs.{Common.{inl, inr, refl, sym, ap, ◌∙◌, arith, Some, None}, lemmas.List.{take_more, map-append, append-nil}}
+use Rattle.std.proofs.{lemmas.List.Elements.{filter-append}, lemmas.List.Folds.{list_any-append}, lemmas.Bool.{cases_eq}}
+use Rattle.std.specs.{List.{range_with_len, find, list_any}, Option.{unwrap_or}}
 use Rattle.mdp_math.proofs.Lists.{map_more, range_more}
 use Rattle.mdp_graph.specs.Choices.{first_below}
 

@@ -1,19 +1,12 @@
 -- Ways that are cut, one list of choices after the other.
 use Rattle.std.proofs.Common.{◌≡◌, inl, inr, ℕ, zero, suc, ◌+◌, ◌<◌, Bool, true, false, ◌||◌, ◌&&◌, ◌==◌, cond, List}
 use Rattle.std.proofs.Common.{[], ◌∷◌, ◌++◌, length, get_or, set, refl, sym, ap, ◌∙◌, arith, eq-eqb, Option, Some, None, is_some}
+use Rattle.std.proofs.{lemmas.Bool.{ne_eqb, false≢true, cases_eq, cases_Bool}, lemmas.List.{length-set, get_or-set_other, length-append}}
+use Rattle.std.proofs.{lemmas.List.Sums.{sum_by-set}, lemmas.Grind.{get_or-set_at}}
 use Rattle.std.specs.List.{All}
-use Rattle.std.proofs.lemmas.Bool.{ne_eqb, false≢true, cases_eq, cases_Bool}
-use Rattle.std.proofs.lemmas.List.{length-set, get_or-set_other, length-append}
-use Rattle.std.proofs.lemmas.List.Sums.{sum_by-set}
-use Rattle.std.proofs.lemmas.Grind.{get_or-set_at}
-use Rattle.mdp_rows.specs.Preds.{is_among, pair}
-use Rattle.mdp_rows.specs.declared.preds.Pred.{Pred}
-use Rattle.mdp_graph.specs.declared.forest.Way.{Way}
-use Rattle.mdp_graph.specs.Waiting.{is_one_of, leading_to}
-use Rattle.mdp_graph.specs.Forest.{way_at, with_way, goes, uses, is_cut, IsCut, AreFrom}
-use Rattle.mdp_graph.proofs.Among.{among-append}
-use Rattle.mdp_graph.proofs.Releasing.{one-of-append}
-use Rattle.mdp_graph.proofs.RowSets.{list_any-by}
+use Rattle.mdp_rows.specs.{Preds.{is_among, pair}, declared.preds.Pred.{Pred}}
+use Rattle.mdp_graph.specs.{declared.forest.Way.{Way}, Waiting.{is_one_of, leading_to}, Forest.{way_at, with_way, goes, uses, is_cut, IsCut, AreFrom}}
+use Rattle.mdp_graph.proofs.{Among.{among-append}, Releasing.{one-of-append}, RowSets.{list_any-by}}
 use Rattle.mdp_math.proofs.Booleans.{or-true, or-false, and-false, and-both}
 
 none-cut : (only : Option ℕ) (s : ℕ) (o : Option Way) → is_cut [] only s o ≡ false

@@ -1,18 +1,10 @@
 -- The states that reach none of the avoiding states without passing a goal.
 use Rattle.std.proofs.Common.{◌≡◌, inl, inr, ℕ, ◌+◌, ◌<◌, ◌≤◌, Bool, true, false, cond, List, length, map, get_or, set, refl, sym, ap, ◌∙◌, arith, Option, Some, None, is_some, is_none}
-use Rattle.std.proofs.lemmas.Bool.{false≢true, cases_Bool, cases_eq}
-use Rattle.std.proofs.lemmas.List.{length-map, length-set, get_or-set_other}
-use Rattle.std.proofs.lemmas.Grind.{get_or-set_at}
+use Rattle.std.proofs.{lemmas.Bool.{false≢true, cases_Bool, cases_eq}, lemmas.List.{length-map, length-set, get_or-set_other}, lemmas.Grind.{get_or-set_at}}
 use Rattle.mdp_spec.specs.Mdp.{Mdp, states_of}
-use Rattle.mdp_graph.specs.Sets.{marked}
-use Rattle.mdp_graph.specs.Layers.{reached, rank_at, AreRanks, AreReached, AreLeastRanks}
-use Rattle.mdp_graph.specs.Choices.{plain_rank}
-use Rattle.mdp_graph.specs.Reach.{may_step}
-use Rattle.mdp_graph.specs.Meet.{must_step}
-use Rattle.mdp_graph.specs.SureAll.{AreSure}
-use Rattle.mdp_graph.proofs.Reached.{rank_of, at_most-some}
-use Rattle.mdp_graph.proofs.Passes.{mark-is, plain-is, has_rank, no_rank}
-use Rattle.mdp_graph.proofs.Avoiding.{without-is}
+use Rattle.mdp_graph.specs.{Sets.{marked}, Layers.{reached, rank_at, AreRanks, AreReached, AreLeastRanks}, Choices.{plain_rank}, Reach.{may_step}}
+use Rattle.mdp_graph.specs.{Meet.{must_step}, SureAll.{AreSure}}
+use Rattle.mdp_graph.proofs.{Reached.{rank_of, at_most-some}, Passes.{mark-is, plain-is, has_rank, no_rank}, Avoiding.{without-is}}
 
 -- the ranks of the marked states below i were taken away
 pub record AreDropped (old : List (Option ℕ)) (marks : List Bool) (i : ℕ) (new : List (Option ℕ)) : Type 0 where

@@ -1,29 +1,14 @@
 -- Worked models: what the passes find on them.
 use Rattle.std.proofs.Common.{◌≡◌, ◌⊎◌, inl, inr, ℕ, zero, suc, ◌+◌, ◌<◌, ◌≤◌, ◌↔◌, Bool, true, false, List, [], ◌∷◌, length, get_or, map, refl, sym, ◌∙◌, arith, pos}
-use Rattle.std.proofs.Common.{Option, Some, None, is_some, cond}
-use Rattle.std.proofs.lemmas.Bool.{false≢true, cases_Bool}
-use Rattle.std.proofs.lemmas.List.Elements.{All-from_recursion}
-use Rattle.mdp_math.specs.Gcd.{gcd, gcd_with_fuel}
-use Rattle.mdp_math.specs.Rational.{of_int, ratio, ◌+ℚ◌, ◌<ℚ◌, lt_ℚ}
-use Rattle.mdp_spec.specs.Mdp.{Entry, State, Mdp, states_of, choices_at}
-use Rattle.mdp_spec.specs.Row.{IsRow, IsMdp}
-use Rattle.mdp_graph.proofs.ModelBy.{model_by, one_row}
-use Rattle.mdp_graph.specs.Sets.{marked, can_enter}
-use Rattle.mdp_graph.specs.Layers.{reached, rank_at, AreRanks, AreReached, AreLeastRanks}
-use Rattle.mdp_graph.specs.Choices.{AreLeast}
-use Rattle.mdp_graph.specs.Reach.{may_step, row_step, falls}
-use Rattle.mdp_graph.specs.Meet.{must_step}
-use Rattle.mdp_graph.specs.Avoid.{IsGreatestAvoiding, keeps}
-use Rattle.mdp_graph.specs.Rounds.{left_after, CanStay, AreRounds}
-use Rattle.mdp_graph.specs.Sure.{inside_step, IsSure, IsGreatestSure, stays_and_falls}
-use Rattle.mdp_graph.specs.SureAll.{IsSureAll}
-use Rattle.mdp_graph.specs.Laws.{earlier}
-use Rattle.mdp_graph.proofs.Avoiding.{avoid_marks}
-use Rattle.mdp_graph.proofs.ByTest.{ranks_to, ranks_test, same_below, agree, tested_ranks, may_respects, inside_respects}
-use Rattle.mdp_graph.proofs.Dropping.{sure_marks}
-use Rattle.mdp_graph.proofs.Meeting.{must_respects}
-use Rattle.mdp_graph.proofs.Passes.{reached_marks, least_ranks}
-use Rattle.mdp_graph.proofs.LeftAfter.{left-top, stays-alike}
+use Rattle.std.proofs.{Common.{Option, Some, None, is_some, cond}, lemmas.Bool.{false≢true, cases_Bool}, lemmas.List.Elements.{All-from_recursion}}
+use Rattle.mdp_math.specs.{Gcd.{gcd, gcd_with_fuel}, Rational.{of_int, ratio, ◌+ℚ◌, ◌<ℚ◌, lt_ℚ}}
+use Rattle.mdp_spec.specs.{Mdp.{Entry, State, Mdp, states_of, choices_at}, Row.{IsRow, IsMdp}}
+use Rattle.mdp_graph.proofs.{ModelBy.{model_by, one_row}, Avoiding.{avoid_marks}}
+use Rattle.mdp_graph.proofs.{ByTest.{ranks_to, ranks_test, same_below, agree, tested_ranks, may_respects, inside_respects}, Dropping.{sure_marks}}
+use Rattle.mdp_graph.proofs.{Meeting.{must_respects}, Passes.{reached_marks, least_ranks}, LeftAfter.{left-top, stays-alike}}
+use Rattle.mdp_graph.specs.{Sets.{marked, can_enter}, Layers.{reached, rank_at, AreRanks, AreReached, AreLeastRanks}, Choices.{AreLeast}}
+use Rattle.mdp_graph.specs.{Reach.{may_step, row_step, falls}, Meet.{must_step}, Avoid.{IsGreatestAvoiding, keeps}, Rounds.{left_after, CanStay, AreRounds}}
+use Rattle.mdp_graph.specs.{Sure.{inside_step, IsSure, IsGreatestSure, stays_and_falls}, SureAll.{IsSureAll}, Laws.{earlier}}
 
 abbrev halves : ℕ → ℕ → List Entry
 halves s t = record { target = s; prob = ratio (pos 1) 2 } ∷ record { target = t; prob = ratio (pos 1) 2 } ∷ []

@@ -1,18 +1,12 @@
 -- Choices that lead to smaller ranks, as the code tests them.
 use Rattle.std.proofs.Common.{◌≡◌, ◌⊎◌, inl, inr, ℕ, suc, zero, ◌+◌, ◌<◌, ◌≤◌, Bool, true, false, ◌||◌, ◌&&◌, List, [], ◌∷◌, length, get_or, refl, sym, ap, ◌∙◌, arith}
-use Rattle.std.proofs.Common.{subst, cond, Option, Some, None}
-use Rattle.std.specs.List.{list_any, list_all, find, range_with_len}
-use Rattle.std.specs.Option.{unwrap_or, option_or}
-use Rattle.std.proofs.lemmas.Bool.{cases_lt, false≢true, cases_Bool, cases_eq}
-use Rattle.std.proofs.lemmas.List.Folds.{find-append}
+use Rattle.std.proofs.{Common.{subst, cond, Option, Some, None}, lemmas.Bool.{cases_lt, false≢true, cases_Bool, cases_eq}, lemmas.List.Folds.{find-append}}
 use Rattle.std.proofs.lemmas.List.FromFn.{get_or-map-range_with_len, length-map-range_with_len}
+use Rattle.std.specs.{List.{list_any, list_all, find, range_with_len}, Option.{unwrap_or, option_or}}
 use Rattle.mdp_math.proofs.Lists.{range_more}
 use Rattle.mdp_math.specs.Rational.{ℚ}
-use Rattle.mdp_spec.specs.Mdp.{Mdp, states_of, choices_at, row_at}
-use Rattle.mdp_spec.specs.Row.{entries}
-use Rattle.mdp_graph.specs.Sets.{marked, can_enter}
-use Rattle.mdp_graph.specs.Layers.{rank_at}
-use Rattle.mdp_graph.specs.Choices.{plain_rank, is_before, may_fall, first_below, first_passing}
+use Rattle.mdp_spec.specs.{Mdp.{Mdp, states_of, choices_at, row_at}, Row.{entries}}
+use Rattle.mdp_graph.specs.{Sets.{marked, can_enter}, Layers.{rank_at}, Choices.{plain_rank, is_before, may_fall, first_below, first_passing}}
 use Rattle.mdp_graph.proofs.EdgeFacts.{all-as-stays}
 
 any-as-enters : (set : ℕ → Bool) (ts : List ℕ) (ps : List ℚ) → length ts ≡ length ps → can_enter set (entries ts ps) ≡ list_any set ts

@@ -3,10 +3,8 @@ use Rattle.std.proofs.Common.{◌≡◌, ℕ, ◌+◌, ◌-◌, ◌<◌, ◌≤�
 use Rattle.std.proofs.Common.{length, map, take, replicate, get_or, set, refl, sym, ap, ap₂, ◌∙◌, arith, length-append}
 use Rattle.std.proofs.lemmas.List.{get_or_default, take_more, length-replicate, map-append, take_all}
 use Rattle.mdp_rows.specs.Pieces.{piece, pieces, ArePlaces}
-use Rattle.mdp_rows.proofs.Flat.Pieces.{AreNext, next_places, piece_is, piece_len}
-use Rattle.mdp_rows.proofs.Flat.Growth.{one_place, places-more, pieces-more}
-use Rattle.mdp_graph.specs.Waiting.{waits, count_waiting}
-use Rattle.mdp_graph.specs.FlatWaiting.{AreCounted}
+use Rattle.mdp_rows.proofs.{Flat.Pieces.{AreNext, next_places, piece_is, piece_len}, Flat.Growth.{one_place, places-more, pieces-more}}
+use Rattle.mdp_graph.specs.{Waiting.{waits, count_waiting}, FlatWaiting.{AreCounted}}
 use Rattle.mdp_graph.proofs.FlatPieces.{piece-at, pieces-set, place_after}
 
 -- ---- one choice

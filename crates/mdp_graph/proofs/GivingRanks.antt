@@ -1,16 +1,12 @@
 -- Ranks that are given to states, one list after the other.
 use Rattle.std.proofs.Common.{◌≡◌, inl, inr, ℕ, ◌+◌, ◌<◌, Bool, true, false, ◌||◌, ◌&&◌, ◌==◌, cond, List, []}
 use Rattle.std.proofs.Common.{◌∷◌, ◌++◌, length, set, refl, sym, ap, ◌∙◌, arith, eq-eqb, Option, Some, None, is_none}
-use Rattle.std.proofs.lemmas.Bool.{ne_eqb, false≢true, cases_eq}
-use Rattle.std.proofs.lemmas.List.{length-set, get_or-set_other, length-append}
-use Rattle.std.proofs.lemmas.List.Sums.{sum_by-set}
+use Rattle.std.proofs.{lemmas.Bool.{ne_eqb, false≢true, cases_eq}, lemmas.List.{length-set, get_or-set_other, length-append}, lemmas.List.Sums.{sum_by-set}}
 use Rattle.std.proofs.lemmas.Grind.{get_or-set_at}
 use Rattle.mdp_rows.specs.Preds.{is_among}
-use Rattle.mdp_graph.specs.Layers.{rank_at}
-use Rattle.mdp_graph.specs.Ranking.{given, unranked, IsGiven}
-use Rattle.mdp_graph.proofs.Among.{among-append}
+use Rattle.mdp_graph.specs.{Layers.{rank_at}, Ranking.{given, unranked, IsGiven}}
+use Rattle.mdp_graph.proofs.Among.{among-append, or-and_false}
 use Rattle.mdp_math.proofs.Booleans.{or-false, and-false}
-use Rattle.mdp_graph.proofs.Among.{or-and_false}
 
 given-false : (k : ℕ) (o : Option ℕ) → o ≡ given k false o
 given-false k None = refl

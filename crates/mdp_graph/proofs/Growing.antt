@@ -1,27 +1,17 @@
 -- A forest that grows, and one that is cut.
 use Rattle.std.proofs.Common.{◌≡◌, inl, inr, ℕ, zero, suc, ◌<◌, ◌≤◌, Bool, true, false, ◌||◌, ◌&&◌, ◌==◌, not, cond}
 use Rattle.std.proofs.Common.{List, [], ◌∷◌, length, get_or, sym, ap, subst, ◌∙◌, arith, Option, Some, None, is_some, is_none}
-use Rattle.std.specs.List.{All}
 use Rattle.std.proofs.lemmas.Bool.{false≢true, cases_Bool, eqb-true}
-use Rattle.mdp_spec.specs.Mdp.{Mdp, states_of, choices_at, row_at}
-use Rattle.mdp_spec.specs.Row.{IsMdp}
-use Rattle.mdp_rows.specs.Preds.{is_among, leads_to}
-use Rattle.mdp_rows.specs.declared.preds.Pred.{Pred}
-use Rattle.mdp_graph.specs.declared.forest.Way.{Way}
-use Rattle.mdp_graph.specs.Sets.{marked, can_enter}
-use Rattle.mdp_graph.specs.Layers.{reached}
-use Rattle.mdp_graph.specs.Sure.{inside_step}
-use Rattle.mdp_graph.specs.Rounds.{CanStay}
+use Rattle.std.specs.List.{All}
+use Rattle.mdp_spec.specs.{Mdp.{Mdp, states_of, choices_at, row_at}, Row.{IsMdp}}
+use Rattle.mdp_rows.specs.{Preds.{is_among, leads_to}, declared.preds.Pred.{Pred}}
+use Rattle.mdp_graph.specs.{declared.forest.Way.{Way}, Sets.{marked, can_enter}, Layers.{reached}, Sure.{inside_step}, Rounds.{CanStay}}
 use Rattle.mdp_graph.specs.Waiting.{waits, is_one_of, AreWaiting, AreReleased, AreWithin}
 use Rattle.mdp_graph.specs.Forest.{way_at, attached, IsUncut, IsStep, IsForest, IsClosed, IsFound, IsGrown, IsTaken, IsFoundWay, HasFound}
 use Rattle.mdp_graph.specs.Forest.{IsWayInto, HasWayInto, all_preds, AreWide}
-use Rattle.mdp_graph.proofs.PredLists.{list-is, led-in, led-back}
-use Rattle.mdp_graph.proofs.Among.{among-below}
-use Rattle.mdp_graph.proofs.RankFacts.{none_among}
-use Rattle.mdp_graph.proofs.Pruning.{cases_way, or-cases, or-left, or-right, way-in}
-use Rattle.mdp_graph.proofs.Reaching.{step-reaches, first-reached}
-use Rattle.mdp_graph.proofs.RowSets.{enters-at, enters-by, stays-at, stays-outside}
-use Rattle.mdp_graph.proofs.StepsInside.{inside-choice, choice-inside}
+use Rattle.mdp_graph.proofs.{PredLists.{list-is, led-in, led-back}, Among.{among-below}, RankFacts.{none_among}}
+use Rattle.mdp_graph.proofs.{Pruning.{cases_way, or-cases, or-left, or-right, way-in}, Reaching.{step-reaches, first-reached}}
+use Rattle.mdp_graph.proofs.{RowSets.{enters-at, enters-by, stays-at, stays-outside}, StepsInside.{inside-choice, choice-inside}}
 use Rattle.mdp_math.proofs.Booleans.{or-false, and-both, and-right, not_true, false_of_not}
 
 abbrev pub nothing : ℕ → Bool

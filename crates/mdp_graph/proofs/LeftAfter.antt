@@ -1,9 +1,7 @@
 -- The states that are left after rounds.
 use Rattle.std.proofs.Common.{◌≡◌, ℕ, ◌<◌, ◌≤◌, Bool, ◌||◌, ◌==◌, nat_lt, le-ltb, List, sym, ◌∙◌}
-use Rattle.mdp_spec.specs.Mdp.{Mdp, states_of}
-use Rattle.mdp_spec.specs.Row.{IsMdp}
-use Rattle.mdp_graph.specs.Sets.{marked}
-use Rattle.mdp_graph.specs.Rounds.{CanStay}
+use Rattle.mdp_spec.specs.{Mdp.{Mdp, states_of}, Row.{IsMdp}}
+use Rattle.mdp_graph.specs.{Sets.{marked}, Rounds.{CanStay}}
 use Rattle.mdp_graph.proofs.StepsInside.{reached-more}
 use Rattle.mdp_math.proofs.Booleans.{or-false}
 

@@ -1,20 +1,11 @@
 -- The ranks inside the set that the rounds leave.
 use Rattle.std.proofs.Common.{◌≡◌, ℕ, zero, suc, ◌+◌, ◌<◌, Bool, true, false, ◌==◌, List, length, map, get_or, refl, sym, ap, subst, ◌∙◌, arith, Option, is_some}
+use Rattle.std.proofs.{lemmas.List.{get_or-map, length-map}, lemmas.List.FromFn.{fill_by_all}}
 use Rattle.std.specs.List.{range_with_len}
-use Rattle.std.proofs.lemmas.List.{get_or-map, length-map}
-use Rattle.std.proofs.lemmas.List.FromFn.{fill_by_all}
-use Rattle.mdp_spec.specs.Mdp.{Mdp, states_of}
-use Rattle.mdp_spec.specs.Row.{IsMdp}
-use Rattle.mdp_graph.specs.Sets.{marked}
-use Rattle.mdp_graph.specs.Layers.{rank_at, AreRanks}
-use Rattle.mdp_graph.specs.Rounds.{left_after, CanStay, AreRounds}
-use Rattle.mdp_graph.specs.Settled.{IsSettled}
-use Rattle.mdp_graph.specs.Sure.{inside_step, IsSure}
-use Rattle.mdp_graph.proofs.Passes.{mark-is, has_rank}
-use Rattle.mdp_graph.proofs.Reached.{at_most-some}
-use Rattle.mdp_graph.proofs.RoundLaws.{greatest_round, zero_sure, zero_left}
-use Rattle.mdp_graph.proofs.LeftAfter.{left-top, stays-alike}
-use Rattle.mdp_graph.proofs.StepsInside.{reached-more, rank-reached}
+use Rattle.mdp_spec.specs.{Mdp.{Mdp, states_of}, Row.{IsMdp}}
+use Rattle.mdp_graph.specs.{Sets.{marked}, Layers.{rank_at, AreRanks}, Rounds.{left_after, CanStay, AreRounds}, Settled.{IsSettled}, Sure.{inside_step, IsSure}}
+use Rattle.mdp_graph.proofs.{Passes.{mark-is, has_rank}, Reached.{at_most-some}, RoundLaws.{greatest_round, zero_sure, zero_left}}
+use Rattle.mdp_graph.proofs.{LeftAfter.{left-top, stays-alike}, StepsInside.{reached-more, rank-reached}}
 use Rattle.mdp_math.proofs.Booleans.{same_truth}
 
 set_left : (m : Mdp) (goals : List Bool) (rounds : List ℕ) (set : ℕ → Bool) → IsMdp m → AreRounds m goals rounds → IsSure m goals set

@@ -1,18 +1,11 @@
 -- What may_reach answers, from the edges and the ranks that it finds.
 use Rattle.std.proofs.Common.{◌≡◌, ℕ, ◌<◌, Bool, true, not, ◌&&◌, List, length, map, replicate, ap, ◌∙◌, Option, is_some}
-use Rattle.mdp_spec.specs.Mdp.{Choice, Mdp, no_choice, states_of, choices_at, row_at}
-use Rattle.mdp_spec.specs.Row.{IsMdp}
-use Rattle.mdp_graph.specs.Sets.{marked, can_enter, stays_in, some_choice}
-use Rattle.mdp_graph.specs.Layers.{rank_at, AreRanks}
-use Rattle.mdp_graph.specs.Edges.{has_edge, leads}
-use Rattle.mdp_graph.specs.Ranking.{AreRanksAlong}
-use Rattle.mdp_graph.specs.Choices.{plain_rank, is_before, may_fall, first_passing, AreLeast}
-use Rattle.mdp_graph.specs.Reach.{may_step, falls}
-use Rattle.mdp_graph.proofs.Reached.{ranked}
-use Rattle.mdp_graph.proofs.Steps.{may_leads, may_follows}
-use Rattle.mdp_graph.proofs.Passes.{ranks_seen, least_choices, falls-is}
-use Rattle.mdp_math.proofs.Booleans.{and-right}
+use Rattle.mdp_spec.specs.{Mdp.{Choice, Mdp, no_choice, states_of, choices_at, row_at}, Row.{IsMdp}}
+use Rattle.mdp_graph.specs.{Sets.{marked, can_enter, stays_in, some_choice}, Layers.{rank_at, AreRanks}, Edges.{has_edge, leads}, Ranking.{AreRanksAlong}}
+use Rattle.mdp_graph.specs.{Choices.{plain_rank, is_before, may_fall, first_passing, AreLeast}, Reach.{may_step, falls}}
+use Rattle.mdp_graph.proofs.{Reached.{ranked}, Steps.{may_leads, may_follows}, Passes.{ranks_seen, least_choices, falls-is}}
 use Rattle.mdp_graph.proofs.RowSets.{list_any-at, stays-everywhere}
+use Rattle.mdp_math.proofs.Booleans.{and-right}
 
 module _ (m : Mdp) (known : IsMdp m) (inside blocked target : List Bool) (all_inside : inside ≡ replicate (states_of m) true) (ranks : List (Option ℕ))
     (f : AreRanksAlong m inside blocked target ranks) where

@@ -1,24 +1,15 @@
 -- The layers of a search for the states that meet a set whatever is chosen.
 use Rattle.std.proofs.Common.{◌≡◌, inl, inr, ℕ, suc, zero, ◌+◌, ◌-◌, ◌<◌, ◌≤◌, Bool, true, false, ◌||◌, ◌&&◌, nat_le, le-leb, lt-ltb, map, cond, List, [], ◌∷◌, length}
 use Rattle.std.proofs.Common.{replicate, refl, sym, ap, subst, ◌∙◌, arith, eq-eqb, Option, Some, None, is_some, is_none}
-use Rattle.std.proofs.lemmas.Bool.{false≢true, cases_lt, cases_Bool}
-use Rattle.std.proofs.lemmas.List.Sums.{sum_by-cons}
+use Rattle.std.proofs.{lemmas.Bool.{false≢true, cases_lt, cases_Bool}, lemmas.List.Sums.{sum_by-cons}}
 use borrow.Author.Tests.{leb-true}
-use Rattle.mdp_spec.specs.Mdp.{Mdp, Choice, no_choice, states_of, choices_at, row_at}
-use Rattle.mdp_spec.specs.Row.{IsMdp}
+use Rattle.mdp_spec.specs.{Mdp.{Mdp, Choice, no_choice, states_of, choices_at, row_at}, Row.{IsMdp}}
 use Rattle.mdp_rows.specs.Preds.{is_among}
-use Rattle.mdp_graph.specs.Sets.{marked, can_enter}
-use Rattle.mdp_graph.specs.Layers.{reached, rank_at, at_most, AreRanks}
-use Rattle.mdp_graph.specs.Choices.{plain_rank, is_before}
-use Rattle.mdp_graph.specs.Ranking.{given, unranked, IsGiven}
-use Rattle.mdp_graph.specs.Meet.{must_step, AllFall}
-use Rattle.mdp_graph.specs.NextLayer.{is_ranked}
-use Rattle.mdp_graph.proofs.Among.{cases_rank}
-use Rattle.mdp_graph.proofs.RankFacts.{none_among, started, some-same, cond_some}
-use Rattle.mdp_graph.proofs.Reached.{rank_of, at_most-some}
-use Rattle.mdp_graph.proofs.Passes.{has_rank, mark-is, falls-is}
+use Rattle.mdp_graph.specs.{Sets.{marked, can_enter}, Layers.{reached, rank_at, at_most, AreRanks}, Choices.{plain_rank, is_before}}
+use Rattle.mdp_graph.specs.{Ranking.{given, unranked, IsGiven}, Meet.{must_step, AllFall}, NextLayer.{is_ranked}}
+use Rattle.mdp_graph.proofs.{Among.{cases_rank}, RankFacts.{none_among, started, some-same, cond_some}, Reached.{rank_of, at_most-some}}
+use Rattle.mdp_graph.proofs.{Passes.{has_rank, mark-is, falls-is}, RowSets.{list_all-at, list_all-same, enters-at, enters-by, enters-same}}
 use Rattle.mdp_math.proofs.Booleans.{and-left, same_truth}
-use Rattle.mdp_graph.proofs.RowSets.{list_all-at, list_all-same, enters-at, enters-by, enters-same}
 
 -- a step depends on the states below n alone
 abbrev pub Respects : ((ℕ → Bool) → ℕ → Bool) → ℕ → Type 0

@@ -1,31 +1,17 @@
 -- States from which trees miss the goals with some chance: those with a number above 0 that falls, or stays the same at all successors.
 use Rattle.std.proofs.Common.{◌≡◌, ◌⊎◌, inl, inr, ℕ, zero, suc, ◌+◌, ◌<◌, ◌≤◌, Bool, true, false, cond, not, ◌||◌, ◌&&◌, ◌==◌, nat_lt, lt-ltb, ltb-true, eq-eqb, List}
-use Rattle.std.proofs.Common.{length, get_or, sym, ap, ◌∙◌, subst, arith}
+use Rattle.std.proofs.{Common.{length, get_or, sym, ap, ◌∙◌, subst, arith}, lemmas.Bool.{false≢true, eqb-true, cases_Bool}}
+use Rattle.std.proofs.{lemmas.List.Folds.{Any-from_list_any}, lemmas.List.FromFn.{get_or-map-range_with_len, length-map-range_with_len}}
 use Rattle.std.specs.List.{All, Any}
-use Rattle.std.proofs.lemmas.Bool.{false≢true, eqb-true, cases_Bool}
-use Rattle.std.proofs.lemmas.List.Folds.{Any-from_list_any}
-use Rattle.std.proofs.lemmas.List.FromFn.{get_or-map-range_with_len, length-map-range_with_len}
 use Rattle.mdp_math.specs.Rational.{◌+ℚ◌, ◌≤ℚ◌}
-use Rattle.mdp_math.proofs.Order.{1ℚ}
-use Rattle.mdp_spec.specs.Bounds.{part}
-use Rattle.mdp_spec.specs.Hit.{hit}
-use Rattle.mdp_spec.specs.Mdp.{Entry, Choice, Mdp, no_choice, states_of, choices_at, row_at}
-use Rattle.mdp_spec.specs.Row.{IsMdp}
-use Rattle.mdp_spec.specs.Tree.{IsPolicy}
-use Rattle.mdp_spec.specs.Tree.{Tree, unfolded}
-use Rattle.mdp_spec.proofs.Keeping.{HasChoice, Follows, Keeps, keeps_of_Fits, keeps_unfolded}
-use Rattle.mdp_spec.proofs.Misses.{misses_by_ranks}
-use Rattle.mdp_graph.specs.Sets.{marked, can_enter, stays_in, some_choice}
-use Rattle.mdp_graph.specs.Layers.{reached, AreReached, AreLeastRanks}
-use Rattle.mdp_graph.specs.Choices.{AreLeast}
-use Rattle.mdp_graph.specs.Reach.{may_step, falls}
-use Rattle.mdp_graph.specs.Sure.{inside_step}
-use Rattle.mdp_graph.specs.Rounds.{left_after, AreRounds}
-use Rattle.mdp_graph.specs.Avoid.{IsGreatestAvoiding, keeps}
+use Rattle.mdp_math.proofs.{Order.{1ℚ}, Booleans.{and-left, and-right, and-both}}
+use Rattle.mdp_spec.specs.{Bounds.{part}, Hit.{hit}, Mdp.{Entry, Choice, Mdp, no_choice, states_of, choices_at, row_at}, Row.{IsMdp}}
+use Rattle.mdp_spec.specs.Tree.{IsPolicy, Tree, unfolded}
+use Rattle.mdp_spec.proofs.{Keeping.{HasChoice, Follows, Keeps, keeps_of_Fits, keeps_unfolded}, Misses.{misses_by_ranks}}
+use Rattle.mdp_graph.specs.{Sets.{marked, can_enter, stays_in, some_choice}, Layers.{reached, AreReached, AreLeastRanks}, Choices.{AreLeast}}
+use Rattle.mdp_graph.specs.{Reach.{may_step, falls}, Sure.{inside_step}, Rounds.{left_after, AreRounds}, Avoid.{IsGreatestAvoiding, keeps}}
 use Rattle.mdp_graph.specs.Laws.{TreesMiss, joined, JoinedMisses}
-use Rattle.mdp_graph.proofs.Reaching.{first-reached, step-reaches}
-use Rattle.mdp_graph.proofs.RoundLaws.{rounds_fall}
-use Rattle.mdp_math.proofs.Booleans.{and-left, and-right, and-both}
+use Rattle.mdp_graph.proofs.{Reaching.{first-reached, step-reaches}, RoundLaws.{rounds_fall}}
 use Rattle.mdp_graph.proofs.RowSets.{list_any-at, list_any-by, list_all-at, enters-at, enters-by, stays-more}
 
 -- Goals have the number 0. At another state with a number above 0 each choice that meets a rule has a successor of a smaller number above 0, or

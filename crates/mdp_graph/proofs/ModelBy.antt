@@ -1,11 +1,8 @@
 -- A model whose states are listed, each with a row for each of its choices.
-use Rattle.std.proofs.Common.{◌<◌, ◌≤◌, ◌^◌, ℕ, Bool, true, ◌&&◌, [], ◌∷◌, length, refl, ap, arith, le-leb, pos}
+use Rattle.std.proofs.{Common.{◌<◌, ◌≤◌, ◌^◌, ℕ, Bool, true, ◌&&◌, [], ◌∷◌, length, refl, ap, arith, le-leb, pos}, lemmas.List.Elements.{All-from_recursion}}
 use Rattle.std.specs.List.{AllByRecursion}
-use Rattle.std.proofs.lemmas.List.Elements.{All-from_recursion}
-use Rattle.mdp_math.specs.Gcd.{gcd, gcd_with_fuel}
-use Rattle.mdp_math.specs.Rational.{of_int, ratio, ◌+ℚ◌, ◌<ℚ◌, lt_ℚ}
-use Rattle.mdp_spec.specs.Mdp.{Mdp, State, Choice, no_state, no_choice, states_of, choices_at}
-use Rattle.mdp_spec.specs.Row.{IsRow, IsMdp}
+use Rattle.mdp_math.specs.{Gcd.{gcd, gcd_with_fuel}, Rational.{of_int, ratio, ◌+ℚ◌, ◌<ℚ◌, lt_ℚ}}
+use Rattle.mdp_spec.specs.{Mdp.{Mdp, State, Choice, no_state, no_choice, states_of, choices_at}, Row.{IsRow, IsMdp}}
 use Rattle.mdp_spec.proofs.Small.{entry, one}
 
 abbrev pub HasRows : ℕ → State → Type 0

@@ -1,26 +1,16 @@
 -- The states that are met next, by the choices that wait.
 use Rattle.std.proofs.Common.{◌≡◌, inl, inr, ℕ, zero, suc, ◌==◌, ◌<◌, Bool, true, false, ◌||◌, ◌&&◌, not, List, [], ◌∷◌, length, map, get_or, replicate, refl, sym, ap, subst}
-use Rattle.std.proofs.Common.{◌∙◌, arith, Option, Some, None, is_some, is_none}
+use Rattle.std.proofs.{Common.{◌∙◌, arith, Option, Some, None, is_some, is_none}, lemmas.Bool.{false≢true, eqb-true}}
+use Rattle.std.proofs.{lemmas.List.{length-replicate, get_or-replicate}, lemmas.List.FromFn.{length-map-range_with_len}}
 use Rattle.std.specs.List.{range_with_len}
-use Rattle.std.proofs.lemmas.Bool.{false≢true, eqb-true}
-use Rattle.std.proofs.lemmas.List.{length-replicate, get_or-replicate}
-use Rattle.std.proofs.lemmas.List.FromFn.{length-map-range_with_len}
-use Rattle.mdp_spec.specs.Mdp.{Entry, Choice, Mdp, no_choice, states_of, choices_at, row_at}
-use Rattle.mdp_spec.specs.Row.{IsMdp}
-use Rattle.mdp_rows.specs.Preds.{is_among, preds_to}
-use Rattle.mdp_rows.specs.declared.preds.Pred.{Pred}
-use Rattle.mdp_graph.specs.Sets.{can_enter}
-use Rattle.mdp_graph.specs.Layers.{rank_at}
-use Rattle.mdp_graph.specs.Ranking.{given, IsGiven}
-use Rattle.mdp_graph.specs.Meet.{must_step}
-use Rattle.mdp_graph.specs.Waiting.{some_waits, is_one_of, AreWaiting, AreWithin, AreReleased, AreMet, leading_to}
-use Rattle.mdp_graph.specs.NextLayer.{is_ranked, AreLayers, IsNext}
+use Rattle.mdp_spec.specs.{Mdp.{Entry, Choice, Mdp, no_choice, states_of, choices_at, row_at}, Row.{IsMdp}}
+use Rattle.mdp_rows.specs.{Preds.{is_among, preds_to}, declared.preds.Pred.{Pred}}
+use Rattle.mdp_graph.specs.{Sets.{can_enter}, Layers.{rank_at}, Ranking.{given, IsGiven}, Meet.{must_step}}
+use Rattle.mdp_graph.specs.{Waiting.{some_waits, is_one_of, AreWaiting, AreWithin, AreReleased, AreMet, leading_to}, NextLayer.{is_ranked, AreLayers, IsNext}}
 use Rattle.mdp_graph.specs.Forest.{all_preds}
-use Rattle.mdp_graph.proofs.Meeting.{IsMeeting, must_respects}
-use Rattle.mdp_graph.proofs.PredLists.{leading-in, leading-back}
-use Rattle.mdp_graph.proofs.Releasing.{true-some, some-in-range}
-use Rattle.mdp_math.proofs.Booleans.{or-true, not_true, not-not, and-left, and-right, same_truth}
+use Rattle.mdp_graph.proofs.{Meeting.{IsMeeting, must_respects}, PredLists.{leading-in, leading-back}, Releasing.{true-some, some-in-range}}
 use Rattle.mdp_graph.proofs.RowSets.{list_any-at, list_all-false_by, list_all-fails, enters-same, enters-never}
+use Rattle.mdp_math.proofs.Booleans.{or-true, not_true, not-not, and-left, and-right, same_truth}
 
 -- ---- the ranks that were given
 

@@ -1,12 +1,9 @@
 -- What a pass finds is one thing: its marks, its ranks and its choices are determined.
-use Rattle.std.proofs.Common.{◌≡◌, ℕ, ◌<◌, inl, inr, Bool, true, false, List, length, refl, sym, ◌∙◌, subst, arith}
+use Rattle.std.proofs.{Common.{◌≡◌, ℕ, ◌<◌, inl, inr, Bool, true, false, List, length, refl, sym, ◌∙◌, subst, arith}, lemmas.List.FromFn.{fill_by_all}}
 use Rattle.std.specs.Prelude.{slice_index, slice_index_or}
-use Rattle.std.proofs.lemmas.List.FromFn.{fill_by_all}
 use Rattle.mdp_math.proofs.Booleans.{same_truth}
 use Rattle.mdp_spec.specs.Mdp.{Mdp, states_of}
-use Rattle.mdp_graph.specs.Sets.{marked}
-use Rattle.mdp_graph.specs.Layers.{AreReached, AreLeastRanks}
-use Rattle.mdp_graph.specs.Choices.{AreLeast}
+use Rattle.mdp_graph.specs.{Sets.{marked}, Layers.{AreReached, AreLeastRanks}, Choices.{AreLeast}}
 
 -- ---- lists that are the same at each state
 

@@ -1,17 +1,11 @@
 -- What the sets of states mean for policies.
 use Rattle.std.proofs.Common.{◌≡◌, inl, inr, ℕ, suc, zero, ◌<◌, Bool, true, false, not, ◌||◌, List, get_or, sym, ap, ◌∙◌}
 use Rattle.std.proofs.lemmas.Bool.{false≢true, cases_Bool}
-use Rattle.mdp_spec.specs.Mdp.{Mdp, Choice, no_choice, states_of, choices_at, row_at}
-use Rattle.mdp_spec.specs.Row.{IsMdp}
-use Rattle.mdp_graph.specs.Sets.{marked, can_enter, stays_in, some_choice}
-use Rattle.mdp_graph.specs.Layers.{reached}
-use Rattle.mdp_graph.specs.Choices.{AreLeast}
-use Rattle.mdp_graph.specs.Reach.{may_step}
-use Rattle.mdp_graph.specs.Avoid.{IsGreatestAvoiding, keeps}
-use Rattle.mdp_graph.specs.Laws.{policy_step, PolicyAvoids, StaysSure}
-use Rattle.mdp_graph.proofs.Reaching.{step-reaches}
+use Rattle.mdp_spec.specs.{Mdp.{Mdp, Choice, no_choice, states_of, choices_at, row_at}, Row.{IsMdp}}
+use Rattle.mdp_graph.specs.{Sets.{marked, can_enter, stays_in, some_choice}, Layers.{reached}, Choices.{AreLeast}, Reach.{may_step}}
+use Rattle.mdp_graph.specs.{Avoid.{IsGreatestAvoiding, keeps}, Laws.{policy_step, PolicyAvoids, StaysSure}}
+use Rattle.mdp_graph.proofs.{Reaching.{step-reaches}, RowSets.{list_any-by, enters-at, enters-by, stays-at, stays-fails}}
 use Rattle.mdp_math.proofs.Booleans.{and-right, and-both}
-use Rattle.mdp_graph.proofs.RowSets.{list_any-by, enters-at, enters-by, stays-at, stays-fails}
 
 meets_none : (m : Mdp) (goals marks : List Bool) (policy : List ℕ) → IsMdp m → IsGreatestAvoiding m goals marks → AreLeast m goals marks (keeps m marks) policy
     → (k s : ℕ) → s < states_of m → marked marks s ≡ true

@@ -1,19 +1,12 @@
 -- What a pass answers, from the ranks that were found.
 use Rattle.std.proofs.Common.{◌≡◌, inl, inr, ℕ, zero, suc, ◌<◌, Bool, true, false, ◌||◌, ◌&&◌, nat_lt, lt-ltb, le-ltb, List, length, map, get_or, refl, sym, ap, subst, ◌∙◌}
-use Rattle.std.proofs.Common.{arith, Option, Some, None, is_some}
-use Rattle.std.proofs.lemmas.Bool.{false≢true, cases_Bool}
-use Rattle.std.proofs.lemmas.List.{get_or-map, length-map}
-use Rattle.mdp_spec.specs.Mdp.{Mdp, states_of, choices_at, row_at}
-use Rattle.mdp_spec.specs.Row.{IsMdp}
-use Rattle.mdp_graph.specs.Sets.{marked, can_enter}
-use Rattle.mdp_graph.specs.Layers.{reached, rank_at, AreRanks, AreReached, AreLeastRanks}
-use Rattle.mdp_graph.specs.Choices.{plain_rank, is_before, first_passing, AreLeast}
-use Rattle.mdp_graph.specs.Reach.{falls}
-use Rattle.mdp_graph.proofs.Falls.{IsFirst, case-any, firsts, firsts_count}
-use Rattle.mdp_graph.proofs.RankFacts.{some-same}
-use Rattle.mdp_graph.proofs.Reached.{rank_of, at_most-some}
-use Rattle.mdp_math.proofs.Booleans.{and-false}
+use Rattle.std.proofs.{Common.{arith, Option, Some, None, is_some}, lemmas.Bool.{false≢true, cases_Bool}, lemmas.List.{get_or-map, length-map}}
+use Rattle.mdp_spec.specs.{Mdp.{Mdp, states_of, choices_at, row_at}, Row.{IsMdp}}
+use Rattle.mdp_graph.specs.{Sets.{marked, can_enter}, Layers.{reached, rank_at, AreRanks, AreReached, AreLeastRanks}}
+use Rattle.mdp_graph.specs.{Choices.{plain_rank, is_before, first_passing, AreLeast}, Reach.{falls}}
+use Rattle.mdp_graph.proofs.{Falls.{IsFirst, case-any, firsts, firsts_count}, RankFacts.{some-same}, Reached.{rank_of, at_most-some}}
 use Rattle.mdp_graph.proofs.RowSets.{enters-at, enters-by, enters-same, enters-never}
+use Rattle.mdp_math.proofs.Booleans.{and-false}
 
 -- the marks and the plain ranks, state by state
 pub mark-is : (ranks : List (Option ℕ)) (s : ℕ) → s < length ranks → marked (map is_some ranks) s ≡ is_some (rank_at ranks s)

@@ -2,19 +2,13 @@
 use Rattle.std.proofs.Common.{◌≡◌, inl, inr, ℕ, suc, zero, ◌+◌, ◌<◌, ◌≤◌, Bool, true, false, not, ◌||◌}
 use Rattle.std.proofs.Common.{◌&&◌, nat_lt, lt-ltb, ltb-true, List, [], length, get_or, refl, sym, ap, ◌∙◌, arith}
 use Rattle.std.proofs.lemmas.Bool.{false≢true, cases_Bool, cases_eq}
-use Rattle.mdp_spec.specs.Mdp.{Mdp, Choice, no_choice, states_of, choices_at, row_at}
-use Rattle.mdp_spec.specs.Row.{IsMdp}
-use Rattle.mdp_spec.specs.Tree.{IsPolicy}
-use Rattle.mdp_graph.specs.Sets.{marked, can_enter, stays_in, some_choice}
-use Rattle.mdp_graph.specs.Layers.{reached, AreReached, AreLeastRanks}
-use Rattle.mdp_graph.specs.Reach.{may_step, row_step, falls}
-use Rattle.mdp_graph.specs.Meet.{must_step}
-use Rattle.mdp_graph.specs.Sure.{inside_step, IsSure, IsGreatestSure}
+use Rattle.mdp_spec.specs.{Mdp.{Mdp, Choice, no_choice, states_of, choices_at, row_at}, Row.{IsMdp}, Tree.{IsPolicy}}
+use Rattle.mdp_graph.specs.{Sets.{marked, can_enter, stays_in, some_choice}, Layers.{reached, AreReached, AreLeastRanks}, Reach.{may_step, row_step, falls}}
+use Rattle.mdp_graph.specs.{Meet.{must_step}, Sure.{inside_step, IsSure, IsGreatestSure}}
 use Rattle.mdp_graph.specs.Laws.{policy_step, ChoicesReach, RestStays, RowsFall, RowsStay, EachPolicyMeets, RestAvoids, IsSurePolicy, ChoicesAreSure, SureAreMarked}
-use Rattle.mdp_graph.proofs.Reaching.{step-reaches, stays-reached, first-reached, never-reached}
-use Rattle.mdp_graph.proofs.StepsInside.{choice-inside}
-use Rattle.mdp_math.proofs.Booleans.{or-true, and-left, and-right, and-both}
+use Rattle.mdp_graph.proofs.{Reaching.{step-reaches, stays-reached, first-reached, never-reached}, StepsInside.{choice-inside}}
 use Rattle.mdp_graph.proofs.RowSets.{list_any-at, list_any-by, list_all-at, list_all-by, list_all-fails, enters-at, enters-by, stays-at, stays-more, stays-outside}
+use Rattle.mdp_math.proofs.Booleans.{or-true, and-left, and-right, and-both}
 
 -- ---- policies by which ranks fall
 

@@ -1,16 +1,10 @@
 -- From a state outside the greatest avoiding set each policy can come to a goal.
 use Rattle.std.proofs.Common.{◌≡◌, inl, inr, ℕ, suc, zero, ◌+◌, ◌<◌, ◌≤◌, Bool, true, false, not, cond, List, get_or, refl, sym, ap, ◌∙◌, arith}
 use Rattle.std.proofs.lemmas.Bool.{false≢true, cases_lt, cases_Bool, cases_eq}
-use Rattle.mdp_spec.specs.Mdp.{Mdp, Choice, no_choice, states_of, choices_at, row_at}
-use Rattle.mdp_spec.specs.Row.{IsMdp}
-use Rattle.mdp_spec.specs.Tree.{IsPolicy}
-use Rattle.mdp_graph.specs.Sets.{marked, can_enter, stays_in}
-use Rattle.mdp_graph.specs.Layers.{reached}
-use Rattle.mdp_graph.specs.Avoid.{IsAvoiding}
-use Rattle.mdp_graph.specs.Laws.{policy_step, RestMeets}
-use Rattle.mdp_graph.proofs.Reaching.{step-reaches, one-later, first-reached}
+use Rattle.mdp_spec.specs.{Mdp.{Mdp, Choice, no_choice, states_of, choices_at, row_at}, Row.{IsMdp}, Tree.{IsPolicy}}
+use Rattle.mdp_graph.specs.{Sets.{marked, can_enter, stays_in}, Layers.{reached}, Avoid.{IsAvoiding}, Laws.{policy_step, RestMeets}}
+use Rattle.mdp_graph.proofs.{Reaching.{step-reaches, one-later, first-reached}, RowSets.{list_any-by, stays-outside}}
 use Rattle.mdp_math.proofs.Booleans.{not_true}
-use Rattle.mdp_graph.proofs.RowSets.{list_any-by, stays-outside}
 
 -- how many numbers below n are in a set
 count_below : (ℕ → Bool) → ℕ → ℕ

@@ -1,18 +1,13 @@
 -- Which choices stand in the lists of those that lead to a state.
 use Rattle.std.proofs.Common.{◌≡◌, inl, inr, ℕ, zero, suc, ◌+◌, ◌<◌, ◌≤◌, Bool, true, ◌||◌, ◌&&◌, ◌==◌}
 use Rattle.std.proofs.Common.{cond, List, [], ◌∷◌, length, map, get_or, refl, sym, ap, ◌∙◌, arith, eq-eqb}
+use Rattle.std.proofs.{lemmas.Bool.{false≢true, eqb-true, ne_eqb, cases_Bool, cases_eq}, lemmas.List.FromFn.{get_or-map-range_with_len}}
 use Rattle.std.specs.List.{filter, flat_map, range_with_len}
-use Rattle.std.proofs.lemmas.Bool.{false≢true, eqb-true, ne_eqb, cases_Bool, cases_eq}
-use Rattle.std.proofs.lemmas.List.FromFn.{get_or-map-range_with_len}
-use Rattle.mdp_spec.specs.Mdp.{Mdp, states_of, choices_at, row_at}
-use Rattle.mdp_spec.specs.Row.{IsMdp}
-use Rattle.mdp_rows.specs.Preds.{is_among, leads_to, pair, choices_of, choices_below, preds_to}
-use Rattle.mdp_rows.specs.declared.preds.Pred.{Pred}
-use Rattle.mdp_graph.specs.Sets.{can_enter}
-use Rattle.mdp_graph.specs.Waiting.{is_one_of, leading_to}
-use Rattle.mdp_graph.proofs.Releasing.{one-of-append}
+use Rattle.mdp_spec.specs.{Mdp.{Mdp, states_of, choices_at, row_at}, Row.{IsMdp}}
+use Rattle.mdp_rows.specs.{Preds.{is_among, leads_to, pair, choices_of, choices_below, preds_to}, declared.preds.Pred.{Pred}}
+use Rattle.mdp_graph.specs.{Sets.{can_enter}, Waiting.{is_one_of, leading_to}}
+use Rattle.mdp_graph.proofs.{Releasing.{one-of-append}, RowSets.{enters-at, enters-by, enters-more}}
 use Rattle.mdp_math.proofs.Booleans.{or-true, and-left, and-right, and-both}
-use Rattle.mdp_graph.proofs.RowSets.{enters-at, enters-by, enters-more}
 
 is-pair : (x : Pred) (s c : ℕ) → ((x.state == s) && (x.choice == c)) ≡ true → x ≡ pair s c
 is-pair x s c e = ap (λ k. pair k x.choice) (eqb-true x.state s (and-left (x.state == s) (x.choice == c) e)) ∙ ap (pair s) (eqb-true x.choice c (and-right (x.state == s) (x.choice == c) e))

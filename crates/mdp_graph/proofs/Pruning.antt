@@ -3,11 +3,8 @@ use Rattle.std.proofs.Common.{◌≡◌, ◌⊎◌, inl, inr, ℕ, zero, suc, �
 use Rattle.std.proofs.Common.{[], ◌∷◌, ◌++◌, length, get_or, refl, sym, ap, ◌∙◌, arith, eq-eqb, Option, Some, None, is_some}
 use Rattle.std.proofs.lemmas.Bool.{false≢true, cases_Bool, eqb-true}
 use Rattle.std.specs.List.{All}
-use Rattle.mdp_rows.specs.Preds.{is_among}
-use Rattle.mdp_rows.specs.declared.preds.Pred.{Pred}
-use Rattle.mdp_graph.specs.declared.forest.Way.{Way}
-use Rattle.mdp_graph.specs.Waiting.{is_one_of}
-use Rattle.mdp_graph.specs.Forest.{way_at, is_cut, IsCut, AreKnown, IsPruned, IsUncut}
+use Rattle.mdp_rows.specs.{Preds.{is_among}, declared.preds.Pred.{Pred}}
+use Rattle.mdp_graph.specs.{declared.forest.Way.{Way}, Waiting.{is_one_of}, Forest.{way_at, is_cut, IsCut, AreKnown, IsPruned, IsUncut}}
 use Rattle.mdp_graph.proofs.Among.{among-append, among-below}
 use Rattle.mdp_math.proofs.Booleans.{or-true, or-false, and-true, and-both}
 

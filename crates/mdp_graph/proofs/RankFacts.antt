@@ -1,15 +1,11 @@
 -- The ranks and the last layer of a search, layer by layer.
 use Rattle.std.proofs.Common.{◌≡◌, ◌≢◌, ◌⊎◌, inl, inr, ℕ, ◌+◌, ◌<◌, ◌≤◌, Bool, true, false, ◌||◌, ◌&&◌, ◌==◌, le-leb, cond, List, [], ◌∷◌, ◌++◌, length, get_or}
 use Rattle.std.proofs.Common.{replicate, refl, sym, ap, subst, ◌∙◌, arith, eq-eqb, Option, Some, None, is_none}
-use Rattle.std.proofs.lemmas.Bool.{ne_eqb, false≢true, cases_Bool, cases_eq}
-use Rattle.std.proofs.lemmas.List.{length-replicate, get_or-replicate}
+use Rattle.std.proofs.{lemmas.Bool.{ne_eqb, false≢true, cases_Bool, cases_eq}, lemmas.List.{length-replicate, get_or-replicate}}
 use Rattle.std.proofs.lemmas.List.Folds.{sum_by-replicate}
 use borrow.Author.Tests.{leb-true}
 use Rattle.mdp_rows.specs.Preds.{is_among}
-use Rattle.mdp_graph.specs.Sets.{marked}
-use Rattle.mdp_graph.specs.Edges.{has_edge, predecessors_of}
-use Rattle.mdp_graph.specs.Layers.{rank_at, at_most}
-use Rattle.mdp_graph.specs.Ranking.{given, unranked, IsGiven, AreRankedBy}
+use Rattle.mdp_graph.specs.{Sets.{marked}, Edges.{has_edge, predecessors_of}, Layers.{rank_at, at_most}, Ranking.{given, unranked, IsGiven, AreRankedBy}}
 use Rattle.mdp_graph.proofs.Among.{cases_rank, among-append}
 use Rattle.mdp_math.proofs.Booleans.{or-true, or-false}
 

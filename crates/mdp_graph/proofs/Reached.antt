@@ -2,9 +2,7 @@
 use Rattle.std.proofs.Common.{◌≡◌, inl, inr, ℕ, suc, zero, ◌+◌, ◌<◌, ◌≤◌, Bool, true, ◌||◌, le-leb, List, refl, sym, ap, ◌∙◌, arith, Option, Some, None}
 use Rattle.std.proofs.lemmas.Bool.{false≢true, cases_Bool}
 use borrow.Author.Tests.{leb-true}
-use Rattle.mdp_graph.specs.Edges.{has_edge}
-use Rattle.mdp_graph.specs.Layers.{reached, rank_at, at_most, AreRanks}
-use Rattle.mdp_graph.specs.Ranking.{AreRankedBy}
+use Rattle.mdp_graph.specs.{Edges.{has_edge}, Layers.{reached, rank_at, at_most, AreRanks}, Ranking.{AreRankedBy}}
 use Rattle.mdp_math.proofs.Booleans.{or-true, same_truth}
 
 -- a rank of at most k

@@ -1,7 +1,6 @@
 -- States that are reached after more steps.
 use Rattle.std.proofs.Common.{◌≡◌, ℕ, suc, zero, ◌+◌, ◌<◌, Bool, true, false, ◌||◌, List, sym, ap, ◌∙◌, arith}
-use Rattle.mdp_graph.specs.Sets.{marked}
-use Rattle.mdp_graph.specs.Layers.{reached, AreReached}
+use Rattle.mdp_graph.specs.{Sets.{marked}, Layers.{reached, AreReached}}
 use Rattle.mdp_math.proofs.Booleans.{or-true}
 
 pub step-reaches : (step : (ℕ → Bool) → ℕ → Bool) (first : ℕ → Bool) (k s : ℕ) → step (reached step first k) s ≡ true → reached step first (suc k) s ≡ true

@@ -1,22 +1,17 @@
 -- Choices that stop waiting, one after the other.
 use Rattle.std.proofs.Common.{◌≡◌, ◌≢◌, inl, inr, ℕ, zero, suc, ◌+◌, ◌-◌, ◌<◌, Bool, true, false}
 use Rattle.std.proofs.Common.{◌||◌, ◌&&◌, ◌==◌, not, cond, List, [], ◌∷◌, ◌++◌, length, map, replicate, take}
-use Rattle.std.proofs.Common.{get_or, set, refl, sym, ap, ◌∙◌, arith, eq-eqb, Option, is_none}
-use Rattle.std.specs.List.{list_any, range_with_len, flat_map}
-use Rattle.std.proofs.lemmas.Bool.{ne_eqb, false≢true, cases_eq}
+use Rattle.std.proofs.{Common.{get_or, set, refl, sym, ap, ◌∙◌, arith, eq-eqb, Option, is_none}, lemmas.Bool.{ne_eqb, false≢true, cases_eq}}
 use Rattle.std.proofs.lemmas.List.{get_or-map, length-map, length-replicate, get_or-replicate, get_or-set_other, length-set, map-set, take_more, append-nil}
-use Rattle.std.proofs.lemmas.List.Folds.{sum_by-replicate, list_any-append}
-use Rattle.std.proofs.lemmas.List.FromFn.{length-map-range_with_len, get_or-map-range_with_len}
-use Rattle.std.proofs.lemmas.List.Sums.{sum_by-cons, sum_by-set}
-use Rattle.std.proofs.lemmas.Grind.{get_or-set_at, flat_map-append}
+use Rattle.std.proofs.{lemmas.List.Folds.{sum_by-replicate, list_any-append}, lemmas.List.FromFn.{length-map-range_with_len, get_or-map-range_with_len}}
+use Rattle.std.proofs.{lemmas.List.Sums.{sum_by-cons, sum_by-set}, lemmas.Grind.{get_or-set_at, flat_map-append}}
+use Rattle.std.specs.List.{list_any, range_with_len, flat_map}
 use Rattle.mdp_spec.specs.Mdp.{Mdp, states_of, choices_at, row_at}
-use Rattle.mdp_rows.specs.Preds.{is_among, pair}
-use Rattle.mdp_rows.specs.declared.preds.Pred.{Pred}
+use Rattle.mdp_rows.specs.{Preds.{is_among, pair}, declared.preds.Pred.{Pred}}
 use Rattle.mdp_graph.specs.Layers.{rank_at}
 use Rattle.mdp_graph.specs.Waiting.{waits, some_waits, count_waiting, all_wait, AreWaiting, is_one_of, AreWithin, AreReleased, AreMet, leading_to}
-use Rattle.mdp_graph.proofs.Among.{among-append}
+use Rattle.mdp_graph.proofs.{Among.{among-append}, RowSets.{list_any-at, list_any-by, enters-never}}
 use Rattle.mdp_math.proofs.Booleans.{or-true, or-false, and-false, and-true, and-left, and-both, same_truth}
-use Rattle.mdp_graph.proofs.RowSets.{list_any-at, list_any-by, enters-never}
 
 -- ---- before the first release
 

@@ -1,20 +1,13 @@
 -- The steps of the passes lead from more states where they may lead to more, and the choices of shortest ways exist.
-use Rattle.std.proofs.Common.{◌≡◌, ℕ, ◌<◌, Bool, true, ◌&&◌, not, List, [], map, replicate}
-use Rattle.std.proofs.Common.{Option, is_some, refl, ◌∙◌, ap}
-use Rattle.std.specs.Prelude.{slice_index_or}
-use Rattle.std.specs.List.{All}
+use Rattle.std.proofs.Common.{◌≡◌, ℕ, ◌<◌, Bool, true, ◌&&◌, not, List, [], map, replicate, Option, is_some, refl, ◌∙◌, ap}
+use Rattle.std.specs.{Prelude.{slice_index_or}, List.{All}}
 use Rattle.mdp_math.proofs.Booleans.{and-left, and-right, and-both}
-use Rattle.mdp_spec.specs.Mdp.{Mdp, Entry, Choice, no_choice, states_of, choices_at, row_at}
-use Rattle.mdp_spec.specs.Row.{IsMdp}
-use Rattle.mdp_graph.specs.Sets.{marked, can_enter, stays_in, some_choice}
-use Rattle.mdp_graph.specs.Layers.{rank_at, AreRanks}
-use Rattle.mdp_graph.specs.Choices.{plain_rank, is_before, may_fall, first_passing, AreLeast}
-use Rattle.mdp_graph.specs.Reach.{may_step, row_step, falls}
-use Rattle.mdp_graph.specs.Meet.{must_step}
+use Rattle.mdp_spec.specs.{Mdp.{Mdp, Entry, Choice, no_choice, states_of, choices_at, row_at}, Row.{IsMdp}}
+use Rattle.mdp_graph.specs.{Sets.{marked, can_enter, stays_in, some_choice}, Layers.{rank_at, AreRanks}}
+use Rattle.mdp_graph.specs.{Choices.{plain_rank, is_before, may_fall, first_passing, AreLeast}, Reach.{may_step, row_step, falls}, Meet.{must_step}}
 use Rattle.mdp_graph.specs.Sure.{inside_step}
 use Rattle.mdp_graph.proofs.Passes.{least_choices, falls-is}
-use Rattle.mdp_graph.proofs.RowSets.{list_any-at, list_any-by, list_all-at, list_all-by, enters-at, enters-by, stays-everywhere}
-use Rattle.mdp_graph.proofs.StepsInside.{step-more}
+use Rattle.mdp_graph.proofs.{RowSets.{list_any-at, list_any-by, list_all-at, list_all-by, enters-at, enters-by, stays-everywhere}, StepsInside.{step-more}}
 use Rattle.mdp_graph.proofs.Settling.{Rises}
 
 -- ---- steps lead from more states where they may lead to more

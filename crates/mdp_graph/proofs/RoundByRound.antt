@@ -2,33 +2,18 @@
 use Rattle.std.proofs.Common.{◌≡◌, inl, inr, ℕ, zero, suc, ◌+◌, ◌<◌, ◌≤◌, ◌↔◌, Bool, true, false, ◌||◌, ◌&&◌}
 use Rattle.std.proofs.Common.{◌==◌, not, nat_lt, lt-ltb, le-ltb, eq-eqb, cond, List, [], ◌∷◌, ◌++◌, length, map, get_or}
 use Rattle.std.proofs.Common.{replicate, refl, sym, ap, ◌∙◌, arith, Option, Some, None, is_some, is_none}
-use Rattle.std.specs.List.{range_with_len}
-use Rattle.std.proofs.lemmas.Bool.{false≢true, cases_lt, cases_Bool, cases_eq, ne_eqb, eqb-true}
-use Rattle.std.proofs.lemmas.List.{get_or-replicate, length-replicate, length-map}
+use Rattle.std.proofs.{lemmas.Bool.{false≢true, cases_lt, cases_Bool, cases_eq, ne_eqb, eqb-true}, lemmas.List.{get_or-replicate, length-replicate, length-map}}
 use Rattle.std.proofs.lemmas.List.Folds.{sum_by-replicate}
-use Rattle.mdp_spec.specs.Mdp.{Mdp, states_of}
-use Rattle.mdp_spec.specs.Row.{IsMdp}
-use Rattle.mdp_rows.specs.Preds.{is_among}
-use Rattle.mdp_rows.specs.declared.preds.Pred.{Pred}
-use Rattle.mdp_graph.specs.declared.forest.Way.{Way}
-use Rattle.mdp_graph.specs.Sets.{marked}
-use Rattle.mdp_graph.specs.Layers.{rank_at}
-use Rattle.mdp_graph.specs.Choices.{plain_rank}
-use Rattle.mdp_graph.specs.Ranking.{given, unranked, IsGiven}
-use Rattle.mdp_graph.specs.Rounds.{left_after, CanStay, AreRounds}
-use Rattle.mdp_graph.specs.Waiting.{is_one_of, AreWaiting, leading_to}
+use Rattle.std.specs.List.{range_with_len}
+use Rattle.mdp_spec.specs.{Mdp.{Mdp, states_of}, Row.{IsMdp}}
+use Rattle.mdp_rows.specs.{Preds.{is_among}, declared.preds.Pred.{Pred}}
+use Rattle.mdp_graph.specs.{declared.forest.Way.{Way}, Sets.{marked}, Layers.{rank_at}, Choices.{plain_rank}, Ranking.{given, unranked, IsGiven}}
+use Rattle.mdp_graph.specs.{Rounds.{left_after, CanStay, AreRounds}, Waiting.{is_one_of, AreWaiting, leading_to}}
 use Rattle.mdp_graph.specs.Forest.{way_at, attached, IsUncut, IsForest, IsAttaching, AreFrom, AreKnown, all_preds}
-use Rattle.mdp_graph.specs.Falling.{left_by, left_at, IsFalling, IsRound}
-use Rattle.mdp_graph.proofs.Cutting.{led-none}
-use Rattle.mdp_graph.proofs.Growing.{nothing, attached_stays, stays_attached}
-use Rattle.mdp_graph.specs.NextLayer.{is_ranked}
-use Rattle.mdp_graph.proofs.NextMet.{in_preds}
-use Rattle.mdp_graph.proofs.PredLists.{list-is, led-in, led-back}
-use Rattle.mdp_graph.proofs.Passes.{plain-is}
-use Rattle.mdp_graph.proofs.Pruning.{cases_way, or-cases, or-left, or-right, some-in, way-in}
-use Rattle.mdp_graph.proofs.RankFacts.{some-same}
-use Rattle.mdp_graph.proofs.LeftAfter.{stays-alike}
-use Rattle.mdp_graph.proofs.StepsInside.{reached-more}
+use Rattle.mdp_graph.specs.{Falling.{left_by, left_at, IsFalling, IsRound}, NextLayer.{is_ranked}}
+use Rattle.mdp_graph.proofs.{Cutting.{led-none}, Growing.{nothing, attached_stays, stays_attached}, NextMet.{in_preds}, PredLists.{list-is, led-in, led-back}}
+use Rattle.mdp_graph.proofs.{Passes.{plain-is}, Pruning.{cases_way, or-cases, or-left, or-right, some-in, way-in}, RankFacts.{some-same}}
+use Rattle.mdp_graph.proofs.{LeftAfter.{stays-alike}, StepsInside.{reached-more}}
 use Rattle.mdp_math.proofs.Booleans.{or-false, and-right, and-both, same_truth, not_true, not-not}
 
 among-range : (s a n : ℕ) → a ≤ s → s < a + n → is_among s (range_with_len a n) ≡ true

@@ -1,19 +1,12 @@
 -- The rounds at the states outside the greatest sure set.
 use Rattle.std.proofs.Common.{◌≡◌, ◌⊎◌, inl, inr, ℕ, suc, zero, ◌+◌, ◌<◌, ◌≤◌, Bool, true, false, ◌||◌, ◌&&◌, ◌==◌, nat_lt, lt-ltb, le-ltb, eq-eqb, List, [], ◌∷◌, length}
-use Rattle.std.proofs.Common.{get_or, refl, sym, ap, ◌∙◌, arith}
-use Rattle.std.proofs.lemmas.Bool.{false≢true, cases_lt, ne_eqb, cases_Bool, cases_eq}
-use Rattle.mdp_spec.specs.Mdp.{Mdp, states_of, choices_at, row_at}
-use Rattle.mdp_spec.specs.Row.{IsMdp}
-use Rattle.mdp_graph.specs.Sets.{marked, can_enter, stays_in}
-use Rattle.mdp_graph.specs.Layers.{reached}
-use Rattle.mdp_graph.specs.Sure.{inside_step, IsSure}
-use Rattle.mdp_graph.specs.Rounds.{left_after, AreRounds}
+use Rattle.std.proofs.{Common.{get_or, refl, sym, ap, ◌∙◌, arith}, lemmas.Bool.{false≢true, cases_lt, ne_eqb, cases_Bool, cases_eq}}
+use Rattle.mdp_spec.specs.{Mdp.{Mdp, states_of, choices_at, row_at}, Row.{IsMdp}}
+use Rattle.mdp_graph.specs.{Sets.{marked, can_enter, stays_in}, Layers.{reached}, Sure.{inside_step, IsSure}, Rounds.{left_after, AreRounds}}
 use Rattle.mdp_graph.specs.Laws.{earlier, RoundsFall, ZeroIsSure}
-use Rattle.mdp_graph.proofs.Reaching.{step-reaches}
-use Rattle.mdp_graph.proofs.StepsInside.{choice-inside, reached-more}
-use Rattle.mdp_graph.proofs.LeftAfter.{left-top, stays-alike}
-use Rattle.mdp_math.proofs.Booleans.{or-true, and-both, same_truth}
+use Rattle.mdp_graph.proofs.{Reaching.{step-reaches}, StepsInside.{choice-inside, reached-more}, LeftAfter.{left-top, stays-alike}}
 use Rattle.mdp_graph.proofs.RowSets.{enters-by, stays-outside, stays-fails}
+use Rattle.mdp_math.proofs.Booleans.{or-true, and-both, same_truth}
 
 -- a state that isn't earlier than one of round i + 1 was left after round i; where it has another round, also after round i + 1
 later-left : (i r : ℕ) → (nat_lt 0 r && nat_lt r (suc i)) ≡ false → ((r == 0) || nat_lt i r) ≡ true

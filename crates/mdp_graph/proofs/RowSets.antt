@@ -1,8 +1,7 @@
 -- Lists with a test, and rows that enter a set of states or stay in it.
 use Rattle.std.proofs.Common.{◌≡◌, inl, inr, ℕ, suc, zero, ◌<◌, Bool, true, false, ◌||◌, ◌&&◌, ◌==◌, List, [], ◌∷◌, length, get_or, replicate, refl, sym, ap, ◌∙◌, arith, eq-eqb, pos}
+use Rattle.std.proofs.{lemmas.Bool.{false≢true, eqb-true, ne_eqb, cases_Bool, cases_eq}, lemmas.List.{get_or-replicate}}
 use Rattle.std.specs.List.{list_any, list_all, All}
-use Rattle.std.proofs.lemmas.Bool.{false≢true, eqb-true, ne_eqb, cases_Bool, cases_eq}
-use Rattle.std.proofs.lemmas.List.{get_or-replicate}
 use Rattle.mdp_math.specs.Rational.{of_int}
 use Rattle.mdp_math.proofs.Booleans.{or-true, and-false, and-left, and-right, and-both, or-left_false, or-right_false}
 use Rattle.mdp_spec.specs.Mdp.{Entry}

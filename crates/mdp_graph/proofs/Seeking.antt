@@ -1,13 +1,9 @@
 -- Ways that are looked for.
 use Rattle.std.proofs.Common.{◌≡◌, inl, inr, ℕ, ◌+◌, ◌<◌, Bool, true, false, ◌&&◌, not, List, [], ◌∷◌, ◌++◌, length, get_or, ap, sym, subst, ◌∙◌, arith, Option, Some, None, is_some}
-use Rattle.std.proofs.lemmas.List.{length-append, get_or_append_left}
-use Rattle.std.proofs.Math.Seq.{get_or-append_seam}
-use Rattle.std.proofs.lemmas.Bool.{false≢true, cases_eq}
+use Rattle.std.proofs.{lemmas.List.{length-append, get_or_append_left}, Math.Seq.{get_or-append_seam}, lemmas.Bool.{false≢true, cases_eq}}
 use Rattle.mdp_spec.specs.Mdp.{Mdp, states_of, choices_at, row_at}
 use Rattle.mdp_rows.specs.Preds.{leads_to}
-use Rattle.mdp_graph.specs.declared.forest.Way.{Way}
-use Rattle.mdp_graph.specs.Waiting.{waits}
-use Rattle.mdp_graph.specs.Forest.{way_at, attached, IsStep, IsFound, IsGrown}
+use Rattle.mdp_graph.specs.{declared.forest.Way.{Way}, Waiting.{waits}, Forest.{way_at, attached, IsStep, IsFound, IsGrown}}
 use Rattle.mdp_graph.proofs.Taking.{some-way, on, grown_next, IsFoundBelow, HasBelow}
 
 pub found_some : (m : Mdp) (goals : List Bool) (lists : List (List Bool)) (ways : List (Option Way)) (s : ℕ) (v : Way) → IsStep m lists s v → attached goals ways v.target ≡ true

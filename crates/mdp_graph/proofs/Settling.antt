@@ -1,14 +1,13 @@
 -- Sets of numbers below n that only grow settle. So each search by steps has ranks.
 use Rattle.std.proofs.Common.{◌≡◌, ◌⊎◌, inl, inr, ℕ, zero, suc, ◌+◌, ◌-◌, ◌<◌, ◌≤◌, Bool, true, false, ◌&&◌}
 use Rattle.std.proofs.Common.{not, nat_le, le-leb, cond, List, map, Option, Some, None, sym, ap, ◌∙◌, arith, zero-add}
-use Rattle.std.specs.List.{range_with_len}
 use Rattle.std.proofs.lemmas.Bool.{false≢true, cases_Bool, cases_lt, cases_eq, or_cases, or_right}
 use Rattle.std.proofs.lemmas.List.FromFn.{get_or-map-range_with_len, length-map-range_with_len}
+use Rattle.std.specs.List.{range_with_len}
 use borrow.Author.Tests.{leb-true}
 use Rattle.mdp_math.proofs.Booleans.{and-left, and-right, and-both, not_true, false_of_not, same_truth}
 use Rattle.mdp_graph.specs.Layers.{reached, at_most, AreRanks}
-use Rattle.mdp_graph.proofs.Falls.{case-any}
-use Rattle.mdp_graph.proofs.Reaching.{stays-reached, one-later}
+use Rattle.mdp_graph.proofs.{Falls.{case-any}, Reaching.{stays-reached, one-later}}
 
 -- ---- how many numbers below n are in a set
 

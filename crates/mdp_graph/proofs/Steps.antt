@@ -1,14 +1,10 @@
 -- Edges lead where steps lead.
 use Rattle.std.proofs.Common.{◌≡◌, ℕ, ◌<◌, Bool, true, ◌&&◌, not, List, [], length, get_or, replicate, sym, ◌∙◌}
-use Rattle.mdp_spec.specs.Mdp.{Entry, Choice, Mdp, no_choice, states_of, choices_at, row_at}
-use Rattle.mdp_spec.specs.Row.{IsMdp, AreRows}
+use Rattle.mdp_spec.specs.{Mdp.{Entry, Choice, Mdp, no_choice, states_of, choices_at, row_at}, Row.{IsMdp, AreRows}}
 use Rattle.mdp_rows.specs.Preds.{leads_to}
-use Rattle.mdp_graph.specs.Sets.{marked, can_enter, stays_in, some_choice}
-use Rattle.mdp_graph.specs.Edges.{has_edge, has_choice_to, leads}
-use Rattle.mdp_graph.specs.Reach.{may_step, row_step}
-use Rattle.mdp_graph.proofs.Reached.{LeadsAlong, Follows}
+use Rattle.mdp_graph.specs.{Sets.{marked, can_enter, stays_in, some_choice}, Edges.{has_edge, has_choice_to, leads}, Reach.{may_step, row_step}}
+use Rattle.mdp_graph.proofs.{Reached.{LeadsAlong, Follows}, RowSets.{list_any-at, list_any-by, enters-at, enters-by, stays-everywhere}}
 use Rattle.mdp_math.proofs.Booleans.{and-left, and-right, and-both}
-use Rattle.mdp_graph.proofs.RowSets.{list_any-at, list_any-by, enters-at, enters-by, stays-everywhere}
 
 -- a way to t is a choice
 pub way-choice : (m : Mdp) (inside : List Bool) (s t : ℕ) → has_choice_to m inside s t ≡ true

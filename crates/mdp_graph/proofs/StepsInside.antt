@@ -1,18 +1,10 @@
 -- Steps by choices that stay inside a set of states.
-use Rattle.std.proofs.Common.{◌≡◌, inl, inr, ℕ, suc, zero, ◌<◌, Bool, true, ◌||◌, ◌&&◌, List, length, sym, ap}
-use Rattle.std.proofs.Common.{◌∙◌, Option, is_some}
-use Rattle.std.proofs.lemmas.Bool.{cases_Bool}
-use Rattle.mdp_spec.specs.Mdp.{Choice, Mdp, no_choice, states_of, choices_at, row_at}
-use Rattle.mdp_spec.specs.Row.{IsMdp}
+use Rattle.std.proofs.{Common.{◌≡◌, inl, inr, ℕ, suc, zero, ◌<◌, Bool, true, ◌||◌, ◌&&◌, List, length, sym, ap, ◌∙◌, Option, is_some}, lemmas.Bool.{cases_Bool}}
+use Rattle.mdp_spec.specs.{Mdp.{Choice, Mdp, no_choice, states_of, choices_at, row_at}, Row.{IsMdp}}
 use Rattle.mdp_rows.specs.Preds.{leads_to}
-use Rattle.mdp_graph.specs.Sets.{marked, can_enter, stays_in}
-use Rattle.mdp_graph.specs.Edges.{has_edge, has_choice_to}
-use Rattle.mdp_graph.specs.Layers.{reached, rank_at, AreRanks}
-use Rattle.mdp_graph.specs.Sure.{inside_step}
-use Rattle.mdp_graph.proofs.Reached.{LeadsAlong, Follows, rank_of}
-use Rattle.mdp_graph.proofs.Steps.{way-choice}
+use Rattle.mdp_graph.specs.{Sets.{marked, can_enter, stays_in}, Edges.{has_edge, has_choice_to}, Layers.{reached, rank_at, AreRanks}, Sure.{inside_step}}
+use Rattle.mdp_graph.proofs.{Reached.{LeadsAlong, Follows, rank_of}, Steps.{way-choice}, RowSets.{list_any-at, list_any-by, enters-at, enters-by, stays-more}}
 use Rattle.mdp_math.proofs.Booleans.{or-true, and-left, and-right, and-both}
-use Rattle.mdp_graph.proofs.RowSets.{list_any-at, list_any-by, enters-at, enters-by, stays-more}
 
 -- a step inside is a choice
 pub inside-choice : (m : Mdp) (inside set : ℕ → Bool) (s : ℕ) → inside_step m inside set s ≡ true

@@ -1,16 +1,9 @@
 -- What sure_some answers, from the settled ranks.
-use Rattle.std.proofs.Common.{◌≡◌, ℕ, ◌<◌, Bool, true, ◌&&◌, List, map, sym, ap, ap₂, ◌∙◌, arith, Option, is_some}
-use Rattle.std.proofs.lemmas.List.{length-map}
-use Rattle.mdp_spec.specs.Mdp.{Mdp, states_of, row_at}
-use Rattle.mdp_spec.specs.Row.{IsMdp}
-use Rattle.mdp_graph.specs.Sets.{marked, stays_in}
-use Rattle.mdp_graph.specs.Layers.{reached, rank_at, AreLeastRanks}
-use Rattle.mdp_graph.specs.Choices.{plain_rank, may_fall, first_passing, AreLeast}
-use Rattle.mdp_graph.specs.Sure.{inside_step, IsGreatestSure, stays_and_falls}
-use Rattle.mdp_graph.specs.Settled.{IsSettled}
-use Rattle.mdp_graph.proofs.Reached.{rank_of, at_most-some}
-use Rattle.mdp_graph.proofs.Passes.{mark-is, has_rank, least_ranks, least_choices, falls-is}
-use Rattle.mdp_graph.proofs.StepsInside.{inside-choice}
+use Rattle.std.proofs.{Common.{◌≡◌, ℕ, ◌<◌, Bool, true, ◌&&◌, List, map, sym, ap, ap₂, ◌∙◌, arith, Option, is_some}, lemmas.List.{length-map}}
+use Rattle.mdp_spec.specs.{Mdp.{Mdp, states_of, row_at}, Row.{IsMdp}}
+use Rattle.mdp_graph.specs.{Sets.{marked, stays_in}, Layers.{reached, rank_at, AreLeastRanks}, Choices.{plain_rank, may_fall, first_passing, AreLeast}}
+use Rattle.mdp_graph.specs.{Sure.{inside_step, IsGreatestSure, stays_and_falls}, Settled.{IsSettled}}
+use Rattle.mdp_graph.proofs.{Reached.{rank_of, at_most-some}, Passes.{mark-is, has_rank, least_ranks, least_choices, falls-is}, StepsInside.{inside-choice}}
 
 module _ (m : Mdp) (goals : List Bool) (ranks : List (Option ℕ)) (f : IsSettled m goals ranks) where
   mark : (s : ℕ) → s < states_of m → marked (map is_some ranks) s ≡ is_some (rank_at ranks s)

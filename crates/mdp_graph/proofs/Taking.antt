@@ -1,19 +1,12 @@
 -- Ways that are given to states, one after the other.
 use Rattle.std.proofs.Common.{◌≡◌, ◌⊎◌, inl, inr, ℕ, ◌+◌, ◌<◌, Bool, true, false, ◌||◌, ◌&&◌, ◌==◌, not, cond, List, []}
 use Rattle.std.proofs.Common.{◌∷◌, ◌++◌, length, take, get_or, set, refl, sym, ap, ◌∙◌, arith, eq-eqb, Option, Some, None, is_some, is_none}
-use Rattle.std.proofs.lemmas.Bool.{false≢true, cases_eq, ne_eqb, eqb-true}
-use Rattle.std.proofs.lemmas.List.{length-set, get_or-set_other, length-append, take_more}
-use Rattle.std.proofs.lemmas.List.Sums.{sum_by-set}
-use Rattle.std.proofs.lemmas.Grind.{get_or-set_at}
-use Rattle.mdp_rows.specs.Preds.{is_among, pair}
-use Rattle.mdp_rows.specs.declared.preds.Pred.{Pred}
-use Rattle.mdp_graph.specs.declared.forest.Way.{Way}
-use Rattle.mdp_graph.specs.Sets.{marked}
-use Rattle.mdp_graph.specs.Waiting.{waits, is_one_of}
+use Rattle.std.proofs.{lemmas.Bool.{false≢true, cases_eq, ne_eqb, eqb-true}, lemmas.List.{length-set, get_or-set_other, length-append, take_more}}
+use Rattle.std.proofs.{lemmas.List.Sums.{sum_by-set}, lemmas.Grind.{get_or-set_at}}
+use Rattle.mdp_rows.specs.{Preds.{is_among, pair}, declared.preds.Pred.{Pred}}
+use Rattle.mdp_graph.specs.{declared.forest.Way.{Way}, Sets.{marked}, Waiting.{waits, is_one_of}}
 use Rattle.mdp_graph.specs.Forest.{way_at, attached, without_way, IsGrown, IsTaken, IsWayTo, HasWayTo, IsWayInto, HasWayInto}
-use Rattle.mdp_graph.proofs.Among.{among-append, among-more}
-use Rattle.mdp_graph.proofs.Growing.{still, not-yet}
-use Rattle.mdp_graph.proofs.Pruning.{cases_way, or-cases, or-left, or-right}
+use Rattle.mdp_graph.proofs.{Among.{among-append, among-more}, Growing.{still, not-yet}, Pruning.{cases_way, or-cases, or-left, or-right}}
 use Rattle.mdp_graph.proofs.Releasing.{one-of-append}
 use Rattle.mdp_math.proofs.Booleans.{or-false, and-left, and-right, and-both}
 

@@ -1,10 +1,8 @@
 -- Choices that lead to smaller ranks.
 use Rattle.std.specs.Prelude.{◌≡◌, ℕ, ◌<◌, ◌≤◌, ◌⊎◌, Bool, true, false, ◌&&◌, nat_lt, List, length, map, Option, Some, None, slice_index}
-use Rattle.std.specs.List.{find, range_with_len}
-use Rattle.std.specs.Option.{unwrap_or}
+use Rattle.std.specs.{List.{find, range_with_len}, Option.{unwrap_or}}
 use Rattle.mdp_spec.specs.Mdp.{Mdp, states_of, choices_at, row_at}
-use Rattle.mdp_graph.specs.Sets.{marked, can_enter, stays_in}
-use Rattle.mdp_graph.specs.Layers.{rank_at}
+use Rattle.mdp_graph.specs.{Sets.{marked, can_enter, stays_in}, Layers.{rank_at}}
 
 -- 0 where there is no rank
 abbrev pub plain_rank : Option ℕ → ℕ

@@ -2,11 +2,7 @@
 use Rattle.std.specs.Prelude.{◌≡◌, ℕ, ◌+◌, ◌<◌, ◌≤◌, ◌↔◌, Bool, true, false, ◌||◌, not, nat_lt, List, length, Option, Some, None, is_some}
 use Rattle.mdp_spec.specs.Mdp.{Mdp, states_of}
 use Rattle.mdp_rows.specs.Preds.{is_among}
-use Rattle.mdp_graph.specs.declared.forest.Way.{Way}
-use Rattle.mdp_graph.specs.Layers.{rank_at}
-use Rattle.mdp_graph.specs.Ranking.{unranked}
-use Rattle.mdp_graph.specs.Rounds.{CanStay}
-use Rattle.mdp_graph.specs.Waiting.{AreWaiting}
+use Rattle.mdp_graph.specs.{declared.forest.Way.{Way}, Layers.{rank_at}, Ranking.{unranked}, Rounds.{CanStay}, Waiting.{AreWaiting}}
 use Rattle.mdp_graph.specs.Forest.{attached, IsForest}
 
 -- whether a state of this round is left after round i

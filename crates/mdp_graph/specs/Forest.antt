@@ -1,13 +1,9 @@
 -- Ways of states towards the goals: of each state at most one choice and one of its targets.
 use Rattle.std.specs.Prelude.{◌≡◌, ℕ, ◌+◌, ◌<◌, ◌⊎◌, Bool, true, false, ◌||◌, ◌&&◌, ◌==◌, not}
-use Rattle.std.specs.Prelude.{List, [], length, Option, Some, None, cond, is_some, is_none, map, slice_index, slice_index_or}
-use Rattle.std.specs.List.{count_by, range_with_len}
+use Rattle.std.specs.{Prelude.{List, [], length, Option, Some, None, cond, is_some, is_none, map, slice_index, slice_index_or}, List.{count_by, range_with_len}}
 use Rattle.mdp_spec.specs.Mdp.{Mdp, states_of, choices_at, row_at}
-use Rattle.mdp_rows.specs.Preds.{is_among, leads_to, preds_to}
-use Rattle.mdp_rows.specs.declared.preds.Pred.{Pred}
-use Rattle.mdp_graph.specs.declared.forest.Way.{Way}
-use Rattle.mdp_graph.specs.Sets.{marked}
-use Rattle.mdp_graph.specs.Waiting.{waits, is_one_of}
+use Rattle.mdp_rows.specs.{Preds.{is_among, leads_to, preds_to}, declared.preds.Pred.{Pred}}
+use Rattle.mdp_graph.specs.{declared.forest.Way.{Way}, Sets.{marked}, Waiting.{waits, is_one_of}}
 
 -- the way of a state; whether it is a goal or has one
 abbrev pub way_at : List (Option Way) → ℕ → Option Way

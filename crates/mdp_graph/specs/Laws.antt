@@ -1,21 +1,12 @@
 -- What the passes are for, in terms of policies and of the rules of a certificate.
 use Rattle.std.specs.Prelude.{◌≡◌, ℕ, ◌<◌, ◌≤◌, pos, ◌⊎◌, Bool, true, false, not, ◌&&◌, ◌==◌, nat_lt, List, [], length, map, cond, slice_index, slice_index_or}
 use Rattle.std.specs.List.{range_with_len}
-use Rattle.mdp_spec.specs.Mdp.{Entry, Mdp, states_of, choices_at, row_at}
-use Rattle.mdp_spec.specs.Row.{IsMdp, AreRows}
-use Rattle.mdp_math.specs.Rational.{of_int, ◌+ℚ◌, ◌≤ℚ◌}
-use Rattle.mdp_spec.specs.Bounds.{part}
-use Rattle.mdp_spec.specs.Hit.{hit}
+use Rattle.mdp_spec.specs.{Mdp.{Entry, Mdp, states_of, choices_at, row_at}, Row.{IsMdp, AreRows}, Bounds.{part}, Hit.{hit}}
 use Rattle.mdp_spec.specs.Tree.{Tree, IsStrategy, IsPolicy, unfolded}
-use Rattle.mdp_graph.specs.Sets.{marked, can_enter, stays_in, some_choice}
-use Rattle.mdp_graph.specs.Layers.{reached, AreReached, AreLeastRanks}
-use Rattle.mdp_graph.specs.Choices.{AreLeast}
-use Rattle.mdp_graph.specs.Reach.{may_step, row_step, falls}
-use Rattle.mdp_graph.specs.Meet.{must_step}
-use Rattle.mdp_graph.specs.Sure.{inside_step, IsGreatestSure, stays_and_falls}
-use Rattle.mdp_graph.specs.Rounds.{AreRounds}
-use Rattle.mdp_graph.specs.Avoid.{IsGreatestAvoiding, keeps}
-use Rattle.mdp_graph.specs.SureAll.{IsSureAll}
+use Rattle.mdp_math.specs.Rational.{of_int, ◌+ℚ◌, ◌≤ℚ◌}
+use Rattle.mdp_graph.specs.{Sets.{marked, can_enter, stays_in, some_choice}, Layers.{reached, AreReached, AreLeastRanks}, Choices.{AreLeast}}
+use Rattle.mdp_graph.specs.{Reach.{may_step, row_step, falls}, Meet.{must_step}, Sure.{inside_step, IsGreatestSure, stays_and_falls}, Rounds.{AreRounds}}
+use Rattle.mdp_graph.specs.{Avoid.{IsGreatestAvoiding, keeps}, SureAll.{IsSureAll}}
 
 -- the choice that a policy takes at a state has a successor in the set
 abbrev pub policy_step : Mdp → List ℕ → (ℕ → Bool) → ℕ → Bool

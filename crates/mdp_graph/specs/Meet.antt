@@ -1,8 +1,7 @@
 -- States that meet a set whatever is chosen.
 use Rattle.std.specs.Prelude.{◌≡◌, ℕ, ◌<◌, Bool, true, false, List, length}
 use Rattle.mdp_spec.specs.Mdp.{Mdp, states_of, choices_at}
-use Rattle.mdp_graph.specs.Sets.{marked, can_enter, each_choice}
-use Rattle.mdp_graph.specs.Reach.{falls}
+use Rattle.mdp_graph.specs.{Sets.{marked, can_enter, each_choice}, Reach.{falls}}
 
 -- a state each choice of which has a successor in the set
 abbrev pub must_step : Mdp → (ℕ → Bool) → ℕ → Bool

@@ -1,13 +1,8 @@
 -- Ranks that are given layer by layer, while the choices wait for a successor with a rank.
 use Rattle.std.specs.Prelude.{◌≡◌, ℕ, ◌<◌, Bool, true, ◌&&◌, not, List, [], length, Option, is_none, is_some}
 use Rattle.mdp_spec.specs.Mdp.{Mdp, states_of}
-use Rattle.mdp_rows.specs.Preds.{is_among}
-use Rattle.mdp_rows.specs.declared.preds.Pred.{Pred}
-use Rattle.mdp_graph.specs.Layers.{rank_at}
-use Rattle.mdp_graph.specs.Ranking.{IsGiven}
-use Rattle.mdp_graph.specs.Meet.{must_step}
-use Rattle.mdp_graph.specs.Waiting.{AreWaiting, AreReleased, leading_to}
-use Rattle.mdp_graph.specs.Forest.{all_preds}
+use Rattle.mdp_rows.specs.{Preds.{is_among}, declared.preds.Pred.{Pred}}
+use Rattle.mdp_graph.specs.{Layers.{rank_at}, Ranking.{IsGiven}, Meet.{must_step}, Waiting.{AreWaiting, AreReleased, leading_to}, Forest.{all_preds}}
 
 -- the states that have a rank
 abbrev pub is_ranked : List (Option ℕ) → ℕ → Bool

@@ -1,11 +1,8 @@
 -- Ranks by the edges of a graph.
-use Rattle.std.specs.Prelude.{◌≡◌, ℕ, ◌+◌, ◌<◌, ◌⊎◌, Bool, true, List, length, Option, Some, None, cond, ◌||◌, ◌&&◌, is_none}
-use Rattle.std.specs.List.{count_by}
+use Rattle.std.specs.{Prelude.{◌≡◌, ℕ, ◌+◌, ◌<◌, ◌⊎◌, Bool, true, List, length, Option, Some, None, cond, ◌||◌, ◌&&◌, is_none}, List.{count_by}}
 use Rattle.mdp_spec.specs.Mdp.{Mdp, states_of}
 use Rattle.mdp_rows.specs.Preds.{is_among}
-use Rattle.mdp_graph.specs.Sets.{marked}
-use Rattle.mdp_graph.specs.Edges.{has_edge, leads}
-use Rattle.mdp_graph.specs.Layers.{rank_at, at_most}
+use Rattle.mdp_graph.specs.{Sets.{marked}, Edges.{has_edge, leads}, Layers.{rank_at, at_most}}
 
 -- each state of the first set has rank 0; any other has an edge to one of the rank before; an edge raises the rank by 1 at most
 pub record AreRankedBy (edges : List (List ℕ)) (first : ℕ → Bool) (n : ℕ) (ranks : List (Option ℕ)) : Type 0 where

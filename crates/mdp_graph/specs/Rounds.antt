@@ -1,9 +1,7 @@
 -- The rounds in which the states outside the greatest sure set are removed, from all states on.
 use Rattle.std.specs.Prelude.{◌≡◌, ℕ, ◌+◌, ◌<◌, ◌↔◌, Bool, true, ◌||◌, ◌==◌, nat_lt, List, length, slice_index}
 use Rattle.mdp_spec.specs.Mdp.{Mdp, states_of}
-use Rattle.mdp_graph.specs.Sets.{marked}
-use Rattle.mdp_graph.specs.Layers.{reached}
-use Rattle.mdp_graph.specs.Sure.{inside_step}
+use Rattle.mdp_graph.specs.{Sets.{marked}, Layers.{reached}, Sure.{inside_step}}
 
 -- the states that are left after i rounds: those of a later round, and those of round 0, which are never removed
 abbrev pub left_after : List ℕ → ℕ → ℕ → Bool

@@ -1,6 +1,5 @@
 -- Sets of states, each as the truth value of every state, and the choices that lead into a set or stay in it.
-use Rattle.std.specs.Prelude.{ℕ, Bool, false, List, slice_index_or}
-use Rattle.std.specs.List.{list_any, list_all}
+use Rattle.std.specs.{Prelude.{ℕ, Bool, false, List, slice_index_or}, List.{list_any, list_all}}
 use Rattle.mdp_spec.specs.Mdp.{Entry, Mdp, choices_at}
 
 -- the states that a list marks

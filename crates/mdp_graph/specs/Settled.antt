@@ -1,9 +1,7 @@
 -- The ranks after the last round of `sure_some`.
 use Rattle.std.specs.Prelude.{◌≡◌, ℕ, ◌<◌, Bool, true, List, map, Option, is_some}
 use Rattle.mdp_spec.specs.Mdp.{Mdp, states_of}
-use Rattle.mdp_graph.specs.Sets.{marked}
-use Rattle.mdp_graph.specs.Layers.{rank_at, AreRanks}
-use Rattle.mdp_graph.specs.Sure.{inside_step, IsSure}
+use Rattle.mdp_graph.specs.{Sets.{marked}, Layers.{rank_at, AreRanks}, Sure.{inside_step, IsSure}}
 
 -- the states with a rank are those that reach a goal among themselves, and each sure set is among them
 pub record IsSettled (m : Mdp) (goals : List Bool) (ranks : List (Option ℕ)) : Type 0 where

@@ -1,9 +1,7 @@
 -- The states from which some policy reaches a goal with certainty (de Alfaro 1997; Baier and Katoen 2008, section 10.6).
 use Rattle.std.specs.Prelude.{◌≡◌, ℕ, ◌<◌, Bool, true, ◌&&◌, List, length}
 use Rattle.mdp_spec.specs.Mdp.{Mdp, states_of, row_at}
-use Rattle.mdp_graph.specs.Sets.{marked, can_enter, stays_in, some_choice}
-use Rattle.mdp_graph.specs.Layers.{reached}
-use Rattle.mdp_graph.specs.Reach.{falls}
+use Rattle.mdp_graph.specs.{Sets.{marked, can_enter, stays_in, some_choice}, Layers.{reached}, Reach.{falls}}
 
 -- a state with a choice all of whose successors are inside and one of whose successors is in the set
 abbrev pub inside_step : Mdp → (ℕ → Bool) → (ℕ → Bool) → ℕ → Bool

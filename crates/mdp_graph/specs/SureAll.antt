@@ -1,11 +1,7 @@
 -- The states from which every policy reaches a goal with certainty.
 use Rattle.std.specs.Prelude.{◌≡◌, ℕ, ◌<◌, ◌↔◌, Bool, true, false, List, length, Option, is_some, map}
 use Rattle.mdp_spec.specs.Mdp.{Mdp, states_of}
-use Rattle.mdp_graph.specs.Sets.{marked}
-use Rattle.mdp_graph.specs.Layers.{reached, AreLeastRanks}
-use Rattle.mdp_graph.specs.Choices.{plain_rank}
-use Rattle.mdp_graph.specs.Reach.{may_step}
-use Rattle.mdp_graph.specs.Meet.{must_step}
+use Rattle.mdp_graph.specs.{Sets.{marked}, Layers.{reached, AreLeastRanks}, Choices.{plain_rank}, Reach.{may_step}, Meet.{must_step}}
 use Rattle.mdp_graph.specs.Avoid.{IsGreatestAvoiding}
 
 -- the marked states are those that reach none of the avoiding states without passing a goal

@@ -2,10 +2,8 @@
 use Rattle.std.specs.Prelude.{◌≡◌, ℕ, ◌<◌, Bool, true, ◌||◌, ◌&&◌, ◌==◌, not, List, [], length, replicate, Option, is_none, slice_index_or}
 use Rattle.std.specs.List.{list_any, count_by, flat_map}
 use Rattle.mdp_spec.specs.Mdp.{Mdp, states_of, choices_at, row_at}
-use Rattle.mdp_rows.specs.Preds.{is_among}
-use Rattle.mdp_rows.specs.declared.preds.Pred.{Pred}
-use Rattle.mdp_graph.specs.Sets.{marked, can_enter}
-use Rattle.mdp_graph.specs.Layers.{rank_at}
+use Rattle.mdp_rows.specs.{Preds.{is_among}, declared.preds.Pred.{Pred}}
+use Rattle.mdp_graph.specs.{Sets.{marked, can_enter}, Layers.{rank_at}}
 
 -- a truth value for each choice of each state: whether it waits; how many choices of a state do
 abbrev pub waits : List (List Bool) → ℕ → ℕ → Bool

@@ -1,9 +1,6 @@
 ghost use Rattle.std.specs.Prelude.{◌≡◌, ◌<◌, ℕ, None, length, cond, replicate, IfOk};
 ghost use Rattle.mdp_spec.specs.Mdp.{states_of};
-ghost use Rattle.mdp_graph.specs.Sets.{marked};
-ghost use Rattle.mdp_graph.specs.Layers.{rank_at, AreLeastRanks};
-ghost use Rattle.mdp_graph.specs.Meet.{must_step};
-ghost use Rattle.mdp_graph.specs.SureAll.{IsSureAll, AreSureRanks};
+ghost use Rattle.mdp_graph.specs.{Sets.{marked}, Layers.{rank_at, AreLeastRanks}, Meet.{must_step}, SureAll.{IsSureAll, AreSureRanks}};
 
 use crate::avoid::marks_without;
 use crate::meet::meeting_ranks;

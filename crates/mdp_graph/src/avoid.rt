@@ -1,10 +1,7 @@
 ghost use Rattle.std.specs.Prelude.{◌≡◌, ◌<◌, length, map, is_none, replicate, IfOk};
 ghost use Rattle.mdp_spec.specs.Mdp.{states_of, choices_at};
-ghost use Rattle.mdp_graph.specs.Sets.{marked};
-ghost use Rattle.mdp_graph.specs.Layers.{AreRanks, AreReached, AreLeastRanks};
-ghost use Rattle.mdp_graph.specs.Choices.{first_below, first_passing, AreLeast};
-ghost use Rattle.mdp_graph.specs.Meet.{must_step, AllFall};
-ghost use Rattle.mdp_graph.specs.Avoid.{IsGreatestAvoiding, keeps};
+ghost use Rattle.mdp_graph.specs.{Sets.{marked}, Layers.{AreRanks, AreReached, AreLeastRanks}, Choices.{first_below, first_passing, AreLeast}};
+ghost use Rattle.mdp_graph.specs.{Meet.{must_step, AllFall}, Avoid.{IsGreatestAvoiding, keeps}};
 
 use crate::meet::{meeting_pass, meeting_ranks};
 use crate::pass::{Pass, zeros};

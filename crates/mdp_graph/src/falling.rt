@@ -1,16 +1,8 @@
-ghost use Rattle.std.specs.Prelude.{◌≡◌, ◌<◌, ◌+◌, ◌==◌, ℕ, false, [], length, map, replicate, slice_index_or, IfOk};
-ghost use Rattle.std.specs.List.{All, range_with_len};
+ghost use Rattle.std.specs.{Prelude.{◌≡◌, ◌<◌, ◌+◌, ◌==◌, ℕ, false, [], length, map, replicate, slice_index_or, IfOk}, List.{All, range_with_len}};
 ghost use Rattle.mdp_spec.specs.Mdp.{states_of};
-ghost use Rattle.mdp_graph.specs.Sets.{marked};
-ghost use Rattle.mdp_graph.specs.Layers.{AreLeastRanks};
-ghost use Rattle.mdp_graph.specs.Choices.{plain_rank, AreLeast};
-ghost use Rattle.mdp_graph.specs.Sure.{inside_step, IsGreatestSure, stays_and_falls};
-ghost use Rattle.mdp_graph.specs.Rounds.{AreRounds};
-ghost use Rattle.mdp_graph.specs.Ranking.{unranked};
-ghost use Rattle.mdp_graph.specs.Waiting.{leading_to};
-ghost use Rattle.mdp_graph.specs.Forest.{AreFrom, AreKnown, IsUncut, IsForest, AreWide, all_preds, IsAttaching};
-ghost use Rattle.mdp_graph.specs.Falling.{IsRound};
-ghost use Rattle.mdp_graph.specs.NextLayer.{AreLayers};
+ghost use Rattle.mdp_graph.specs.{Sets.{marked}, Layers.{AreLeastRanks}, Choices.{plain_rank, AreLeast}, Sure.{inside_step, IsGreatestSure, stays_and_falls}};
+ghost use Rattle.mdp_graph.specs.{Rounds.{AreRounds}, Ranking.{unranked}, Waiting.{leading_to}};
+ghost use Rattle.mdp_graph.specs.{Forest.{AreFrom, AreKnown, IsUncut, IsForest, AreWide, all_preds, IsAttaching}, Falling.{IsRound}, NextLayer.{AreLayers}};
 
 use crate::forest::{Way, attach_all, cut_below, cut_choices, found_ways, take_found, unattached};
 use crate::layers::Layers;

@@ -1,8 +1,6 @@
-ghost use Rattle.std.specs.Prelude.{◌≡◌, ◌<◌, ℕ, Bool, length, map, is_some, replicate, IfOk};
-ghost use Rattle.std.specs.List.{All, list_any};
+ghost use Rattle.std.specs.{Prelude.{◌≡◌, ◌<◌, ℕ, Bool, length, map, is_some, replicate, IfOk}, List.{All, list_any}};
 ghost use Rattle.mdp_spec.specs.Mdp.{states_of, choices_at};
-ghost use Rattle.mdp_graph.specs.Sets.{marked};
-ghost use Rattle.mdp_graph.specs.Layers.{rank_at, AreRanks, AreReached, AreLeastRanks};
+ghost use Rattle.mdp_graph.specs.{Sets.{marked}, Layers.{rank_at, AreRanks, AreReached, AreLeastRanks}};
 ghost use Rattle.mdp_graph.specs.Choices.{plain_rank, is_before, may_fall, first_below, first_passing};
 
 use crate::predecessors::all_marked;

@@ -1,9 +1,6 @@
-ghost use Rattle.std.specs.Prelude.{◌≡◌, ◌<◌, ◌+◌, ℕ, true, [], length, replicate, IfOk, OnOk};
-ghost use Rattle.std.specs.List.{All};
+ghost use Rattle.std.specs.{Prelude.{◌≡◌, ◌<◌, ◌+◌, ℕ, true, [], length, replicate, IfOk, OnOk}, List.{All}};
 ghost use Rattle.mdp_rows.specs.Preds.{is_among};
-ghost use Rattle.mdp_graph.specs.Sets.{marked};
-ghost use Rattle.mdp_graph.specs.Edges.{AreEdges, predecessors_of};
-ghost use Rattle.mdp_graph.specs.Ranking.{AreRankedBy, IsGiven};
+ghost use Rattle.mdp_graph.specs.{Sets.{marked}, Edges.{AreEdges, predecessors_of}, Ranking.{AreRankedBy, IsGiven}};
 
 use crate::predecessors::Predecessors;
 use mdp_rows::Marks;

@@ -1,9 +1,6 @@
 ghost use Rattle.std.specs.Prelude.{◌≡◌, length, true, replicate, IfOk};
 ghost use Rattle.mdp_spec.specs.Mdp.{states_of};
-ghost use Rattle.mdp_graph.specs.Sets.{marked};
-ghost use Rattle.mdp_graph.specs.Layers.{AreRanks, AreReached, AreLeastRanks};
-ghost use Rattle.mdp_graph.specs.Choices.{AreLeast};
-ghost use Rattle.mdp_graph.specs.Reach.{may_step, row_step, falls};
+ghost use Rattle.mdp_graph.specs.{Sets.{marked}, Layers.{AreRanks, AreReached, AreLeastRanks}, Choices.{AreLeast}, Reach.{may_step, row_step, falls}};
 ghost use Rattle.mdp_graph.specs.Ranking.{AreRanksAlong};
 
 use crate::pass::Pass;

@@ -1,9 +1,6 @@
 ghost use Rattle.std.specs.Prelude.{◌≡◌, length, IfOk};
 ghost use Rattle.mdp_spec.specs.Mdp.{states_of};
-ghost use Rattle.mdp_graph.specs.Sets.{marked};
-ghost use Rattle.mdp_graph.specs.Layers.{AreRanks, AreLeastRanks};
-ghost use Rattle.mdp_graph.specs.Choices.{AreLeast};
-ghost use Rattle.mdp_graph.specs.Sure.{inside_step, IsGreatestSure, stays_and_falls};
+ghost use Rattle.mdp_graph.specs.{Sets.{marked}, Layers.{AreRanks, AreLeastRanks}, Choices.{AreLeast}, Sure.{inside_step, IsGreatestSure, stays_and_falls}};
 
 use crate::falling::{SureRounds, sure_rounds};
 use crate::pass::Pass;

@@ -1,22 +1,15 @@
 -- What the values and the table of written backward induction mean, that they are the only ones, and that they lie between bounds.
 use Rattle.std.proofs.Common.{◌≡◌, ℕ, ◌<◌, Bool, List, length, Option, Ok, Result, Err, IfOk, subst}
 use Rattle.mdp_math.specs.Rational.{ℚ}
-use Rattle.mdp_spec.specs.Mdp.{Mdp}
-use Rattle.mdp_spec.specs.Row.{IsMdp}
-use Rattle.mdp_rows.specs.declared.dir.Dir.{Dir}
-use Rattle.mdp_rows.specs.declared.dir.Dir.TheVariants.{Max, Min}
-use Rattle.mdp_horizon.specs.Objective.{Objective}
-use Rattle.mdp_horizon.specs.Objective.Objective.{until, total}
-use Rattle.mdp_horizon.specs.Bounds.{BoundedMax, BoundedMin, TotalMax, TotalMin}
+use Rattle.mdp_spec.specs.{Mdp.{Mdp}, Row.{IsMdp}}
+use Rattle.mdp_rows.specs.{declared.dir.Dir.{Dir}, declared.dir.Dir.TheVariants.{Max, Min}}
+use Rattle.mdp_horizon.specs.{Objective.{Objective}, Objective.Objective.{until, total}, Bounds.{BoundedMax, BoundedMin, TotalMax, TotalMin}}
 use Rattle.mdp_horizon.specs.Between.{MaxBetween, MinBetween}
 use Rattle.mdp_horizon.specs.Laws.{AnswersAreGreatest, AnswersAreLeast, HasOneGreatest, HasOneLeast, TotalsAreGreatest, TotalsAreLeast, HasOneGreatestTotal, HasOneLeastTotal}
 use Rattle.mdp_horizon.specs.Laws.{GreatestLies, LeastLies, GreatestTotalLies, LeastTotalLies}
-use Rattle.mdp_horizon.specs.Written.{Answer, Place, written_values, written_until, written_total}
-use Rattle.mdp_horizon.specs.Answer.{Answers, plain}
-use Rattle.mdp_horizon.specs.declared.bounded.Bounded.{Bounded}
-use Rattle.mdp_horizon.specs.Errors.{HorizonError}
-use Rattle.mdp_horizon.proofs.Backward.{IsBest, HasBounds, best_of_halves, best-one, best-bounded}
-use Rattle.mdp_horizon.proofs.Exact.{written_is_exact}
+use Rattle.mdp_horizon.specs.{Written.{Answer, Place, written_values, written_until, written_total}, Answer.{Answers, plain}}
+use Rattle.mdp_horizon.specs.{declared.bounded.Bounded.{Bounded}, Errors.{HorizonError}}
+use Rattle.mdp_horizon.proofs.{Backward.{IsBest, HasBounds, best_of_halves, best-one, best-bounded}, Exact.{written_is_exact}}
 
 -- ---- any objective
 

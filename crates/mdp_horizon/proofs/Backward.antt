@@ -2,22 +2,14 @@
 -- them, meets the values.
 use Rattle.std.proofs.Common.{◌≡◌, ℕ, zero, suc, ◌<◌, List, [], ◌∷◌, length, map, get_or, Option, Some, sym, subst, arith}
 use Rattle.std.specs.List.{All}
-use Rattle.mdp_math.specs.Rational.{ℚ}
-use Rattle.mdp_math.specs.Sum.{EachAt}
-use Rattle.mdp_math.proofs.Kernel.{All-head, All-tail}
-use Rattle.mdp_math.proofs.SumsAt.{EachAt_mono, EachAt_both}
-use Rattle.mdp_spec.specs.Mdp.{Mdp, states_of, choices_at, row_at, value_at}
-use Rattle.mdp_spec.specs.Row.{IsRow, IsMdp}
-use Rattle.mdp_spec.specs.Tree.{Tree, Fits, IsPolicy, IsStrategy, target_at}
+use Rattle.mdp_math.specs.{Rational.{ℚ}, Sum.{EachAt}}
+use Rattle.mdp_math.proofs.{Kernel.{All-head, All-tail}, SumsAt.{EachAt_mono, EachAt_both}}
+use Rattle.mdp_spec.specs.{Mdp.{Mdp, states_of, choices_at, row_at, value_at}, Row.{IsRow, IsMdp}, Tree.{Tree, Fits, IsPolicy, IsStrategy, target_at}}
 use Rattle.mdp_spec.specs.Bounds.{reward_at}
-use Rattle.mdp_spec.proofs.Keeping.{count_at-one, target_placed}
-use Rattle.mdp_spec.proofs.Rows.{rows_known, placed, targets_at}
+use Rattle.mdp_spec.proofs.{Keeping.{count_at-one, target_placed}, Rows.{rows_known, placed, targets_at}}
 use Rattle.mdp_rows.specs.declared.dir.Dir.{Dir}
-use Rattle.mdp_horizon.specs.Until.{unfolded_steps, IsTable}
-use Rattle.mdp_horizon.specs.Objective.{Objective, value_of}
-use Rattle.mdp_horizon.specs.Between.{Claimed}
-use Rattle.mdp_horizon.proofs.Claims.{claimed_mono, claimed_all}
-use Rattle.mdp_horizon.proofs.Directions.{NoBetter, no_better_trans, no_better_antisymm}
+use Rattle.mdp_horizon.specs.{Until.{unfolded_steps, IsTable}, Objective.{Objective, value_of}, Between.{Claimed}}
+use Rattle.mdp_horizon.proofs.{Claims.{claimed_mono, claimed_all}, Directions.{NoBetter, no_better_trans, no_better_antisymm}}
 use Rattle.mdp_horizon.proofs.Halves.{IsCovering, IsFollowing, covering-bounds, following-bounds, following-table}
 
 -- ---- the table's tree is a strategy tree

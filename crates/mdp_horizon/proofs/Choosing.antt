@@ -1,21 +1,14 @@
 -- Where the choice of a state is refused, and what the choice that is made says in exact numbers.
 use Rattle.std.proofs.Common.{◌≡◌, ℕ, suc, ◌-◌, ◌<◌, inl, inr, Bool, true, false, if◌then◌else◌, List, length}
 use Rattle.std.proofs.Common.{Option, Some, None, Result, Ok, Err, ◌∙◌, sym, ap, subst, arith}
-use Rattle.mdp_math.specs.Rational.{ℚ}
-use Rattle.mdp_math.specs.Result.{◌>>=◌}
-use Rattle.mdp_math.specs.Written.{written_compare, cmp_ℚ}
-use Rattle.mdp_math.proofs.Numbers.{last_or}
-use Rattle.mdp_math.proofs.Options.{Some_same, step_told}
-use Rattle.mdp_math.proofs.Written.{written_compare-some}
+use Rattle.mdp_math.specs.{Rational.{ℚ}, Result.{◌>>=◌}, Written.{written_compare, cmp_ℚ}}
+use Rattle.mdp_math.proofs.{Numbers.{last_or}, Options.{Some_same, step_told}, Written.{written_compare-some}}
 use Rattle.mdp_spec.specs.Mdp.{Mdp, choices_at, row_at}
-use Rattle.mdp_rows.specs.declared.dir.Dir.{Dir}
+use Rattle.mdp_rows.specs.{declared.dir.Dir.{Dir}, Better.{is_better}}
 use Rattle.mdp_spec.proofs.Summed.{written_sum-some}
-use Rattle.mdp_horizon.specs.Objective.{Objective, earns}
-use Rattle.mdp_rows.specs.Better.{is_better}
-use Rattle.mdp_horizon.specs.Choices.{Best, best, judged, sum_of_choice, compared}
+use Rattle.mdp_horizon.specs.{Objective.{Objective, earns}, Choices.{Best, best, judged, sum_of_choice, compared}}
 use Rattle.mdp_horizon.specs.Written.{Place, at_place, in_turn, first_choice, next_choice, best_choice}
-use Rattle.mdp_horizon.proofs.Directions.{NoBetter, no_better_of_eq, no_better_trans, better_of_test, worse_of_test}
-use Rattle.mdp_horizon.proofs.Halves.{backed_up}
+use Rattle.mdp_horizon.proofs.{Directions.{NoBetter, no_better_of_eq, no_better_trans, better_of_test, worse_of_test}, Halves.{backed_up}}
 use Rattle.mdp_horizon.proofs.Turns.{ok_same, ok_part, place_part, in_turn-keeps, in_turn-refused, refused_start}
 
 -- ---- where it is refused

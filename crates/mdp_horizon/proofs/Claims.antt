@@ -1,10 +1,7 @@
 -- Claims on values that may be missing, and on values of which none is.
 use Rattle.std.proofs.Common.{◌≡◌, ℕ, zero, suc, false, true≢false, List, [], ◌∷◌, map, get_or, Option, Some, None, refl, sym, ◌∙◌, ap, subst}
 use Rattle.mdp_math.specs.Rational.{ℚ}
-use Rattle.mdp_spec.specs.Mdp.{Entry, Mdp, row_at, value_at}
-use Rattle.mdp_spec.specs.Tree.{is_marked}
-use Rattle.mdp_spec.specs.Bounds.{reward_at, finite_part, infinite}
-use Rattle.mdp_spec.specs.RewardRules.{StaysFinite}
+use Rattle.mdp_spec.specs.{Mdp.{Entry, Mdp, row_at, value_at}, Tree.{is_marked}, Bounds.{reward_at, finite_part, infinite}, RewardRules.{StaysFinite}}
 use Rattle.mdp_spec.proofs.Values.{part_of_some, finite_of_some, infinite_of_none}
 use Rattle.mdp_horizon.specs.Between.{Claimed}
 

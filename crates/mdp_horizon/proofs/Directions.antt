@@ -1,22 +1,13 @@
 -- No better: at most for the greatest, at least for the least. Its laws for both alike, up to averages over the choices of a state.
 use Rattle.std.proofs.Common.{◌≡◌, ℕ, ◌<◌, ◌≤◌, List, sym, ◌∙◌, ap, subst, Ordering, true, false, refl}
 use Rattle.std.specs.declared.cmp.Ordering.TheVariants.{Less, Equal, Greater}
-use Rattle.mdp_math.specs.Rational.{ℚ, ◌+ℚ◌, ◌*ℚ◌, ◌≤ℚ◌, ◌<ℚ◌}
-use Rattle.mdp_math.specs.Sum.{sum_at, EachAt}
-use Rattle.mdp_math.specs.Written.{cmp_ℚ}
+use Rattle.mdp_math.specs.{Rational.{ℚ, ◌+ℚ◌, ◌*ℚ◌, ◌≤ℚ◌, ◌<ℚ◌}, Sum.{sum_at, EachAt}, Written.{cmp_ℚ}}
 use Rattle.mdp_math.proofs.Laws.{one-*ℚ}
 use Rattle.mdp_math.proofs.Order.{0ℚ, ≤ℚ_refl, ≤ℚ_trans, ≤ℚ_of_eq, ≤ℚ_of_lt, ≤ℚ_antisymm, add-le-add_ℚ, mul-le-mul_left_ℚ, lt_of_cmp, eq_of_cmp, gt_of_cmp}
 use Rattle.mdp_math.proofs.SumsAt.{sum_at-le, sum_at-sum_of, sum_at-weighted_le, sum_at-weighted_ge, EachAt_all, EachAt_mono, EachAt_both}
-use Rattle.mdp_spec.specs.Mdp.{Choice, Entry, Mdp, choices_at}
-use Rattle.mdp_spec.specs.Row.{IsRow}
-use Rattle.mdp_spec.specs.Unit.{count_at}
-use Rattle.mdp_spec.proofs.Hits.{share}
-use Rattle.mdp_spec.proofs.Keeping.{share-nonneg, share-pos, shares-total}
-use Rattle.mdp_spec.proofs.Rows.{row_weigh, nonneg_at}
-use Rattle.mdp_spec.proofs.Steps.{average}
-use Rattle.mdp_rows.specs.declared.dir.Dir.{Dir}
-use Rattle.mdp_rows.specs.declared.dir.Dir.TheVariants.{Max, Min}
-use Rattle.mdp_rows.specs.Better.{is_better}
+use Rattle.mdp_spec.specs.{Mdp.{Choice, Entry, Mdp, choices_at}, Row.{IsRow}, Unit.{count_at}}
+use Rattle.mdp_spec.proofs.{Hits.{share}, Keeping.{share-nonneg, share-pos, shares-total}, Rows.{row_weigh, nonneg_at}, Steps.{average}}
+use Rattle.mdp_rows.specs.{declared.dir.Dir.{Dir}, declared.dir.Dir.TheVariants.{Max, Min}, Better.{is_better}}
 
 -- x is no better than y
 abbrev pub NoBetter : Dir → ℚ → ℚ → Type 0

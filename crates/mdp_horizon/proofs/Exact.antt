@@ -1,25 +1,15 @@
 -- Written backward induction is backward induction in exact numbers, where no term is past width.
 use Rattle.std.proofs.Common.{◌≡◌, ℕ, suc, ◌<◌, inl, inr, List, [], ◌∷◌, ◌++◌, length, map, get_or, slice_index}
-use Rattle.std.proofs.Common.{Option, Some, None, Result, Ok, Err, refl, sym, ◌∙◌, ap, ap₂, subst, arith, length-append}
-use Rattle.std.proofs.lemmas.List.{get_or_append_left}
-use Rattle.std.proofs.lemmas.List.FromFn.{get_or-map-range_with_len, length-map-range_with_len}
-use Rattle.std.proofs.Math.Seq.{get_or-append_seam}
-use Rattle.mdp_math.specs.Rational.{ℚ}
-use Rattle.mdp_math.specs.Result.{◌>>=◌}
-use Rattle.mdp_math.proofs.Numbers.{last_or}
-use Rattle.mdp_math.proofs.Order.{0ℚ}
-use Rattle.mdp_spec.specs.Mdp.{Mdp, states_of, choices_at, value_at}
-use Rattle.mdp_spec.specs.Row.{IsMdp}
-use Rattle.mdp_spec.specs.Bounds.{finite_part}
-use Rattle.mdp_spec.specs.RewardRules.{StaysFinite}
+use Rattle.std.proofs.{Common.{Option, Some, None, Result, Ok, Err, refl, sym, ◌∙◌, ap, ap₂, subst, arith, length-append}, lemmas.List.{get_or_append_left}}
+use Rattle.std.proofs.{lemmas.List.FromFn.{get_or-map-range_with_len, length-map-range_with_len}, Math.Seq.{get_or-append_seam}}
+use Rattle.mdp_math.specs.{Rational.{ℚ}, Result.{◌>>=◌}}
+use Rattle.mdp_math.proofs.{Numbers.{last_or}, Order.{0ℚ}}
+use Rattle.mdp_spec.specs.{Mdp.{Mdp, states_of, choices_at, value_at}, Row.{IsMdp}, Bounds.{finite_part}, RewardRules.{StaysFinite}}
 use Rattle.mdp_rows.specs.declared.dir.Dir.{Dir}
-use Rattle.mdp_horizon.specs.Objective.{Objective, stops, ending}
-use Rattle.mdp_horizon.specs.Choices.{Best, best}
+use Rattle.mdp_horizon.specs.{Objective.{Objective, stops, ending}, Choices.{Best, best}}
 use Rattle.mdp_horizon.specs.Written.{Place, Row, Answer, best_choice, stopped_or, backup, with_state, next_state, no_states, backups, endings, no_steps, with_step, next_step, written_values}
-use Rattle.mdp_horizon.proofs.Directions.{NoBetter, no_better_of_eq}
-use Rattle.mdp_horizon.proofs.Claims.{claim_all, stays_finite-some, finite_part-some}
-use Rattle.mdp_horizon.proofs.Halves.{backed_up, CoversStep, FollowsStep, IsCovering, IsFollowing}
-use Rattle.mdp_horizon.proofs.Choosing.{IsBestOf, best_choice-is}
+use Rattle.mdp_horizon.proofs.{Directions.{NoBetter, no_better_of_eq}, Claims.{claim_all, stays_finite-some, finite_part-some}}
+use Rattle.mdp_horizon.proofs.{Halves.{backed_up, CoversStep, FollowsStep, IsCovering, IsFollowing}, Choosing.{IsBestOf, best_choice-is}}
 use Rattle.mdp_horizon.proofs.Turns.{ok_same, ok_part, in_turn-keeps}
 
 -- ---- a list with one more

@@ -1,20 +1,13 @@
 -- A small model, computed.
 use Rattle.std.proofs.Common.{◌≡◌, ℕ, Bool, true, false, List, [], ◌∷◌, Result, Ok, Err, refl, subst, arith, pos}
-use Rattle.std.specs.Prelude.{codes}
-use Rattle.std.specs.Fmt.{digits}
-use Rattle.mdp_math.specs.Gcd.{gcd, gcd_with_fuel}
-use Rattle.mdp_math.specs.Rational.{ℚ, of_int, ratio, ◌+ℚ◌, ◌*ℚ◌, neg_ℚ, le_ℚ, ◌≤ℚ◌}
+use Rattle.std.specs.{Prelude.{codes}, Fmt.{digits}}
+use Rattle.mdp_math.specs.{Gcd.{gcd, gcd_with_fuel}, Rational.{ℚ, of_int, ratio, ◌+ℚ◌, ◌*ℚ◌, neg_ℚ, le_ℚ, ◌≤ℚ◌}}
 use Rattle.mdp_math.specs.Written.{written_add, written_mul, written_compare, narrow, narrow_ℚ}
 use Rattle.mdp_num.specs.Value.{spelling}
-use Rattle.mdp_spec.specs.Mdp.{State, Mdp}
-use Rattle.mdp_spec.specs.Unit.{unit_of}
-use Rattle.mdp_spec.specs.Tree.{Fits, unfolded}
+use Rattle.mdp_spec.specs.{Mdp.{State, Mdp}, Unit.{unit_of}, Tree.{Fits, unfolded}}
 use Rattle.mdp_spec.proofs.Small.{choice, entry, labelled, number}
 use Rattle.mdp_rows.specs.declared.dir.Dir.TheVariants.{Max, Min}
-use Rattle.mdp_horizon.specs.Until.{until, unfolded_steps, IsTable}
-use Rattle.mdp_horizon.specs.Bounds.{BoundedMax}
-use Rattle.mdp_horizon.specs.Written.{Place, Answer, written_until}
-use Rattle.mdp_horizon.specs.Spelling.{until_text}
+use Rattle.mdp_horizon.specs.{Until.{until, unfolded_steps, IsTable}, Bounds.{BoundedMax}, Written.{Place, Answer, written_until}, Spelling.{until_text}}
 
 abbrev model_of : List State → Mdp
 model_of states = record { names = []; labels = codes "init" ∷ codes "goal" ∷ []; states = states }

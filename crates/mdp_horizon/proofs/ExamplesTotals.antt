@@ -1,24 +1,14 @@
 -- Total rewards of a small model, and values that are missing, computed.
 use Rattle.std.proofs.Common.{◌≡◌, ℕ, List, [], ◌∷◌, Option, Some, None, refl, subst, arith, pos, negsuc}
-use Rattle.std.specs.Prelude.{codes}
-use Rattle.std.specs.Fmt.{digits}
-use Rattle.mdp_math.specs.Gcd.{gcd, gcd_with_fuel}
-use Rattle.mdp_math.specs.Rational.{ℚ, of_int, ratio, ◌+ℚ◌, ◌*ℚ◌, neg_ℚ, le_ℚ, ◌≤ℚ◌}
+use Rattle.std.specs.{Prelude.{codes}, Fmt.{digits}}
+use Rattle.mdp_math.specs.{Gcd.{gcd, gcd_with_fuel}, Rational.{ℚ, of_int, ratio, ◌+ℚ◌, ◌*ℚ◌, neg_ℚ, le_ℚ, ◌≤ℚ◌}}
 use Rattle.mdp_math.specs.Written.{written_add, written_mul, written_compare, narrow, narrow_ℚ}
 use Rattle.mdp_num.specs.Value.{spelling}
-use Rattle.mdp_spec.specs.Mdp.{Entry, Choice, Mdp}
-use Rattle.mdp_spec.specs.Unit.{unit_of, scale_of}
-use Rattle.mdp_spec.specs.Pay.{total as total_of}
-use Rattle.mdp_spec.specs.Tree.{Fits}
+use Rattle.mdp_spec.specs.{Mdp.{Entry, Choice, Mdp}, Unit.{unit_of, scale_of}, Pay.{total as total_of}, Tree.{Fits}}
 use Rattle.mdp_spec.proofs.Small.{entry, labelled, number}
 use Rattle.mdp_rows.specs.declared.dir.Dir.TheVariants.{Max, Min}
-use Rattle.mdp_horizon.specs.Until.{unfolded_steps}
-use Rattle.mdp_horizon.specs.Objective.{stops, ending, earns, value_of}
-use Rattle.mdp_horizon.specs.Objective.Objective.{until, total}
-use Rattle.mdp_horizon.specs.Bounds.{TotalMax}
-use Rattle.mdp_horizon.specs.Between.{Claimed, MaxBetween}
-use Rattle.mdp_horizon.specs.Written.{written_total}
-use Rattle.mdp_horizon.specs.Spelling.{total_text}
+use Rattle.mdp_horizon.specs.{Until.{unfolded_steps}, Objective.{stops, ending, earns, value_of}, Objective.Objective.{until, total}, Bounds.{TotalMax}}
+use Rattle.mdp_horizon.specs.{Between.{Claimed, MaxBetween}, Written.{written_total}, Spelling.{total_text}}
 use Rattle.mdp_horizon.proofs.Examples.{tries, all, lost_stays, goal, answer}
 
 -- ---- total rewards, of both signs

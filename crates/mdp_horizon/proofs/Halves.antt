@@ -1,25 +1,16 @@
 -- The two halves of backward induction, for any objective, with values that may be missing. Values that cover each choice, step by step, are
 -- passed by no tree; values that the table's choices cover, step by step, are met by the tree that follows the table. Exact values do both.
 use Rattle.std.proofs.Common.{◌≡◌, ℕ, zero, suc, ◌<◌, ◌≤◌, false, cond, eqb, List, [], ◌∷◌, length, get_or, slice_index, Option, Some, None, refl, sym, ap, subst, arith}
-use Rattle.std.specs.List.{All}
 use Rattle.std.proofs.lemmas.List.Elements.{All-cons}
-use Rattle.mdp_math.specs.Rational.{ℚ, ◌+ℚ◌, ◌*ℚ◌}
-use Rattle.mdp_math.specs.Sum.{sum_at, EachAt}
+use Rattle.std.specs.List.{All}
+use Rattle.mdp_math.specs.{Rational.{ℚ, ◌+ℚ◌, ◌*ℚ◌}, Sum.{sum_at, EachAt}}
 use Rattle.mdp_math.proofs.SumsAt.{EachAt_mono, EachAt_both, EachAt-from_All}
-use Rattle.mdp_spec.specs.Mdp.{Choice, Mdp, states_of, choices_at, choice_at, row_at, value_at}
-use Rattle.mdp_spec.specs.Row.{IsRow, IsMdp, row_sum}
-use Rattle.mdp_spec.specs.Unit.{count_at}
-use Rattle.mdp_spec.specs.Tree.{Tree, Fits, IsPolicy, IsStrategy, is_marked, target_at}
-use Rattle.mdp_spec.specs.Tree.Tree.{leaf, node}
-use Rattle.mdp_spec.specs.Bounds.{reward_at, finite_part, infinite}
+use Rattle.mdp_spec.specs.{Mdp.{Choice, Mdp, states_of, choices_at, choice_at, row_at, value_at}, Row.{IsRow, IsMdp, row_sum}, Unit.{count_at}}
+use Rattle.mdp_spec.specs.{Tree.{Tree, Fits, IsPolicy, IsStrategy, is_marked, target_at}, Tree.Tree.{leaf, node}, Bounds.{reward_at, finite_part, infinite}}
 use Rattle.mdp_spec.specs.RewardRules.{StaysFinite}
-use Rattle.mdp_spec.proofs.Keeping.{count_at-one, chosen, target_placed}
-use Rattle.mdp_spec.proofs.Rows.{row_weigh, rows_known, targets_at}
-use Rattle.mdp_spec.proofs.Steps.{placed_choice}
-use Rattle.mdp_rows.specs.declared.dir.Dir.{Dir}
-use Rattle.mdp_rows.specs.declared.dir.Dir.TheVariants.{Max, Min}
-use Rattle.mdp_horizon.specs.Until.{unfolded_steps, IsTable}
-use Rattle.mdp_horizon.specs.Objective.{Objective, stops, ending, gain_of, earns, value_of}
+use Rattle.mdp_spec.proofs.{Keeping.{count_at-one, chosen, target_placed}, Rows.{row_weigh, rows_known, targets_at}, Steps.{placed_choice}}
+use Rattle.mdp_rows.specs.{declared.dir.Dir.{Dir}, declared.dir.Dir.TheVariants.{Max, Min}}
+use Rattle.mdp_horizon.specs.{Until.{unfolded_steps, IsTable}, Objective.{Objective, stops, ending, gain_of, earns, value_of}}
 use Rattle.mdp_horizon.specs.Between.{Claimed, MaxBetween, MinBetween}
 use Rattle.mdp_horizon.proofs.Claims.{claimed_mono, claimed_part}
 use Rattle.mdp_horizon.proofs.Directions.{NoBetter, no_better_trans, no_better_add, other, turned, turned_back, row_sum-no_better, average-no_better}

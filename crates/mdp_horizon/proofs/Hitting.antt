@@ -1,18 +1,10 @@
 -- Where each state stays, a bounded until is the probability of meeting a goal in so many steps.
-use Rattle.std.proofs.Common.{◌≡◌, ℕ, zero, suc, ◌<◌, ◌≤◌, ⊎_elim, Bool, true, List, sym, ◌∙◌, ap}
-use Rattle.std.proofs.lemmas.Bool.{cases_Bool}
-use Rattle.mdp_math.specs.Rational.{ℚ, ◌*ℚ◌}
-use Rattle.mdp_math.specs.Sum.{sum_at, EachAt}
+use Rattle.std.proofs.{Common.{◌≡◌, ℕ, zero, suc, ◌<◌, ◌≤◌, ⊎_elim, Bool, true, List, sym, ◌∙◌, ap}, lemmas.Bool.{cases_Bool}}
+use Rattle.mdp_math.specs.{Rational.{ℚ, ◌*ℚ◌}, Sum.{sum_at, EachAt}}
 use Rattle.mdp_math.proofs.SumsAt.{sum_at-same, EachAt_mono, EachAt_both}
-use Rattle.mdp_spec.specs.Mdp.{Mdp, states_of, choices_at}
-use Rattle.mdp_spec.specs.Row.{IsRow, IsMdp}
-use Rattle.mdp_spec.specs.Tree.{Tree, Fits, is_marked}
-use Rattle.mdp_spec.specs.Tree.Tree.{leaf, node}
-use Rattle.mdp_spec.specs.Hit.{hit}
-use Rattle.mdp_spec.proofs.Hits.{share, hit-goal, hit-end, hit-node}
-use Rattle.mdp_spec.proofs.Rows.{rows_known, targets_at}
-use Rattle.mdp_horizon.specs.Until.{until}
-use Rattle.mdp_horizon.specs.Laws.{IsHitWhereAllStay}
+use Rattle.mdp_spec.specs.{Mdp.{Mdp, states_of, choices_at}, Row.{IsRow, IsMdp}, Tree.{Tree, Fits, is_marked}, Tree.Tree.{leaf, node}, Hit.{hit}}
+use Rattle.mdp_spec.proofs.{Hits.{share, hit-goal, hit-end, hit-node}, Rows.{rows_known, targets_at}}
+use Rattle.mdp_horizon.specs.{Until.{until}, Laws.{IsHitWhereAllStay}}
 use Rattle.mdp_horizon.proofs.Untils.{until-goal, until-end, until-node}
 
 module _ (m : Mdp) (stay goals : List Bool) (u : ℕ) (known_ : IsMdp m) (hu : 1 ≤ u) (stays : (v : ℕ) → v < states_of m → is_marked stay v ≡ true) where

@@ -1,22 +1,11 @@
 -- Each objective by the first step of the tree: a value where it stops or where the tree ends, and at any other state the average over the
 -- choices, by the weights, of what the choice earns and the sum over the row of probability times what comes behind.
-use Rattle.std.proofs.Common.{◌≡◌, ℕ, suc, ◌≤◌, ⊎_elim, Bool, true, false, cond, Some, None, refl, sym, ◌∙◌, ap}
-use Rattle.std.proofs.lemmas.Bool.{cases_Bool}
-use Rattle.mdp_math.specs.Rational.{ℚ, ◌+ℚ◌, ◌*ℚ◌}
-use Rattle.mdp_math.specs.Sum.{sum_at}
-use Rattle.mdp_math.proofs.Laws.{zero-+ℚ}
-use Rattle.mdp_math.proofs.Options.{Some_same}
-use Rattle.mdp_math.proofs.Order.{0ℚ, 1ℚ}
-use Rattle.mdp_math.proofs.SumsAt.{sum_at-same, EachAt_all}
-use Rattle.mdp_spec.specs.Mdp.{Entry, Mdp, choices_at}
-use Rattle.mdp_spec.specs.Row.{IsMdp}
-use Rattle.mdp_spec.specs.Tree.{Tree, is_marked}
-use Rattle.mdp_spec.specs.Tree.Tree.{node}
-use Rattle.mdp_spec.proofs.Earnings.{total-end}
-use Rattle.mdp_spec.proofs.Hits.{share, mixed}
-use Rattle.mdp_spec.proofs.Steps.{average, total_goes}
-use Rattle.mdp_horizon.specs.Objective.{Objective, stops, ending, gain_of, value_of}
-use Rattle.mdp_horizon.specs.Objective.Objective.{until, total}
+use Rattle.std.proofs.{Common.{◌≡◌, ℕ, suc, ◌≤◌, ⊎_elim, Bool, true, false, cond, Some, None, refl, sym, ◌∙◌, ap}, lemmas.Bool.{cases_Bool}}
+use Rattle.mdp_math.specs.{Rational.{ℚ, ◌+ℚ◌, ◌*ℚ◌}, Sum.{sum_at}}
+use Rattle.mdp_math.proofs.{Laws.{zero-+ℚ}, Options.{Some_same}, Order.{0ℚ, 1ℚ}, SumsAt.{sum_at-same, EachAt_all}}
+use Rattle.mdp_spec.specs.{Mdp.{Entry, Mdp, choices_at}, Row.{IsMdp}, Tree.{Tree, is_marked}, Tree.Tree.{node}}
+use Rattle.mdp_spec.proofs.{Earnings.{total-end}, Hits.{share, mixed}, Steps.{average, total_goes}}
+use Rattle.mdp_horizon.specs.{Objective.{Objective, stops, ending, gain_of, value_of}, Objective.Objective.{until, total}}
 use Rattle.mdp_horizon.proofs.Untils.{until-goal, until-away, until-end, until-node}
 
 -- an average without gains

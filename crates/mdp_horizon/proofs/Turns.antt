@@ -3,9 +3,7 @@ use Rattle.std.proofs.Common.{◌≡◌, ℕ, zero, suc, ◌<◌, ◌≤◌, inl
 use Rattle.mdp_math.specs.Result.{◌>>=◌}
 use Rattle.mdp_math.proofs.Numbers.{last_or}
 use Rattle.mdp_num.specs.declared.errors.Wide.{Wide}
-use Rattle.mdp_horizon.specs.Written.{Place, at_place, in_turn}
-use Rattle.mdp_horizon.specs.Answer.{Says, Answers, placed}
-use Rattle.mdp_horizon.specs.Errors.{HorizonError}
+use Rattle.mdp_horizon.specs.{Written.{Place, at_place, in_turn}, Answer.{Says, Answers, placed}, Errors.{HorizonError}}
 use Rattle.mdp_wide.specs.declared.unfinished.Unfinished.TheVariants as error
 
 pub ok_same : {A R : Type 0} (x y : A) → (let r : Result A R = Ok x in r) ≡ Ok y → x ≡ y

@@ -1,14 +1,9 @@
 -- A bounded until by the first step of the tree: 1 at a goal, 0 at any other state that doesn't stay or where the tree ends, and at a node the
 -- average over the choices, by the weights, of the sum over the row of probability times what comes behind.
-use Rattle.std.proofs.Common.{◌≡◌, ℕ, zero, suc, ◌*◌, ◌≤◌, Bool, true, false, cond, List, sym, ◌∙◌, ap, pos}
-use Rattle.std.proofs.Math.Nat.{pow-zero}
+use Rattle.std.proofs.{Common.{◌≡◌, ℕ, zero, suc, ◌*◌, ◌≤◌, Bool, true, false, cond, List, sym, ◌∙◌, ap, pos}, Math.Nat.{pow-zero}}
 use Rattle.mdp_math.specs.Rational.{ℚ, of_int, ratio, ◌*ℚ◌}
 use Rattle.mdp_math.proofs.Order.{0ℚ, 1ℚ, div-of_int}
-use Rattle.mdp_spec.specs.Mdp.{Entry, Mdp}
-use Rattle.mdp_spec.specs.Row.{IsMdp}
-use Rattle.mdp_spec.specs.Unit.{unit_of}
-use Rattle.mdp_spec.specs.Tree.{Tree, paths, is_marked}
-use Rattle.mdp_spec.specs.Tree.Tree.{leaf, node}
+use Rattle.mdp_spec.specs.{Mdp.{Entry, Mdp}, Row.{IsMdp}, Unit.{unit_of}, Tree.{Tree, paths, is_marked}, Tree.Tree.{leaf, node}}
 use Rattle.mdp_spec.proofs.Hits.{mixed, paths-pos, of_nat-paths_suc, ratio-is, ratio-self, ratio-none, node_counts}
 use Rattle.mdp_horizon.specs.Until.{untils, until}
 

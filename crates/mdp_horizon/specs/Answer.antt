@@ -1,14 +1,9 @@
 -- What the code answers, beside the definitions.
-use Rattle.std.specs.Prelude.{◌≡◌, ℕ, List, map, Vec, Result, Ok, Err}
-use Rattle.std.specs.Global.{Global}
+use Rattle.std.specs.{Prelude.{◌≡◌, ℕ, List, map, Vec, Result, Ok, Err}, Global.{Global}}
 use Rattle.mdp_num.specs.declared.errors.Wide.{Wide}
-use Rattle.mdp_horizon.specs.Choices.{Best}
-use Rattle.mdp_horizon.specs.Written.{Place, Row, Answer}
-use Rattle.mdp_horizon.specs.Errors.{HorizonError}
+use Rattle.mdp_horizon.specs.{Choices.{Best}, Written.{Place, Row, Answer}, Errors.{HorizonError}, declared.bounded.Bounded.{Bounded}}
+use Rattle.mdp_horizon.specs.{declared.backup.Leader.{Leader}, declared.backup.Backups.{Backups}}
 use Rattle.mdp_wide.specs.declared.unfinished.Unfinished.TheVariants as error
-use Rattle.mdp_horizon.specs.declared.bounded.Bounded.{Bounded}
-use Rattle.mdp_horizon.specs.declared.backup.Leader.{Leader}
-use Rattle.mdp_horizon.specs.declared.backup.Backups.{Backups}
 
 -- an error says that a computation ends at its place; want of memory says nothing
 abbrev pub Says : {B : Type 0} → HorizonError → Result B Place → Type 0

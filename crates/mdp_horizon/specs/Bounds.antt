@@ -1,9 +1,7 @@
 -- What values and a table of n steps mean for a bounded until and for a total reward, over every policy with history and rational mixing.
 use Rattle.std.specs.Prelude.{◌≡◌, ℕ, ◌<◌, Bool, List, length}
 use Rattle.mdp_math.specs.Rational.{ℚ, ◌≤ℚ◌}
-use Rattle.mdp_spec.specs.Mdp.{Mdp, states_of, value_at}
-use Rattle.mdp_spec.specs.Tree.{Tree, IsStrategy}
-use Rattle.mdp_spec.specs.Pay.{total}
+use Rattle.mdp_spec.specs.{Mdp.{Mdp, states_of, value_at}, Tree.{Tree, IsStrategy}, Pay.{total}}
 use Rattle.mdp_horizon.specs.Until.{until, unfolded_steps, IsTable}
 
 -- the greatest probabilities within n steps: no tree passes them, and the table's tree meets them

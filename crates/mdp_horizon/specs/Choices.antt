@@ -1,11 +1,8 @@
 -- The sums of a state's choices, made and compared by written arithmetic.
 use Rattle.std.specs.Prelude.{ℕ, List, Option, Some, if◌then◌else◌}
-use Rattle.mdp_math.specs.Rational.{ℚ}
-use Rattle.mdp_math.specs.Written.{written_compare, ◌>>=◌}
-use Rattle.mdp_spec.specs.Mdp.{Mdp, row_at}
-use Rattle.mdp_spec.specs.Written.{written_sum}
-use Rattle.mdp_rows.specs.declared.dir.Dir.{Dir}
-use Rattle.mdp_rows.specs.Better.{is_better}
+use Rattle.mdp_math.specs.{Rational.{ℚ}, Written.{written_compare, ◌>>=◌}}
+use Rattle.mdp_spec.specs.{Mdp.{Mdp, row_at}, Written.{written_sum}}
+use Rattle.mdp_rows.specs.{declared.dir.Dir.{Dir}, Better.{is_better}}
 use Rattle.mdp_horizon.specs.Objective.{Objective, earns}
 
 -- the value of a state, and the choice that has it

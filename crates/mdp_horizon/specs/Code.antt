@@ -2,9 +2,7 @@
 use Rattle.std.specs.Prelude.{◌≡◌, ◌<◌, length}
 use Rattle.std.proofs.Props.{props}
 use Rattle.mdp_spec.specs.Mdp.{Mdp, states_of}
-use Rattle.mdp_horizon.specs.Objective.{Objective}
-use Rattle.mdp_horizon.specs.Objective.Objective.{until, total}
-use Rattle.mdp_horizon.specs.declared.objective.Objective.{Objective as Asked}
+use Rattle.mdp_horizon.specs.{Objective.{Objective}, Objective.Objective.{until, total}, declared.objective.Objective.{Objective as Asked}}
 use Rattle.mdp_horizon.specs.declared.objective.Objective.TheVariants as asked
 
 abbrev pub plain_objective : Asked → Objective

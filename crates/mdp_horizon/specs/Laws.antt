@@ -1,17 +1,10 @@
 -- What written backward induction means, and what its meaning fixes.
 use Rattle.std.specs.Prelude.{◌≡◌, ℕ, ◌<◌, Bool, true, List, length, Option, Ok}
 use Rattle.mdp_math.specs.Rational.{ℚ, ◌≤ℚ◌}
-use Rattle.mdp_spec.specs.Mdp.{Mdp, states_of, value_at}
-use Rattle.mdp_spec.specs.Row.{IsMdp}
-use Rattle.mdp_spec.specs.Tree.{Tree, IsStrategy, is_marked}
-use Rattle.mdp_spec.specs.Hit.{hit}
-use Rattle.mdp_spec.specs.Bounds.{reward_at}
+use Rattle.mdp_spec.specs.{Mdp.{Mdp, states_of, value_at}, Row.{IsMdp}, Tree.{Tree, IsStrategy, is_marked}, Hit.{hit}, Bounds.{reward_at}}
 use Rattle.mdp_rows.specs.declared.dir.Dir.TheVariants.{Max, Min}
-use Rattle.mdp_horizon.specs.Until.{until as until_of}
-use Rattle.mdp_horizon.specs.Objective.Objective.{until, total}
-use Rattle.mdp_horizon.specs.Bounds.{BoundedMax, BoundedMin, TotalMax, TotalMin}
-use Rattle.mdp_horizon.specs.Between.{Claimed, MaxBetween, MinBetween}
-use Rattle.mdp_horizon.specs.Written.{Answer, written_until, written_total}
+use Rattle.mdp_horizon.specs.{Until.{until as until_of}, Objective.Objective.{until, total}, Bounds.{BoundedMax, BoundedMin, TotalMax, TotalMin}}
+use Rattle.mdp_horizon.specs.{Between.{Claimed, MaxBetween, MinBetween}, Written.{Answer, written_until, written_total}}
 
 abbrev pub AnswersAreGreatest : Type 0
 AnswersAreGreatest = (m : Mdp) (stay goals : List Bool) (n : ℕ) (a : Answer) → IsMdp m → written_until Max m stay goals n ≡ Ok a → BoundedMax m stay goals n a.values a.steps

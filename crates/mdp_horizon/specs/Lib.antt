@@ -9,3 +9,14 @@ pub mod Answer
 pub mod Spelling
 pub mod Laws
 pub mod Errors
+pub mod Whole
+pub mod Scaled
+pub mod Probability
+pub mod Exact
+pub mod Gap
+pub mod Finite
+pub mod Columns
+pub mod BoundsCode
+pub mod BoundsAnswer
+pub mod BoundsSpelling
+pub mod BoundsLaws

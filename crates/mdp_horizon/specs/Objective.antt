@@ -2,10 +2,7 @@
 -- state a choice earns at once and then by the steps that are left.
 use Rattle.std.specs.Prelude.{ℕ, Bool, List, Option, Some, None, pos, if◌then◌else◌}
 use Rattle.mdp_math.specs.Rational.{ℚ, of_int}
-use Rattle.mdp_spec.specs.Mdp.{Choice, Mdp, choice_at}
-use Rattle.mdp_spec.specs.Unit.{reward_of}
-use Rattle.mdp_spec.specs.Tree.{Tree, is_marked}
-use Rattle.mdp_spec.specs.Pay.{total as total_of}
+use Rattle.mdp_spec.specs.{Mdp.{Choice, Mdp, choice_at}, Unit.{reward_of}, Tree.{Tree, is_marked}, Pay.{total as total_of}}
 use Rattle.mdp_horizon.specs.Until.{until as until_of}
 
 -- the probability of coming to a goal by way of states that stay, or the total reward of the name of this place

@@ -1,11 +1,8 @@
 -- The text of an answer.
-use Rattle.std.specs.Prelude.{ℕ, suc, List, [], ◌∷◌, ◌++◌, length, Some, decimal, codes}
-use Rattle.std.specs.List.{flat_map}
-use Rattle.mdp_spec.specs.Mdp.{Mdp, states_of, value_at}
-use Rattle.mdp_spec.specs.Labels.{initial_of}
+use Rattle.std.specs.{Prelude.{ℕ, suc, List, [], ◌∷◌, ◌++◌, length, Some, decimal, codes}, List.{flat_map}}
+use Rattle.mdp_spec.specs.{Mdp.{Mdp, states_of, value_at}, Labels.{initial_of}}
 use Rattle.mdp_rows.specs.declared.dir.Dir.{Dir}
-use Rattle.mdp_text.specs.Heads.{init_by}
-use Rattle.mdp_text.specs.Spelling.{line, ◌␣◌, quoted, dir_text, states_text, init_text, value_lines, end_text}
+use Rattle.mdp_text.specs.{Heads.{init_by}, Spelling.{line, ◌␣◌, quoted, dir_text, states_text, init_text, value_lines, end_text}}
 use Rattle.mdp_horizon.specs.Written.{Answer}
 
 abbrev pub version_text : List ℕ

@@ -1,12 +1,8 @@
 -- Bounded until (Baier and Katoen 2008, section 10.1): the probability of coming to a goal within the depth of a tree, by way of states of
 -- `stay` alone.
-use Rattle.std.specs.Prelude.{◌≡◌, ℕ, zero, suc, ◌*◌, Bool, List, [], ◌∷◌, length, pos, ◌==◌, slice_index, if◌then◌else◌}
-use Rattle.std.specs.List.{All}
+use Rattle.std.specs.{Prelude.{◌≡◌, ℕ, zero, suc, ◌*◌, Bool, List, [], ◌∷◌, length, pos, ◌==◌, slice_index, if◌then◌else◌}, List.{All}}
 use Rattle.mdp_math.specs.Rational.{ℚ, ratio}
-use Rattle.mdp_spec.specs.Mdp.{Mdp, choices_at}
-use Rattle.mdp_spec.specs.Unit.{count_at, weight_of}
-use Rattle.mdp_spec.specs.Tree.{Tree, IsPolicy, paths, target_at, is_marked}
-use Rattle.mdp_spec.specs.Tree.Tree.{leaf, node}
+use Rattle.mdp_spec.specs.{Mdp.{Mdp, choices_at}, Unit.{count_at, weight_of}, Tree.{Tree, IsPolicy, paths, target_at, is_marked}, Tree.Tree.{leaf, node}}
 
 -- how many parts of all paths of n steps come to a goal so: all where s is a goal, none at any other state that is a leaf or doesn't stay,
 -- else those of the choices

@@ -1,14 +1,10 @@
 -- Backward induction for an objective (Puterman 1994, section 4.5), in written arithmetic: the values with no step left, then those with one step
 -- more, and so on. It gives the values and the choices, or says where the first term past width is.
-use Rattle.std.specs.Prelude.{ℕ, zero, suc, ◌-◌, Bool, List, [], ◌∷◌, ◌++◌, length, map, Option, Some, None, Result, Ok, Err}
-use Rattle.std.specs.List.{range_with_len}
-use Rattle.mdp_math.specs.Rational.{ℚ}
-use Rattle.mdp_math.specs.Result.{◌>>=◌}
+use Rattle.std.specs.{Prelude.{ℕ, zero, suc, ◌-◌, Bool, List, [], ◌∷◌, ◌++◌, length, map, Option, Some, None, Result, Ok, Err}, List.{range_with_len}}
+use Rattle.mdp_math.specs.{Rational.{ℚ}, Result.{◌>>=◌}}
 use Rattle.mdp_spec.specs.Mdp.{Mdp, states_of, choices_at}
 use Rattle.mdp_rows.specs.declared.dir.Dir.{Dir}
-use Rattle.mdp_horizon.specs.Objective.{Objective, stops, ending}
-use Rattle.mdp_horizon.specs.Objective.Objective.{until, total}
-use Rattle.mdp_horizon.specs.Choices.{Best, best, sum_of_choice, compared}
+use Rattle.mdp_horizon.specs.{Objective.{Objective, stops, ending}, Objective.Objective.{until, total}, Choices.{Best, best, sum_of_choice, compared}}
 use Rattle.mdp_horizon.specs.declared.error.HorizonPlace.{HorizonPlace}
 
 -- f 0, .., f (n - 1) in turn, from a start on; the first refusal ends it

@@ -1,9 +1,7 @@
 ghost use Rattle.std.specs.Prelude.{◌≡◌, ◌<◌, length, Some, None, IfOk, IfErr};
 ghost use Rattle.mdp_spec.specs.Mdp.{states_of, choices_at};
-ghost use Rattle.mdp_horizon.specs.Objective.{stops, ending, earns};
-ghost use Rattle.mdp_horizon.specs.Choices.{judged, sum_of_choice, compared};
-ghost use Rattle.mdp_horizon.specs.Written.{best_choice, backup, backups, endings};
-ghost use Rattle.mdp_horizon.specs.Code.{plain_objective, IsObjectiveOf, IsObjectiveOf-prop};
+ghost use Rattle.mdp_horizon.specs.{Objective.{stops, ending, earns}, Choices.{judged, sum_of_choice, compared}};
+ghost use Rattle.mdp_horizon.specs.{Written.{best_choice, backup, backups, endings}, Code.{plain_objective, IsObjectiveOf, IsObjectiveOf-prop}};
 ghost use Rattle.mdp_horizon.specs.Answer.{Answers, placed, shown, row_of};
 
 use crate::error::{HorizonError, HorizonPlace};

@@ -1,9 +1,7 @@
 ghost use Rattle.std.specs.Prelude.{◌≡◌, ◌<◌, ◌*◌, ◌≤◌, ◌^◌, length, IfOk};
 ghost use Rattle.mdp_spec.specs.Mdp.{states_of};
 ghost use Rattle.mdp_rows.specs.declared.dir.Dir.TheVariants.{Max, Min};
-ghost use Rattle.mdp_horizon.specs.Bounds.{BoundedMax, BoundedMin, TotalMax, TotalMin};
-ghost use Rattle.mdp_horizon.specs.Written.{written_until, written_total};
-ghost use Rattle.mdp_horizon.specs.Answer.{Answers, plain};
+ghost use Rattle.mdp_horizon.specs.{Bounds.{BoundedMax, BoundedMin, TotalMax, TotalMin}, Written.{written_until, written_total}, Answer.{Answers, plain}};
 
 use crate::backup::Query;
 use crate::bounded::Bounded;

@@ -1,20 +1,43 @@
 //! The best values within a number of steps, with a choice for each state and each step: the greatest and the least probability of coming to a goal
-//! by way of given states, and the greatest and the least total reward.
+//! by way of given states, and the greatest and the least total reward; and lower and upper values of both, in units of a decimal place.
 #![tactic(auto)]
 
 mod backup;
+mod best;
 mod bounded;
+mod bounds;
+mod bounds_induction;
+mod bounds_laws;
+mod bounds_objective;
+mod bounds_push;
+mod bounds_write;
+mod choice;
+mod claim;
+mod columns;
 mod error;
 mod induction;
 mod laws;
+mod leader;
 mod objective;
 mod push;
+mod scaling;
 mod steps;
+mod sums;
+mod whole;
 mod write;
 
 pub use bounded::Bounded;
+pub use bounds::HorizonBounds;
+pub use bounds_induction::{total_bounds, until_bounds};
+pub use bounds_laws::{gap_law, rounding_law};
+pub use bounds_objective::Objective;
+pub use bounds_write::write_horizon_bounds;
+pub use choice::{Scale, ScaledChoice, Term};
+pub use claim::Claim;
 pub use error::{HorizonError, HorizonPlace};
 pub use induction::{total, until};
 pub use laws::{between_law, total_law, until_law};
+pub use leader::Leader;
 pub use push::push_steps;
+pub use scaling::scaled;
 pub use write::{write_total, write_until};

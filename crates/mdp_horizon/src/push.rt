@@ -1,9 +1,7 @@
 ghost use Rattle.std.specs.Prelude.{◌≡◌, ◌++◌, length, OnOk};
 ghost use Rattle.mdp_spec.specs.Mdp.{states_of};
-ghost use Rattle.mdp_text.specs.Answer.{Keeps};
-ghost use Rattle.mdp_text.specs.Spelling.{line};
-ghost use Rattle.mdp_horizon.specs.Spelling.{choice_words, step_text, step_lines, answer_lines};
-ghost use Rattle.mdp_horizon.specs.Answer.{lists, plain};
+ghost use Rattle.mdp_text.specs.{Answer.{Keeps}, Spelling.{line}};
+ghost use Rattle.mdp_horizon.specs.{Spelling.{choice_words, step_text, step_lines, answer_lines}, Answer.{lists, plain}};
 
 use crate::bounded::Bounded;
 use mdp_num::Memory;

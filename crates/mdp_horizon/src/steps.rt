@@ -1,8 +1,6 @@
 ghost use Rattle.std.specs.Prelude.{◌≡◌, ◌*◌, ◌≤◌, ◌^◌, length, IfOk};
 ghost use Rattle.mdp_spec.specs.Mdp.{states_of};
-ghost use Rattle.mdp_horizon.specs.Written.{written_values};
-ghost use Rattle.mdp_horizon.specs.Code.{plain_objective};
-ghost use Rattle.mdp_horizon.specs.Answer.{Answers, plain};
+ghost use Rattle.mdp_horizon.specs.{Written.{written_values}, Code.{plain_objective}, Answer.{Answers, plain}};
 
 use crate::backup::Query;
 use crate::bounded::Bounded;

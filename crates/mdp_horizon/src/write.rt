@@ -1,9 +1,7 @@
 ghost use Rattle.std.specs.Prelude.{◌≡◌, ◌++◌, codes, length, OnOk, OnErr};
 ghost use Rattle.mdp_spec.specs.Mdp.{states_of};
-ghost use Rattle.mdp_text.specs.Parts.{parts_text};
-ghost use Rattle.mdp_text.specs.Spelling.{line, dir_text};
-ghost use Rattle.mdp_horizon.specs.Spelling.{version_text, until_claim, until_text, total_text, answer_lines};
-ghost use Rattle.mdp_horizon.specs.Answer.{plain};
+ghost use Rattle.mdp_text.specs.{Parts.{parts_text}, Spelling.{line, dir_text}};
+ghost use Rattle.mdp_horizon.specs.{Spelling.{version_text, until_claim, until_text, total_text, answer_lines}, Answer.{plain}};
 
 use crate::bounded::Bounded;
 use crate::push::push_answer;

@@ -1,20 +1,12 @@
 -- Worked words, and what they ask for.
 use Rattle.std.proofs.Common.{◌≡◌, ℕ, List, [], ◌∷◌, ◌++◌, Some, None, Ok, Err, refl}
-use Rattle.std.specs.Fmt.{digits}
-use Rattle.std.specs.List.{slice_split}
-use Rattle.std.specs.Prelude.{◌==◌, codes, map, pos}
-use Rattle.mdp_math.specs.Gcd.{gcd, gcd_with_fuel}
-use Rattle.mdp_math.specs.Rational.{of_int, ratio, lt_ℚ}
-use Rattle.mdp_num.specs.Numeral.{parts_of, numeral_of}
-use Rattle.mdp_num.specs.Value.{spelling}
-use Rattle.mdp_rows.specs.declared.rule.RowRule.TheVariants.{Exact, Scaled}
-use Rattle.mdp_rows.specs.declared.dir.Dir.TheVariants.{Max, Min}
+use Rattle.std.specs.{Fmt.{digits}, List.{slice_split}, Prelude.{◌==◌, codes, map, pos}}
+use Rattle.mdp_math.specs.{Gcd.{gcd, gcd_with_fuel}, Rational.{of_int, ratio, lt_ℚ}}
+use Rattle.mdp_num.specs.{Numeral.{parts_of, numeral_of}, Value.{spelling}}
+use Rattle.mdp_rows.specs.{declared.rule.RowRule.TheVariants.{Exact, Scaled}, declared.dir.Dir.TheVariants.{Max, Min}}
 use Rattle.mdp_job.specs.Job.{Asked, reach, reward, mean, solve, witness, check, drill, horizon, horizon_reward, policy, chain, discount, discount_check, files_of}
-use Rattle.mdp_job.specs.Job.{bounds, bounds_until, bounds_total, bounds_discount, bounds_check}
-use Rattle.mdp_job.specs.Refusal.{no_job, query_init, below}
-use Rattle.mdp_job.specs.Status.{code_of, status_of}
-use Rattle.mdp_job.specs.Text.{text_of}
-use Rattle.mdp_job.specs.Words.{job_of_texts, path_at}
+use Rattle.mdp_job.specs.{Job.{bounds, bounds_until, bounds_total, bounds_discount, bounds_check}, Refusal.{no_job, query_init, below}}
+use Rattle.mdp_job.specs.{Status.{code_of, status_of}, Text.{text_of}, Words.{job_of_texts, path_at}}
 use Rattle.mdp_job.specs.declared.words_error.WordsError.TheVariants.{Command, Number, Rows, Direction, Objective, Threshold, Drill, Steps, Factor, Digits, Encoding}
 
 -- ---- how words are written below

@@ -2,10 +2,7 @@
 use Rattle.std.proofs.Common.{◌≡◌, Bool, true, false, refl, sym, subst, pos, ℤ, ◌*ℤ◌}
 use Rattle.std.specs.Prelude.{◌<ℤ◌, ◌≤ℤ◌}
 use Rattle.mdp_math.specs.Rational.{ℚ, of_int, lt_ℚ, ◌≤ℚ◌, ◌<ℚ◌}
-use Rattle.mdp_math.proofs.Ring.{◌⊗◌, lit, ring}
-use Rattle.mdp_math.proofs.IntegerRing.{int_ring}
-use Rattle.mdp_math.proofs.Order.{1ℚ, across_le, across_lt}
-use Rattle.mdp_math.proofs.Extremes.{test_of_lt, no_test_of_le}
+use Rattle.mdp_math.proofs.{Ring.{◌⊗◌, lit, ring}, IntegerRing.{int_ring}, Order.{1ℚ, across_le, across_lt}, Extremes.{test_of_lt, no_test_of_le}}
 
 times-one : (x : ℤ) → x *ℤ pos 1 ≡ x
 times-one x = ring int_ring 1 (λ x. x ⊗ lit (pos 1)) (λ x. x) refl x

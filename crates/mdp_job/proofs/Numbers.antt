@@ -1,9 +1,7 @@
 -- How great a number of few digits can be.
 use Rattle.std.proofs.Common.{◌≡◌, ℕ, suc, ◌+◌, ◌-◌, ◌*◌, ◌^◌, ◌<◌, ◌≤◌, true, List, [], ◌∷◌, length, min, nat_lt, ◌==◌, ap, arith}
-use Rattle.std.proofs.lemmas.Bool.Decides.{nat_tests}
-use Rattle.std.specs.Char.{is_ascii_digit}
-use Rattle.std.specs.List.{prefix_len, list_all}
-use Rattle.std.proofs.Math.Nat.{pow-zero, pow-succ', pow-le-pow_right, mul_assoc, mul-le-mul_right}
+use Rattle.std.proofs.{lemmas.Bool.Decides.{nat_tests}, Math.Nat.{pow-zero, pow-succ', pow-le-pow_right, mul_assoc, mul-le-mul_right}}
+use Rattle.std.specs.{Char.{is_ascii_digit}, List.{prefix_len, list_all}}
 use Rattle.mdp_math.proofs.Booleans.{and-left, and-right}
 use Rattle.mdp_num.specs.Digits.{number_after, number, is_digits}
 use Rattle.mdp_num.proofs.Plain.{digit-bounds}

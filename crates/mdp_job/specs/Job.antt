@@ -1,15 +1,11 @@
 -- The jobs, as contracts see them, and the words that name the files of each.
 use Rattle.std.specs.Prelude.{ℕ, Bool, List, Option, Some, None, option_map, is_some, Result, Ok, Err}
 use Rattle.mdp_math.specs.Rational.{ℚ}
-use Rattle.mdp_rows.specs.declared.dir.Dir.{Dir}
-use Rattle.mdp_rows.specs.declared.rule.RowRule.{RowRule}
-use Rattle.mdp_job.specs.declared.job.Query.{Query}
-use Rattle.mdp_job.specs.declared.job.Query.TheVariants as query
-use Rattle.mdp_job.specs.declared.job.Job.{Job}
+use Rattle.mdp_rows.specs.{declared.dir.Dir.{Dir}, declared.rule.RowRule.{RowRule}}
+use Rattle.mdp_job.specs.{declared.job.Query.{Query}, declared.job.Job.{Job}}
 use Rattle.mdp_job.specs.declared.job.Job.TheVariants.{Bounds, BoundsCheck, BoundsDiscount, BoundsTotal, BoundsUntil, Chain, Check, Discount, DiscountCheck, Drill, Horizon, HorizonReward, Policy, Solve}
-use Rattle.mdp_job.specs.declared.job.Job.TheVariants.{Witness}
-use Rattle.mdp_job.specs.declared.files.Files.{Files}
-use Rattle.mdp_job.specs.declared.words_error.WordsError.{WordsError}
+use Rattle.mdp_job.specs.{declared.job.Job.TheVariants.{Witness}, declared.files.Files.{Files}, declared.words_error.WordsError.{WordsError}}
+use Rattle.mdp_job.specs.declared.job.Query.TheVariants as query
 
 -- what is to be solved: the probability of reaching a label, the reward of a name until a label, or the mean payoff of a name
 pub data PlainQuery : Type 0 where

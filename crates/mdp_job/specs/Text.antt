@@ -1,18 +1,12 @@
 -- The text of each refusal: one line, but for a term past width in what was to be solved, which has two.
-use Rattle.std.specs.Prelude.{ℕ, List, [], ◌∷◌, ◌++◌, Option, Some, None, decimal, codes}
-use Rattle.std.specs.List.{flat_map}
+use Rattle.std.specs.{Prelude.{ℕ, List, [], ◌∷◌, ◌++◌, Option, Some, None, decimal, codes}, List.{flat_map}}
 use Rattle.mdp_math.specs.Rational.{ℚ}
 use Rattle.mdp_num.specs.Value.{spelling}
 use Rattle.mdp_text.specs.Kinds.{cert_word}
 use Rattle.mdp_drn.specs.Kinds.{drn_word}
-use Rattle.mdp_wide.specs.declared.too_wide.Kind.{Kind}
-use Rattle.mdp_wide.specs.declared.too_wide.Kind.TheVariants.{Evaluate, Compare, Check}
-use Rattle.mdp_wide.specs.declared.too_wide.Part.{Part}
-use Rattle.mdp_wide.specs.declared.too_wide.Part.TheVariants.{Whole, Inner, Outer, Steps, Join, Flow, Floor}
-use Rattle.mdp_claims.specs.RuleNumber.{number_of}
-use Rattle.mdp_claims.specs.declared.rule.Rule.{Rule}
-use Rattle.mdp_claims.specs.declared.verdict.Fault.{Fault}
-use Rattle.mdp_wide.specs.Term.{WideTerm}
+use Rattle.mdp_wide.specs.{declared.too_wide.Kind.{Kind}, declared.too_wide.Kind.TheVariants.{Evaluate, Compare, Check}, declared.too_wide.Part.{Part}}
+use Rattle.mdp_wide.specs.{declared.too_wide.Part.TheVariants.{Whole, Inner, Outer, Steps, Join, Flow, Floor}, Term.{WideTerm}}
+use Rattle.mdp_claims.specs.{RuleNumber.{number_of}, declared.rule.Rule.{Rule}, declared.verdict.Fault.{Fault}}
 use Rattle.mdp_job.specs.Refusal.{PlainRefusal, no_job, model_text, query_size, query_reward, query_label, query_init, query_negative, query_steps, query_choice, too_wide, check_wide, horizon_wide}
 use Rattle.mdp_job.specs.Refusal.{denied, read_model, read_certificate, long_model, long_certificate, cert_text, policy_text, below, no_memory}
 use Rattle.mdp_job.specs.declared.words_error.WordsError.{WordsError}

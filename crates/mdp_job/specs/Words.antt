@@ -20,20 +20,11 @@
 --     bounds-check MODEL ROWS CERT
 -- ROWS is `exact` or `scaled`, DIR `max` or `min`.
 use Rattle.std.specs.Prelude.{ℕ, ◌*◌, ◌-◌, ◌^◌, Bool, false, ◌&&◌, not, List, [], ◌∷◌, length, take, slice_index_or, map, Option, Some, None}
-use Rattle.std.specs.Prelude.{Result, Ok, Err, pos, ◌==◌, nat_lt, if◌then◌else◌, codes}
-use Rattle.std.specs.declared.string.String.{String}
-use Rattle.std.specs.Option.{ok_or}
-use Rattle.std.specs.Str.{bytes_eq}
-use Rattle.std.specs.String.{string_bytes}
-use Rattle.std.specs.Global.{Global}
-use Rattle.mdp_math.specs.Rational.{ℚ, of_int, lt_ℚ}
-use Rattle.mdp_math.specs.Result.{◌>>=◌}
-use Rattle.mdp_num.specs.Digits.{is_digits, number}
-use Rattle.mdp_num.specs.Numeral.{numeral_of}
-use Rattle.mdp_num.specs.declared.errors.NumeralError.{NumeralError}
-use Rattle.mdp_rows.specs.declared.dir.Dir.{Dir}
-use Rattle.mdp_rows.specs.declared.dir.Dir.TheVariants.{Max, Min}
-use Rattle.mdp_rows.specs.declared.rule.RowRule.{RowRule}
+use Rattle.std.specs.{Prelude.{Result, Ok, Err, pos, ◌==◌, nat_lt, if◌then◌else◌, codes}, declared.string.String.{String}, Option.{ok_or}, Str.{bytes_eq}}
+use Rattle.std.specs.{String.{string_bytes}, Global.{Global}}
+use Rattle.mdp_math.specs.{Rational.{ℚ, of_int, lt_ℚ}, Result.{◌>>=◌}}
+use Rattle.mdp_num.specs.{Digits.{is_digits, number}, Numeral.{numeral_of}, declared.errors.NumeralError.{NumeralError}}
+use Rattle.mdp_rows.specs.{declared.dir.Dir.{Dir}, declared.dir.Dir.TheVariants.{Max, Min}, declared.rule.RowRule.{RowRule}}
 use Rattle.mdp_rows.specs.declared.rule.RowRule.TheVariants.{Exact, Scaled}
 use Rattle.mdp_job.specs.Job.{PlainQuery, reach, reward, mean, solve, witness, check, drill, horizon, horizon_reward, policy, chain, discount, discount_check}
 use Rattle.mdp_job.specs.Job.{bounds, bounds_until, bounds_total, bounds_discount, bounds_check, Asked, files_of}

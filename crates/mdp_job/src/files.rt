@@ -1,7 +1,5 @@
-ghost use Rattle.std.specs.Prelude.{◌≡◌, map};
-ghost use Rattle.std.specs.String.{string_bytes};
-ghost use Rattle.mdp_job.specs.Job.{files_of};
-ghost use Rattle.mdp_job.specs.Words.{job_of, path_at, model_path, second_path};
+ghost use Rattle.std.specs.{Prelude.{◌≡◌, map}, String.{string_bytes}};
+ghost use Rattle.mdp_job.specs.{Job.{files_of}, Words.{job_of, path_at, model_path, second_path}};
 
 use crate::job::{Job, job_of};
 

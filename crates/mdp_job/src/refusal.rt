@@ -1,11 +1,8 @@
 ghost use Rattle.std.specs.Prelude.{◌≡◌, ◌++◌, OnOk, OnErr};
-ghost use Rattle.mdp_job.specs.Refusal.{plain_refusal, no_job};
-ghost use Rattle.mdp_job.specs.Status.{status_of};
-ghost use Rattle.mdp_job.specs.Text.{text_of, words_word, at_line, place_text, number_or_dash, below_text};
-ghost use Rattle.mdp_job.specs.Text.{part_word, kind_word, policy_words, too_wide_text};
+ghost use Rattle.mdp_job.specs.{Refusal.{plain_refusal, no_job}, Status.{status_of}};
+ghost use Rattle.mdp_job.specs.Text.{text_of, words_word, at_line, place_text, number_or_dash, below_text, part_word, kind_word, policy_words, too_wide_text};
 ghost use Rattle.mdp_job.specs.WideLines.{wide_place, policy_line};
-ghost use Rattle.mdp_text.specs.Answer.{Keeps};
-ghost use Rattle.mdp_text.specs.Parts.{part_text, parts_text};
+ghost use Rattle.mdp_text.specs.{Answer.{Keeps}, Parts.{part_text, parts_text}};
 ghost use Rattle.mdp_wide.specs.Term.{shown};
 
 use crate::status::Status;

@@ -1,21 +1,11 @@
 -- Rows of entries as the rows of a matrix over the active numbers.
 use Rattle.std.proofs.Common.{◌≡◌, ℕ, zero, suc, ◌<◌, ◌≤◌, ◌⊎◌, inl, inr, Bool, true, false, eqb, if◌then◌else◌, List, [], ◌∷◌, get_or, refl, sym, ◌∙◌, ap, ap₂, arith, pos}
-use Rattle.std.specs.List.{All, Contains}
 use Rattle.std.proofs.lemmas.List.Elements.{All-nil, All-cons, All-contains}
-use Rattle.mdp_math.specs.Rational.{ℚ, ◌+ℚ◌, ◌*ℚ◌, ◌-ℚ◌, ◌≤ℚ◌, ◌<ℚ◌}
-use Rattle.mdp_math.specs.Sum.{sum_of}
-use Rattle.mdp_math.specs.Kernel.{weigh}
-use Rattle.mdp_math.specs.Pivot.{active_below, entry_at}
-use Rattle.mdp_math.proofs.Numbers.{last_or, le_or, eqb-same, eqb-smaller, eqb-greater}
-use Rattle.mdp_math.proofs.Ring.{◌⊕◌, ◌⊗◌, ⊖, lit, ring}
-use Rattle.mdp_math.proofs.Laws.{rat_ring, zero-*ℚ}
-use Rattle.mdp_math.proofs.Order.{0ℚ, 1ℚ, ≤ℚ_refl, add-nonneg, mul-pos_ℚ, sub-pos}
-use Rattle.mdp_math.proofs.Linear.{linear_lt, combine, equal, known}
-use Rattle.mdp_math.proofs.Kernel.{All-head, All-tail}
-use Rattle.mdp_math.proofs.Weight.{Shrinks}
-use Rattle.mdp_math.proofs.Leaving.{weight-pos}
-use Rattle.mdp_math.proofs.Solutions.{Solves}
-use Rattle.mdp_math.proofs.Pivots.{RowsShrink, SolvesOn}
+use Rattle.std.specs.List.{All, Contains}
+use Rattle.mdp_math.specs.{Rational.{ℚ, ◌+ℚ◌, ◌*ℚ◌, ◌-ℚ◌, ◌≤ℚ◌, ◌<ℚ◌}, Sum.{sum_of}, Kernel.{weigh}, Pivot.{active_below, entry_at}}
+use Rattle.mdp_math.proofs.{Numbers.{last_or, le_or, eqb-same, eqb-smaller, eqb-greater}, Ring.{◌⊕◌, ◌⊗◌, ⊖, lit, ring}, Laws.{rat_ring, zero-*ℚ}}
+use Rattle.mdp_math.proofs.{Order.{0ℚ, 1ℚ, ≤ℚ_refl, add-nonneg, mul-pos_ℚ, sub-pos}, Linear.{linear_lt, combine, equal, known}, Kernel.{All-head, All-tail}}
+use Rattle.mdp_math.proofs.{Weight.{Shrinks}, Leaving.{weight-pos}, Solutions.{Solves}, Pivots.{RowsShrink, SolvesOn}}
 
 -- ---- the active numbers below n
 

@@ -1,11 +1,9 @@
 -- The laws of the reciprocal and of division.
 use Rattle.std.proofs.Common.{◌≡◌, ◌≢◌, ℕ, ◌<◌, [], ◌∷◌, inl, inr, refl, sym, ◌∙◌, arith, ℤ, pos}
 use Rattle.mdp_math.specs.Rational.{ℚ, of_int, ratio, ◌+ℚ◌, ◌*ℚ◌, ◌-ℚ◌, inv_ℚ, ◌≤ℚ◌, ◌<ℚ◌}
-use Rattle.mdp_math.proofs.Ring.{◌⊕◌, ◌⊗◌, ⊖, lit, ring}
-use Rattle.mdp_math.proofs.Laws.{rat_ring}
+use Rattle.mdp_math.proofs.{Ring.{◌⊕◌, ◌⊗◌, ⊖, lit, ring}, Laws.{rat_ring}}
 use Rattle.mdp_math.proofs.Order.{0ℚ, 1ℚ, ◌/ℚ◌, ≤ℚ_of_lt, ≤ℚ_or_gt, sub-pos, clash_ℚ, mul-inv, mul-nonneg, mul-pos_ℚ, ne-zero_of_pos, div-of_int}
-use Rattle.mdp_math.proofs.Whole.{one-pos, of_nat-pos, ratio-pos}
-use Rattle.mdp_math.proofs.Linear.{linear, linear_lt, combine, equal, at_most, known}
+use Rattle.mdp_math.proofs.{Whole.{one-pos, of_nat-pos, ratio-pos}, Linear.{linear, linear_lt, combine, equal, at_most, known}}
 
 -- ---- equations, for y not 0
 

@@ -1,16 +1,11 @@
 -- Elimination of all the numbers: where each pivot is above 0 there is one solution, and elimination gives it.
 use Rattle.std.proofs.Common.{◌≡◌, ◌≢◌, ℕ, zero, suc, ◌<◌, Bool, true, false, eqb, if◌then◌else◌, List, [], ◌∷◌, get_or, refl, sym, ◌∙◌, ap, arith}
-use Rattle.std.specs.List.{All}
 use Rattle.std.proofs.lemmas.List.Elements.{All-nil, All-cons}
-use Rattle.mdp_math.specs.Rational.{ℚ, ◌+ℚ◌, ◌*ℚ◌, ◌-ℚ◌, ◌<ℚ◌}
-use Rattle.mdp_math.specs.Sum.{sum_of}
+use Rattle.std.specs.List.{All}
+use Rattle.mdp_math.specs.{Rational.{ℚ, ◌+ℚ◌, ◌*ℚ◌, ◌-ℚ◌, ◌<ℚ◌}, Sum.{sum_of}}
 use Rattle.mdp_math.specs.Pivot.{divided, divided_constant, pivoted, pivoted_constant, active_below, entry_at, HasPivots, solution}
-use Rattle.mdp_math.proofs.Numbers.{eqb-same, eqb-smaller}
-use Rattle.mdp_math.proofs.Order.{0ℚ, 1ℚ, sub-pos, ne-zero_of_pos}
-use Rattle.mdp_math.proofs.Sums.{sum_of-same_all}
-use Rattle.mdp_math.proofs.Kernel.{All-head, All-tail}
-use Rattle.mdp_math.proofs.Weight.{Shrinks}
-use Rattle.mdp_math.proofs.Solutions.{Solves}
+use Rattle.mdp_math.proofs.{Numbers.{eqb-same, eqb-smaller}, Order.{0ℚ, 1ℚ, sub-pos, ne-zero_of_pos}, Sums.{sum_of-same_all}, Kernel.{All-head, All-tail}}
+use Rattle.mdp_math.proofs.{Weight.{Shrinks}, Solutions.{Solves}}
 use Rattle.mdp_math.proofs.Pivots.{RowsShrink, ColumnsShrink, SolvesOn, diagonal-below, pivot-rows, pivot-columns, pivot-solves, solves-pivot}
 use Rattle.mdp_math.proofs.Dense.{rows_shrink, solves_from_dense, active_below-all}
 

@@ -1,22 +1,12 @@
 -- Computations and recipes, each checked.
 use Rattle.std.proofs.Common.{◌≡◌, ℕ, zero, suc, ◌<◌, ◌⊎◌, inl, List, [], ◌∷◌, true, false, cond, eqb, refl, sym, ◌∙◌, subst, arith, pos, negsuc}
-use Rattle.std.specs.List.{All, Any}
 use Rattle.std.proofs.lemmas.List.Elements.{All-from_recursion}
-use Rattle.mdp_math.specs.Gcd.{gcd, gcd_with_fuel}
-use Rattle.mdp_math.specs.Rational.{ℚ, of_int, ratio, ◌+ℚ◌, ◌*ℚ◌, ◌-ℚ◌, neg_ℚ, inv_ℚ, le_ℚ, lt_ℚ, ◌≤ℚ◌, ◌<ℚ◌}
-use Rattle.mdp_math.specs.Sum.{sum_of, sum_at}
-use Rattle.mdp_math.specs.Power.{pow_ℚ}
-use Rattle.mdp_math.specs.Extremes.{least, greatest}
-use Rattle.mdp_math.specs.Kernel.{weigh}
-use Rattle.mdp_math.specs.Pivot.{pivoted, pivoted_constant, active_below, entry_at, solution}
-use Rattle.mdp_math.proofs.Ring.{◌⊕◌, ◌⊗◌, ⊖, lit, ring}
-use Rattle.mdp_math.proofs.IntegerRing.{int_ring}
-use Rattle.mdp_math.proofs.Laws.{rat_ring, is_self, is_add, is_mul, is_of_int, same_is}
-use Rattle.mdp_math.proofs.Order.{0ℚ, 1ℚ}
-use Rattle.mdp_math.proofs.Weight.{Shrinks, RanksFall, shrinks_by_ranks, weight_by_ranks, rate_by_ranks}
-use Rattle.mdp_math.proofs.Solutions.{Solves, one_solution}
-use Rattle.mdp_math.proofs.Elimination.{kernel_solution}
-use Rattle.mdp_math.proofs.Linear.{linear, linear_lt, combine, equal, at_most, known}
+use Rattle.std.specs.List.{All, Any}
+use Rattle.mdp_math.specs.{Gcd.{gcd, gcd_with_fuel}, Rational.{ℚ, of_int, ratio, ◌+ℚ◌, ◌*ℚ◌, ◌-ℚ◌, neg_ℚ, inv_ℚ, le_ℚ, lt_ℚ, ◌≤ℚ◌, ◌<ℚ◌}, Sum.{sum_of, sum_at}}
+use Rattle.mdp_math.specs.{Power.{pow_ℚ}, Extremes.{least, greatest}, Kernel.{weigh}, Pivot.{pivoted, pivoted_constant, active_below, entry_at, solution}}
+use Rattle.mdp_math.proofs.{Ring.{◌⊕◌, ◌⊗◌, ⊖, lit, ring}, IntegerRing.{int_ring}, Laws.{rat_ring, is_self, is_add, is_mul, is_of_int, same_is}, Order.{0ℚ, 1ℚ}}
+use Rattle.mdp_math.proofs.{Weight.{Shrinks, RanksFall, shrinks_by_ranks, weight_by_ranks, rate_by_ranks}, Solutions.{Solves, one_solution}}
+use Rattle.mdp_math.proofs.{Elimination.{kernel_solution}, Linear.{linear, linear_lt, combine, equal, at_most, known}}
 
 -- ---- computations
 

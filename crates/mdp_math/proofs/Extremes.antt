@@ -1,11 +1,9 @@
 -- The laws of the least and the greatest number of a list.
 use Rattle.std.proofs.Common.{◌≡◌, suc, List, [], ◌∷◌, map, Bool, true, false, if◌then◌else◌, T, inl, inr, ⊎_elim, refl, sym, subst, arith}
-use Rattle.std.specs.List.{All, AllByRecursion, Any, Contains}
 use Rattle.std.proofs.lemmas.List.Elements.{recursion_from_All, All-from_recursion, All-contains}
-use Rattle.mdp_math.specs.Rational.{ℚ, le_ℚ, lt_ℚ, ◌≤ℚ◌, ◌<ℚ◌}
-use Rattle.mdp_math.specs.Extremes.{pick, best, least, greatest}
-use Rattle.mdp_math.proofs.Order.{≤ℚ_refl, ≤ℚ_trans, ≤ℚ_of_lt, ≤ℚ_or_gt, clash_ℚ}
-use Rattle.mdp_math.proofs.Booleans.{true_of_T, false_of_not}
+use Rattle.std.specs.List.{All, AllByRecursion, Any, Contains}
+use Rattle.mdp_math.specs.{Rational.{ℚ, le_ℚ, lt_ℚ, ◌≤ℚ◌, ◌<ℚ◌}, Extremes.{pick, best, least, greatest}}
+use Rattle.mdp_math.proofs.{Order.{≤ℚ_refl, ≤ℚ_trans, ≤ℚ_of_lt, ≤ℚ_or_gt, clash_ℚ}, Booleans.{true_of_T, false_of_not}}
 
 -- ---- the tests of an order
 

@@ -1,12 +1,9 @@
 -- Bounds on finitely many: a positive number below each of them, and a greatest rank.
 use Rattle.std.proofs.Common.{◌≡◌, ℕ, zero, suc, ◌+◌, ◌<◌, ◌≤◌, ◌⊎◌, inl, inr, Bool, true, false, true≢false, List, [], ◌∷◌, get_or, refl, sym, ◌∙◌, ap, subst, arith}
-use Rattle.std.specs.List.{All}
 use Rattle.std.proofs.lemmas.List.Elements.{All-nil, All-cons}
+use Rattle.std.specs.List.{All}
 use Rattle.mdp_math.specs.Rational.{ℚ, ◌≤ℚ◌, ◌<ℚ◌}
-use Rattle.mdp_math.proofs.Whole.{one-pos}
-use Rattle.mdp_math.proofs.Numbers.{last_or}
-use Rattle.mdp_math.proofs.Order.{≤ℚ_of_eq, 0ℚ, 1ℚ, ≤ℚ_refl, ≤ℚ_trans, ≤ℚ_of_lt, ≤ℚ_or_gt}
-use Rattle.mdp_math.proofs.Kernel.{All-head, All-tail}
+use Rattle.mdp_math.proofs.{Whole.{one-pos}, Numbers.{last_or}, Order.{≤ℚ_of_eq, 0ℚ, 1ℚ, ≤ℚ_refl, ≤ℚ_trans, ≤ℚ_of_lt, ≤ℚ_or_gt}, Kernel.{All-head, All-tail}}
 
 -- a positive number, at most 1, of which P holds
 abbrev pub ForSmall : (ℚ → Type 0) → Type 0

@@ -1,6 +1,5 @@
 -- ℤ as a ring, and its equations by computation.
-use Rattle.std.proofs.Common.{◌≡◌, refl, ℤ, pos, negsuc, ◌+ℤ◌, ◌*ℤ◌, neg_ℤ, arith}
-use Rattle.std.proofs.lemmas.Int.{ints}
+use Rattle.std.proofs.{Common.{◌≡◌, refl, ℤ, pos, negsuc, ◌+ℤ◌, ◌*ℤ◌, neg_ℤ, arith}, lemmas.Int.{ints}}
 use lib.IntN.{+ℤ_assoc, +ℤ_comm, *ℤ_comm, +ℤ_idl, zero-*ℤ}
 use Rattle.mdp_math.specs.Integers.{*ℤ_assoc, *ℤ-+ℤ}
 use Rattle.mdp_math.proofs.Ring.{CommRing}

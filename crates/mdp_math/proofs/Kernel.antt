@@ -1,15 +1,11 @@
 -- The laws of weighing a function by a row.
 use Rattle.std.proofs.Common.{◌≡◌, ℕ, zero, suc, ◌<◌, ◌⊎◌, inl, inr, List, [], ◌∷◌, length, get_or, refl, sym, ◌∙◌, ap, ap₂, subst, arith, pos}
-use Rattle.std.specs.List.{All, Any}
 use Rattle.std.proofs.lemmas.List.Elements.{All-nil, All-cons}
-use Rattle.mdp_math.specs.Rational.{ℚ, ◌+ℚ◌, ◌*ℚ◌, ◌-ℚ◌, neg_ℚ, ◌≤ℚ◌, ◌<ℚ◌}
-use Rattle.mdp_math.specs.Sum.{sum_of}
-use Rattle.mdp_math.specs.Kernel.{weigh}
-use Rattle.mdp_math.proofs.Ring.{◌⊕◌, ◌⊗◌, ⊖, lit, ring}
-use Rattle.mdp_math.proofs.Laws.{rat_ring, zero-*ℚ}
+use Rattle.std.specs.List.{All, Any}
+use Rattle.mdp_math.specs.{Rational.{ℚ, ◌+ℚ◌, ◌*ℚ◌, ◌-ℚ◌, neg_ℚ, ◌≤ℚ◌, ◌<ℚ◌}, Sum.{sum_of}, Kernel.{weigh}}
+use Rattle.mdp_math.proofs.{Ring.{◌⊕◌, ◌⊗◌, ⊖, lit, ring}, Laws.{rat_ring, zero-*ℚ}}
 use Rattle.mdp_math.proofs.Order.{≤ℚ_antisymm, ≤ℚ_or_gt, ≤ℚ_of_eq, clash_ℚ, <ℚ_irrefl, lt_or_eq_ℚ, le_of_mul_left_ℚ, sub-pos, 0ℚ, 1ℚ, ≤ℚ_refl, add-le-add_ℚ}
-use Rattle.mdp_math.proofs.Order.{mul-le-mul_left_ℚ, mul-nonneg, mul-pos_ℚ, add-nonneg, add-pos-nonneg}
-use Rattle.mdp_math.proofs.Linear.{linear, linear_lt, at_most, known}
+use Rattle.mdp_math.proofs.{Order.{mul-le-mul_left_ℚ, mul-nonneg, mul-pos_ℚ, add-nonneg, add-pos-nonneg}, Linear.{linear, linear_lt, at_most, known}}
 
 -- ---- claims on the elements of a list
 

@@ -1,15 +1,12 @@
 -- The laws of ℚ.
 use Rattle.std.proofs.Common.{◌≡◌, ℕ, zero, suc, ◌*◌, ◌/◌, ◌<◌, T, eqb, ltb, eqb→eq, ltb→lt, lt→ltb, refl, sym, ◌∙◌, ap, ap₂, subst, arith, ℤ, pos, negsuc, ◌+ℤ◌}
-use Rattle.std.proofs.Common.{◌*ℤ◌, neg_ℤ, unsigned_abs, int_div, mul-pos, mul_comm}
-use Rattle.std.proofs.lemmas.Int.{unsigned_abs-mul}
+use Rattle.std.proofs.{Common.{◌*ℤ◌, neg_ℤ, unsigned_abs, int_div, mul-pos, mul_comm}, lemmas.Int.{unsigned_abs-mul}}
 use mathlib.Core.HLevel.{is_prop→PathP}
 use lib.Dec.{T_prop}
 use Rattle.std.specs.Int.{◌∣◌}
-use Rattle.mdp_math.specs.Gcd.{gcd, gcd_is, gauss}
-use Rattle.mdp_math.specs.Integers.{exact_div, cancel_pos}
-use Rattle.mdp_math.proofs.IntegerRing.{int_ring}
-use Rattle.mdp_math.proofs.Ring.{CommRing, ◌⊕◌, ◌⊗◌, ⊖, lit, ring₂, ring₃, ring₄, ring₆}
+use Rattle.mdp_math.specs.{Gcd.{gcd, gcd_is, gauss}, Integers.{exact_div, cancel_pos}}
 use Rattle.mdp_math.specs.Rational.{ℚ, is_lowest, of_int, ratio, ◌+ℚ◌, ◌*ℚ◌, neg_ℚ, T_and, T_and_left, T_and_right}
+use Rattle.mdp_math.proofs.{IntegerRing.{int_ring}, Ring.{CommRing, ◌⊕◌, ◌⊗◌, ⊖, lit, ring₂, ring₃, ring₄, ring₆}}
 use native.Mathlib.Nat.{dvd_antisymm, dvd-mul_left, div-mul_cancel}
 
 pub den-pos : (x : ℚ) → 0 < x.den

@@ -1,9 +1,8 @@
 -- The least common multiple is a multiple of both numbers, and above 0 where both are.
 use Rattle.std.proofs.Common.{◌≡◌, ℕ, ◌*◌, ◌/◌, ◌<◌, ◌≤◌, sym, ◌∙◌, ap, subst, arith, mul_comm}
-use Rattle.std.specs.Int.{◌∣◌}
 use Rattle.std.proofs.Math.Nat.{dvd-mul_left, dvd-mul_right, mul-div_cancel', div-mul_cancel, div_self, one-le-mul, le_of_dvd, dvd_of_mul-dvd-mul_left, dvd_antisymm, dvd_refl}
-use Rattle.mdp_math.specs.Gcd.{gcd, gcd_is, gcd_comm, gcd-pos, gcd-reduced, gcd-one_right, gauss, lcm}
-use Rattle.mdp_math.specs.Rational.{quotient-pos}
+use Rattle.std.specs.Int.{◌∣◌}
+use Rattle.mdp_math.specs.{Gcd.{gcd, gcd_is, gcd_comm, gcd-pos, gcd-reduced, gcd-one_right, gauss, lcm}, Rational.{quotient-pos}}
 
 pub lcm-left : (a b : ℕ) → a ∣ lcm a b
 lcm-left a b =

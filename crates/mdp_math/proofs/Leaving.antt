@@ -1,18 +1,11 @@
 -- What a weight that shrinks bounds: a family that each step weighs by allowed rows comes below each positive bound.
 use Rattle.std.proofs.Common.{◌≡◌, ℕ, zero, suc, ◌<◌, ◌≤◌, Bool, true, false, List, [], ◌∷◌, refl, sym, subst, arith, pos}
-use Rattle.mdp_math.specs.Rational.{ℚ, of_int, ratio, ◌+ℚ◌, ◌*ℚ◌, inv_ℚ, ◌≤ℚ◌, ◌<ℚ◌}
-use Rattle.mdp_math.specs.Power.{pow_ℚ}
-use Rattle.mdp_math.specs.Sum.{sum_at, EachAt}
-use Rattle.mdp_math.specs.Kernel.{weigh}
-use Rattle.mdp_math.proofs.SumsAt.{sum_at-sum_of, sum_at-le, sum_at-weighted_le, EachAt_mono, EachAt_both, EachAt-from_All}
-use Rattle.mdp_math.proofs.Ring.{◌⊕◌, ◌⊗◌, lit}
+use Rattle.mdp_math.specs.{Rational.{ℚ, of_int, ratio, ◌+ℚ◌, ◌*ℚ◌, inv_ℚ, ◌≤ℚ◌, ◌<ℚ◌}, Power.{pow_ℚ}, Sum.{sum_at, EachAt}, Kernel.{weigh}}
+use Rattle.mdp_math.proofs.{SumsAt.{sum_at-sum_of, sum_at-le, sum_at-weighted_le, EachAt_mono, EachAt_both, EachAt-from_All}, Ring.{◌⊕◌, ◌⊗◌, lit}}
 use Rattle.mdp_math.proofs.Whole.{one-pos, of_nat-nonneg, ratio-pos}
 use Rattle.mdp_math.proofs.Order.{0ℚ, 1ℚ, mul-le-mul_left_ℚ, ≤ℚ_refl, ≤ℚ_trans, ≤ℚ_of_lt, ≤ℚ_of_eq, <ℚ-≤ℚ_trans, mul-nonneg, mul-pos_ℚ}
-use Rattle.mdp_math.proofs.Powers.{pow_ℚ-nonneg, pow_ℚ-below}
-use Rattle.mdp_math.proofs.Division.{inv-pos, mul-inv_pos, half, half_pos, half_twice}
-use Rattle.mdp_math.proofs.Linear.{linear, linear_lt, equal, at_most, known}
-use Rattle.mdp_math.proofs.Kernel.{weigh-le, weigh-scale}
-use Rattle.mdp_math.proofs.Weight.{Shrinks}
+use Rattle.mdp_math.proofs.{Powers.{pow_ℚ-nonneg, pow_ℚ-below}, Division.{inv-pos, mul-inv_pos, half, half_pos, half_twice}}
+use Rattle.mdp_math.proofs.{Linear.{linear, linear_lt, equal, at_most, known}, Kernel.{weigh-le, weigh-scale}, Weight.{Shrinks}}
 
 two-nonneg : 0ℚ ≤ℚ of_int (pos 2)
 two-nonneg = of_nat-nonneg 2

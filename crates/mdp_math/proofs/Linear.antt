@@ -1,9 +1,8 @@
 -- Inequalities and equations of ℚ from others: multiples of the hypotheses that add to the claim.
 use Rattle.std.proofs.Common.{◌≡◌, ℕ, List, [], ◌∷◌, refl, sym, ◌∙◌, ap, pos}
-use Rattle.mdp_math.proofs.Ring.{Expr, ◌⊕◌, ◌⊗◌, ⊖, lit, normal, value, ring_by, ring, Curried, at_variables, ForAll, for_all}
-use Rattle.mdp_math.specs.Rational.{ℚ, ◌+ℚ◌, ◌*ℚ◌, ◌-ℚ◌, ◌≤ℚ◌, ◌<ℚ◌}
-use Rattle.mdp_math.proofs.Laws.{rat_ring}
+use Rattle.mdp_math.proofs.{Ring.{Expr, ◌⊕◌, ◌⊗◌, ⊖, lit, normal, value, ring_by, ring, Curried, at_variables, ForAll, for_all}, Laws.{rat_ring}}
 use Rattle.mdp_math.proofs.Order.{0ℚ, ≤ℚ_refl, ≤ℚ_of_eq, add-nonneg, mul-nonneg, sub-nonneg, le_by, lt_by, add-pos-nonneg}
+use Rattle.mdp_math.specs.Rational.{ℚ, ◌+ℚ◌, ◌*ℚ◌, ◌-ℚ◌, ◌≤ℚ◌, ◌<ℚ◌}
 
 -- k times the hypothesis l = r, or l ≤ r for a k of at least 0, or l ≤ r once
 pub data Step : Type 0 where

@@ -1,13 +1,9 @@
 -- The order of ℚ, and the reciprocal.
-use Rattle.std.proofs.Common.{◌≡◌, ◌≢◌, ℕ, zero, suc, ◌+◌, ◌*◌, ◌<◌, ◌≤◌, ◌⊎◌, inl, inr, refl, sym}
-use Rattle.std.proofs.Common.{◌∙◌, ap, subst, arith, ℤ, pos, negsuc, ◌+ℤ◌, ◌*ℤ◌, neg_ℤ, mul-pos, ◌≤ℤ◌, ◌<ℤ◌}
-use Rattle.std.proofs.lemmas.Int.{ints, by_lt_z}
+use Rattle.std.proofs.Common.{◌≡◌, ◌≢◌, ℕ, zero, suc, ◌+◌, ◌*◌, ◌<◌, ◌≤◌, ◌⊎◌, inl, inr, refl, sym, Less, Equal, Greater}
+use Rattle.std.proofs.{Common.{◌∙◌, ap, subst, arith, ℤ, pos, negsuc, ◌+ℤ◌, ◌*ℤ◌, neg_ℤ, mul-pos, ◌≤ℤ◌, ◌<ℤ◌}, lemmas.Int.{ints, by_lt_z}}
 use borrow.Author.Differences.{up, down, same_out, product_is, le_out, lt_out, at_most_in, below_in}
-use Rattle.mdp_math.specs.Written.{cmp_ℚ}
-use Rattle.std.proofs.Common.{Less, Equal, Greater}
-use Rattle.mdp_math.proofs.Ring.{◌⊕◌, ◌⊗◌, ⊖, lit, ring₁, ring₂, ring₃, ring₄}
-use Rattle.mdp_math.proofs.IntegerRing.{int_ring}
-use Rattle.mdp_math.specs.Rational.{ℚ, of_int, ratio, ◌+ℚ◌, ◌*ℚ◌, ◌-ℚ◌, inv_ℚ, flip_int, le_ℚ, lt_ℚ, ◌≤ℚ◌, ◌<ℚ◌}
+use Rattle.mdp_math.specs.{Written.{cmp_ℚ}, Rational.{ℚ, of_int, ratio, ◌+ℚ◌, ◌*ℚ◌, ◌-ℚ◌, inv_ℚ, flip_int, le_ℚ, lt_ℚ, ◌≤ℚ◌, ◌<ℚ◌}}
+use Rattle.mdp_math.proofs.{Ring.{◌⊕◌, ◌⊗◌, ⊖, lit, ring₁, ring₂, ring₃, ring₄}, IntegerRing.{int_ring}}
 use Rattle.mdp_math.proofs.Laws.{Is, is_self, is_add, is_mul, is_neg, is_of_int, is_ratio, same_is, same_across, den-pos, rat_ring, one-*ℚ}
 use lib.IntN.{zero-*ℤ}
 use native.Mathlib.Nat.{le_of_mul-le-mul_right, lt_of_mul-lt-mul_right, mul-le-mul_right, mul-lt-mul_of_pos_right}

@@ -1,16 +1,10 @@
 -- Elimination: each step keeps the solutions, and a weight keeps each pivot below 1.
 use Rattle.std.proofs.Common.{◌≡◌, ◌≢◌, ℕ, zero, suc, ◌<◌, inl, inr, List, [], ◌∷◌, length, get_or, refl, sym, ◌∙◌, ap, subst, arith, pos}
 use Rattle.std.specs.List.{All}
-use Rattle.mdp_math.specs.Rational.{ℚ, ◌+ℚ◌, ◌*ℚ◌, ◌-ℚ◌, inv_ℚ, ◌≤ℚ◌, ◌<ℚ◌}
-use Rattle.mdp_math.specs.Sum.{sum_of}
-use Rattle.mdp_math.specs.Pivot.{divided, divided_constant, pivoted, pivoted_constant}
-use Rattle.mdp_math.proofs.Ring.{◌⊕◌, ◌⊗◌, ⊖, lit, ring}
-use Rattle.mdp_math.proofs.Laws.{rat_ring}
-use Rattle.mdp_math.proofs.Order.{0ℚ, 1ℚ, ≤ℚ_of_lt, ≤ℚ_or_gt, ≤ℚ-<ℚ_trans, clash_ℚ, mul-nonneg, mul-inv, add-nonneg, sub-pos}
-use Rattle.mdp_math.proofs.Division.{inv-pos, mul-inv_pos}
-use Rattle.mdp_math.proofs.Linear.{linear, combine, equal, at_most, known}
-use Rattle.mdp_math.proofs.Sums.{sum_of-nonneg}
-use Rattle.mdp_math.proofs.Kernel.{All-head, All-tail}
+use Rattle.mdp_math.specs.{Rational.{ℚ, ◌+ℚ◌, ◌*ℚ◌, ◌-ℚ◌, inv_ℚ, ◌≤ℚ◌, ◌<ℚ◌}, Sum.{sum_of}, Pivot.{divided, divided_constant, pivoted, pivoted_constant}}
+use Rattle.mdp_math.proofs.{Ring.{◌⊕◌, ◌⊗◌, ⊖, lit, ring}, Laws.{rat_ring}}
+use Rattle.mdp_math.proofs.{Order.{0ℚ, 1ℚ, ≤ℚ_of_lt, ≤ℚ_or_gt, ≤ℚ-<ℚ_trans, clash_ℚ, mul-nonneg, mul-inv, add-nonneg, sub-pos}, Division.{inv-pos, mul-inv_pos}}
+use Rattle.mdp_math.proofs.{Linear.{linear, combine, equal, at_most, known}, Sums.{sum_of-nonneg}, Kernel.{All-head, All-tail}}
 
 -- ---- a weight on the numbers that are left
 

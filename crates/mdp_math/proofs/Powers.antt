@@ -1,10 +1,8 @@
 -- The laws of powers of a fraction, and how fast the powers of a fraction below 1 fall.
 use Rattle.std.proofs.Common.{◌≡◌, ℕ, zero, suc, ◌+◌, ◌*◌, ◌-◌, ◌<◌, ◌≤◌, refl, sym, ◌∙◌, ap, subst, arith, ℤ, pos, negsuc, ◌*ℤ◌, ◌≤ℤ◌, ◌<ℤ◌, [], ◌∷◌}
 use Rattle.std.proofs.lemmas.Int.{ints}
-use Rattle.mdp_math.specs.Rational.{ℚ, of_int, ratio, ◌+ℚ◌, ◌*ℚ◌, ◌-ℚ◌, ◌≤ℚ◌, ◌<ℚ◌}
-use Rattle.mdp_math.specs.Power.{pow_ℚ}
-use Rattle.mdp_math.proofs.Ring.{◌⊕◌, ◌⊗◌, ⊖, lit, ring}
-use Rattle.mdp_math.proofs.Laws.{rat_ring, den-pos, is_self, is_ratio, of_int-*ℤ, one-*ℚ, *ℚ_assoc}
+use Rattle.mdp_math.specs.{Rational.{ℚ, of_int, ratio, ◌+ℚ◌, ◌*ℚ◌, ◌-ℚ◌, ◌≤ℚ◌, ◌<ℚ◌}, Power.{pow_ℚ}}
+use Rattle.mdp_math.proofs.{Ring.{◌⊕◌, ◌⊗◌, ⊖, lit, ring}, Laws.{rat_ring, den-pos, is_self, is_ratio, of_int-*ℤ, one-*ℚ, *ℚ_assoc}}
 use Rattle.mdp_math.proofs.Whole.{one-pos, of_nat-suc, of_nat-nonneg}
 use Rattle.mdp_math.proofs.Order.{0ℚ, 1ℚ, ≤ℚ_refl, ≤ℚ_trans, ≤ℚ_of_lt, ≤ℚ_of_eq, mul-nonneg, mul-pos_ℚ, sub-nonneg, sub-pos, of_int-le, le_of_is, positive, ratio-nonneg, div-of_int}
 use Rattle.mdp_math.proofs.Linear.{linear, equal, at_most, known}

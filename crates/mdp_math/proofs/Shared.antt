@@ -1,17 +1,12 @@
 -- Fractions over one denominator: where their numerators over it are in width, so are all terms of their written sum.
 use Rattle.std.proofs.Common.{◌≡◌, ℕ, ◌*◌, ◌/◌, ◌<◌, ◌≤◌, ◌^◌, refl, sym, ◌∙◌, ap, ap₂, subst, arith, ℤ, pos, ◌+ℤ◌, ◌*ℤ◌, unsigned_abs, mul_comm, mul-pos, Some}
-use Rattle.std.specs.Int.{◌∣◌}
 use Rattle.std.proofs.lemmas.Int.{unsigned_abs-mul}
 use Rattle.std.proofs.Math.Nat.{dvd-mul_left, mul-div_cancel', div-mul_cancel, le_of_dvd, le-mul_of_pos_right, le_of_mul-le-mul_right, mul-le-mul_left}
-use Rattle.mdp_math.specs.Gcd.{gcd, gcd_is, gcd_comm, gauss, lcm}
-use Rattle.mdp_math.specs.Integers.{cancel_pos}
-use Rattle.mdp_math.specs.Rational.{ℚ, ratio, ◌+ℚ◌, ◌*ℚ◌, quotient-pos}
+use Rattle.std.specs.Int.{◌∣◌}
+use Rattle.mdp_math.specs.{Gcd.{gcd, gcd_is, gcd_comm, gauss, lcm}, Integers.{cancel_pos}, Rational.{ℚ, ratio, ◌+ℚ◌, ◌*ℚ◌, quotient-pos}}
 use Rattle.mdp_math.specs.Written.{narrow, narrow_ℚ, across, common_den, written_add, written_mul}
-use Rattle.mdp_math.proofs.IntegerRing.{int_ring}
-use Rattle.mdp_math.proofs.Laws.{Is, is_self, same_is, is_ratio, is_mul, is_add, is_across, coprime, den-pos}
-use Rattle.mdp_math.proofs.Lcm.{lcm-least}
-use Rattle.mdp_math.proofs.Ring.{◌⊕◌, ◌⊗◌, lit, ring₃, ring₄}
-use Rattle.mdp_math.proofs.Written.{narrow-kept, narrow_ℚ-kept}
+use Rattle.mdp_math.proofs.{IntegerRing.{int_ring}, Laws.{Is, is_self, same_is, is_ratio, is_mul, is_add, is_across, coprime, den-pos}, Lcm.{lcm-least}}
+use Rattle.mdp_math.proofs.{Ring.{◌⊕◌, ◌⊗◌, lit, ring₃, ring₄}, Written.{narrow-kept, narrow_ℚ-kept}}
 
 -- ---- x is a/b: its lowest terms are no longer
 

@@ -1,17 +1,11 @@
 -- Linear systems over the rows of a kernel: the sign of a solution, that there is one at most, and what makes it positive.
 use Rattle.std.proofs.Common.{◌≡◌, ℕ, zero, suc, ◌<◌, ◌⊎◌, inl, inr, Bool, true, false, List, [], ◌∷◌, refl, sym, ◌∙◌, ap, subst, arith, pos}
 use Rattle.std.specs.List.{Any}
-use Rattle.mdp_math.specs.Rational.{ℚ, of_int, ◌+ℚ◌, ◌*ℚ◌, ◌-ℚ◌, neg_ℚ, ◌≤ℚ◌, ◌<ℚ◌}
-use Rattle.mdp_math.specs.Power.{pow_ℚ}
-use Rattle.mdp_math.specs.Kernel.{weigh}
-use Rattle.mdp_math.proofs.Ring.{◌⊕◌, ◌⊗◌, ⊖, lit}
-use Rattle.mdp_math.proofs.Whole.{of_nat-nonneg}
-use Rattle.mdp_math.proofs.Numbers.{last_or}
-use Rattle.mdp_math.proofs.Order.{0ℚ, ≤ℚ_refl, ≤ℚ_of_lt, ≤ℚ_of_eq, ≤ℚ_or_gt, ≤ℚ_antisymm, <ℚ-≤ℚ_trans, mul-nonneg}
-use Rattle.mdp_math.proofs.Division.{half, half_twice, le_of_bounds}
+use Rattle.mdp_math.specs.{Rational.{ℚ, of_int, ◌+ℚ◌, ◌*ℚ◌, ◌-ℚ◌, neg_ℚ, ◌≤ℚ◌, ◌<ℚ◌}, Power.{pow_ℚ}, Kernel.{weigh}}
+use Rattle.mdp_math.proofs.{Ring.{◌⊕◌, ◌⊗◌, ⊖, lit}, Whole.{of_nat-nonneg}, Numbers.{last_or}}
+use Rattle.mdp_math.proofs.{Order.{0ℚ, ≤ℚ_refl, ≤ℚ_of_lt, ≤ℚ_of_eq, ≤ℚ_or_gt, ≤ℚ_antisymm, <ℚ-≤ℚ_trans, mul-nonneg}, Division.{half, half_twice, le_of_bounds}}
 use Rattle.mdp_math.proofs.Linear.{linear, linear_lt, combine, equal, at_most, known}
-use Rattle.mdp_math.proofs.Kernel.{weigh-neg, weigh-sub, weigh-add, weigh-scale, weigh-nonneg, weigh-pos}
-use Rattle.mdp_math.proofs.Weight.{Shrinks}
+use Rattle.mdp_math.proofs.{Kernel.{weigh-neg, weigh-sub, weigh-add, weigh-scale, weigh-nonneg, weigh-pos}, Weight.{Shrinks}}
 use Rattle.mdp_math.proofs.Leaving.{weight-nonneg, shrinks-steps, shrinks-fades}
 
 -- x is 0 at numbers that are not active, and c and what x weighs in the number's row at active ones

@@ -1,13 +1,9 @@
 -- The laws of sums.
-use Rattle.std.proofs.Common.{◌≡◌, List, [], ◌∷◌, ◌++◌, refl, sym, ◌∙◌, ap, ap₂, pos, map, length}
+use Rattle.std.proofs.{Common.{◌≡◌, List, [], ◌∷◌, ◌++◌, refl, sym, ◌∙◌, ap, ap₂, pos, map, length}, lemmas.List.Elements.{recursion_from_All}}
 use Rattle.std.specs.List.{All, AllByRecursion}
-use Rattle.std.proofs.lemmas.List.Elements.{recursion_from_All}
-use Rattle.mdp_math.proofs.Ring.{◌⊕◌, ◌⊗◌, ⊖, lit, ring, ring₁, ring₃, ring₄}
-use Rattle.mdp_math.specs.Rational.{ℚ, of_int, ◌-ℚ◌, ◌+ℚ◌, ◌*ℚ◌, ◌≤ℚ◌}
-use Rattle.mdp_math.specs.Sum.{sum_of}
-use Rattle.mdp_math.proofs.Laws.{rat_ring, zero-+ℚ, +ℚ_assoc}
-use Rattle.mdp_math.proofs.Whole.{of_nat-suc}
+use Rattle.mdp_math.proofs.{Ring.{◌⊕◌, ◌⊗◌, ⊖, lit, ring, ring₁, ring₃, ring₄}, Laws.{rat_ring, zero-+ℚ, +ℚ_assoc}, Whole.{of_nat-suc}}
 use Rattle.mdp_math.proofs.Order.{0ℚ, ≤ℚ_refl, add-le-add_ℚ, add-nonneg}
+use Rattle.mdp_math.specs.{Rational.{ℚ, of_int, ◌-ℚ◌, ◌+ℚ◌, ◌*ℚ◌, ◌≤ℚ◌}, Sum.{sum_of}}
 
 sum-le-by : {A : Type 0} → (f g : A → ℚ) (xs : List A) → AllByRecursion (λ x. f x ≤ℚ g x) xs → sum_of f xs ≤ℚ sum_of g xs
 sum-le-by f g [] h = ≤ℚ_refl 0ℚ

@@ -1,11 +1,8 @@
 -- The laws of sums and claims that go by element and place.
 use Rattle.std.proofs.Common.{◌≡◌, ℕ, zero, suc, ◌+◌, ◌<◌, inl, inr, List, [], ◌∷◌, ◌++◌, length, get_or, map, refl, sym, ◌∙◌, ap, ap₂, subst, arith, pos}
 use Rattle.std.specs.List.{All}
-use Rattle.mdp_math.specs.Rational.{ℚ, ◌+ℚ◌, ◌*ℚ◌, ◌-ℚ◌, inv_ℚ, ◌≤ℚ◌, ◌<ℚ◌}
-use Rattle.mdp_math.specs.Sum.{sum_of, sum_at, EachAt, AnyAt}
-use Rattle.mdp_math.proofs.Ring.{◌⊕◌, ◌⊗◌, ⊖, lit, ring}
-use Rattle.mdp_math.proofs.Laws.{rat_ring, zero-+ℚ, zero-*ℚ, +ℚ_assoc, *ℚ_comm}
-use Rattle.mdp_math.proofs.Division.{div-le, le-div}
+use Rattle.mdp_math.specs.{Rational.{ℚ, ◌+ℚ◌, ◌*ℚ◌, ◌-ℚ◌, inv_ℚ, ◌≤ℚ◌, ◌<ℚ◌}, Sum.{sum_of, sum_at, EachAt, AnyAt}}
+use Rattle.mdp_math.proofs.{Ring.{◌⊕◌, ◌⊗◌, ⊖, lit, ring}, Laws.{rat_ring, zero-+ℚ, zero-*ℚ, +ℚ_assoc, *ℚ_comm}, Division.{div-le, le-div}}
 use Rattle.mdp_math.proofs.Order.{0ℚ, ◌/ℚ◌, ≤ℚ_trans, ≤ℚ_refl, ≤ℚ_antisymm, ≤ℚ_or_gt, add-le-add_ℚ, add-nonneg, mul-le-mul_left_ℚ, ≤ℚ_of_eq}
 
 -- ---- claims at each place

@@ -5,17 +5,10 @@
 -- on the active numbers that each allowed row shrinks by one factor below 1.
 use Rattle.std.proofs.Common.{◌≡◌, ℕ, zero, suc, ◌<◌, ◌≤◌, ◌⊎◌, inl, inr, Bool, true, false, if◌then◌else◌, List, refl, sym, ap, subst, arith, pos, [], ◌∷◌}
 use Rattle.std.specs.List.{All, Any}
-use Rattle.mdp_math.specs.Rational.{ℚ, of_int, ◌+ℚ◌, ◌*ℚ◌, ◌-ℚ◌, ◌≤ℚ◌, ◌<ℚ◌}
-use Rattle.mdp_math.specs.Sum.{sum_of}
-use Rattle.mdp_math.specs.Power.{pow_ℚ}
-use Rattle.mdp_math.specs.Kernel.{weigh}
-use Rattle.mdp_math.proofs.Ring.{◌⊕◌, ◌⊗◌, ⊖, lit}
-use Rattle.mdp_math.proofs.Whole.{one-pos}
-use Rattle.mdp_math.proofs.Order.{0ℚ, 1ℚ, ≤ℚ_trans, ≤ℚ_of_lt, mul-pos_ℚ}
+use Rattle.mdp_math.specs.{Rational.{ℚ, of_int, ◌+ℚ◌, ◌*ℚ◌, ◌-ℚ◌, ◌≤ℚ◌, ◌<ℚ◌}, Sum.{sum_of}, Power.{pow_ℚ}, Kernel.{weigh}}
+use Rattle.mdp_math.proofs.{Ring.{◌⊕◌, ◌⊗◌, ⊖, lit}, Whole.{one-pos}, Order.{0ℚ, 1ℚ, ≤ℚ_trans, ≤ℚ_of_lt, mul-pos_ℚ}}
 use Rattle.mdp_math.proofs.Powers.{pow_ℚ-nonneg, pow_ℚ-pos, pow_ℚ-le_one, pow_ℚ-antitone, pow_ℚ-one}
-use Rattle.mdp_math.proofs.Linear.{linear, linear_lt, combine, equal, at_most, known}
-use Rattle.mdp_math.proofs.Division.{half, half_twice, half_pos}
-use Rattle.mdp_math.proofs.Kernel.{weigh-below_mass}
+use Rattle.mdp_math.proofs.{Linear.{linear, linear_lt, combine, equal, at_most, known}, Division.{half, half_twice, half_pos}, Kernel.{weigh-below_mass}}
 
 -- a weight of 0 outside, and between 1/2 and 1 at active numbers, which each allowed row shrinks by the rate
 pub record Shrinks {A : Type 0} (index : A → ℕ) (entry : A → ℚ) (active : ℕ → Bool) (Allowed : ℕ → List A → Type 0) : Type 0 where

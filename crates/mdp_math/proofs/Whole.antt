@@ -1,12 +1,9 @@
 -- Whole numbers as fractions.
-use Rattle.std.proofs.Common.{◌≡◌, ℕ, suc, ◌+◌, ◌*◌, ◌<◌, ◌≤◌, List, [], ◌∷◌, refl, sym, ◌∙◌, ap, arith, pos, ◌+ℤ◌}
-use Rattle.std.specs.List.{sum_by}
-use Rattle.std.proofs.lemmas.List.Sums.{sum_by-cons}
+use Rattle.std.proofs.{Common.{◌≡◌, ℕ, suc, ◌+◌, ◌*◌, ◌<◌, ◌≤◌, List, [], ◌∷◌, refl, sym, ◌∙◌, ap, arith, pos, ◌+ℤ◌}, lemmas.List.Sums.{sum_by-cons}}
 use Rattle.std.proofs.lemmas.Int.{ints}
-use Rattle.mdp_math.specs.Rational.{ℚ, of_int, ratio, lt_ℚ, ◌+ℚ◌, ◌*ℚ◌, ◌≤ℚ◌, ◌<ℚ◌}
-use Rattle.mdp_math.specs.Sum.{sum_of}
-use Rattle.mdp_math.proofs.Laws.{of_int-+ℤ, of_int-*ℤ, is_of_int, is_ratio, same_is}
-use Rattle.mdp_math.proofs.Order.{0ℚ, 1ℚ, of_int-le, is_le, is_positive, strict_of, ratio-add_same}
+use Rattle.std.specs.List.{sum_by}
+use Rattle.mdp_math.specs.{Rational.{ℚ, of_int, ratio, lt_ℚ, ◌+ℚ◌, ◌*ℚ◌, ◌≤ℚ◌, ◌<ℚ◌}, Sum.{sum_of}}
+use Rattle.mdp_math.proofs.{Laws.{of_int-+ℤ, of_int-*ℤ, is_of_int, is_ratio, same_is}, Order.{0ℚ, 1ℚ, of_int-le, is_le, is_positive, strict_of, ratio-add_same}}
 
 pub one-pos : 0ℚ <ℚ 1ℚ
 unfolding lt_ℚ of_int

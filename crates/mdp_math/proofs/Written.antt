@@ -1,18 +1,13 @@
 -- What written terms are.
 use Rattle.std.proofs.Common.{◌≡◌, ℕ, zero, suc, ◌+◌, ◌*◌, ◌/◌, ◌<◌, ◌≤◌, ◌^◌, Bool, true, false, ◌&&◌, T, ltb→lt, lt-ltb, le-ltb, refl, sym, ◌∙◌, ap, ap₂, subst}
 use Rattle.std.proofs.Common.{arith, ℤ, pos, negsuc, ◌+ℤ◌, ◌*ℤ◌, neg_ℤ, unsigned_abs, int_div, int_lt, int_cmp, mul-pos, Option, Some, None, if◌then◌else◌}
-use Rattle.mdp_math.proofs.Booleans.{and-false}
-use Rattle.mdp_math.specs.Gcd.{gcd, gcd_is, gcd_comm, gcd-pos, gcd-reduced, coprime-mul, coprime_divisors, div_divides}
-use Rattle.mdp_math.specs.Integers.{exact_div, abs_div}
-use Rattle.mdp_math.proofs.IntegerRing.{int_ring}
-use Rattle.mdp_math.proofs.Ring.{◌⊕◌, ◌⊗◌, ring₃, ring₆}
-use Rattle.std.proofs.lemmas.Int.{unsigned_abs-mul}
+use Rattle.std.proofs.{lemmas.Int.{unsigned_abs-mul, by_lt_z}, Common.{Ordering, cond, Less, Equal, Greater, mul-lt-mul_of_pos_right, mul-le-mul_right}}
+use Rattle.mdp_math.proofs.{Booleans.{and-false}, IntegerRing.{int_ring}, Ring.{◌⊕◌, ◌⊗◌, ring₃, ring₆}}
+use Rattle.mdp_math.proofs.Laws.{Is, is_self, same_is, is_ratio, is_mul, is_add, is_across, lowest_is, coprime, den-pos}
+use Rattle.mdp_math.specs.{Gcd.{gcd, gcd_is, gcd_comm, gcd-pos, gcd-reduced, coprime-mul, coprime_divisors, div_divides}, Integers.{exact_div, abs_div}}
 use Rattle.mdp_math.specs.Rational.{ℚ, ratio, ◌+ℚ◌, ◌*ℚ◌, quotient-pos}
 use Rattle.mdp_math.specs.Written.{in_width, narrow, narrow_ℚ, signed, across, common_den, reduced_num, reduced_den, cmp_ℚ, written_add, written_mul, written_compare, ◌>>=◌}
 use borrow.Author.Differences.{up, down, true_is_lt, false_is_lt, lt_out, le_out, product_is as product_is_parts}
-use Rattle.std.proofs.lemmas.Int.{by_lt_z}
-use Rattle.std.proofs.Common.{Ordering, cond, Less, Equal, Greater, mul-lt-mul_of_pos_right, mul-le-mul_right}
-use Rattle.mdp_math.proofs.Laws.{Is, is_self, same_is, is_ratio, is_mul, is_add, is_across, lowest_is, coprime, den-pos}
 use native.Mathlib.Nat.{zero-div, div-mul_cancel}
 
 pub abs-signed : (b : Bool) (n : ℕ) → unsigned_abs (signed b n) ≡ n

@@ -1,7 +1,6 @@
 -- One step of elimination in a linear system x(t) = c(t) + the sum of q(t, v) x(v), and the entries of a row by index.
 use Rattle.std.proofs.Common.{ℕ, zero, suc, List, [], ◌∷◌, Bool, eqb, if◌then◌else◌, pos}
-use Rattle.mdp_math.specs.Rational.{ℚ, of_int, ◌+ℚ◌, ◌*ℚ◌, ◌-ℚ◌, inv_ℚ, ◌<ℚ◌}
-use Rattle.mdp_math.specs.Sum.{sum_of}
+use Rattle.mdp_math.specs.{Rational.{ℚ, of_int, ◌+ℚ◌, ◌*ℚ◌, ◌-ℚ◌, inv_ℚ, ◌<ℚ◌}, Sum.{sum_of}}
 
 -- row s without its entry at s: what is left is divided by 1 - q(s, s)
 abbrev pub divided : (ℕ → ℕ → ℚ) → ℕ → ℕ → ℚ

@@ -1,30 +1,20 @@
 -- One more end component is solved.
-use Rattle.std.proofs.Common.{◌≡◌, ◌==◌, ◌&&◌, ◌||◌, ℕ, suc, ◌+◌, ◌<◌, inl, inr, Bool, true, false, true≢false, cond, List, []}
+use Rattle.std.proofs.Common.{◌≡◌, ◌==◌, ◌&&◌, ◌||◌, ℕ, suc, ◌+◌, ◌<◌, inl, inr, Bool, true, false, true≢false, cond, List, [], length-append}
 use Rattle.std.proofs.Common.{◌∷◌, ◌++◌, length, get_or, Option, Some, None, Ok, Err, refl, sym, ap, ◌∙◌, subst, arith, zero-add}
-use Rattle.std.proofs.Common.{length-append}
-use Rattle.std.proofs.Math.Seq.{get_or-append_seam}
-use Rattle.std.specs.List.{range_with_len, list_any}
-use Rattle.std.specs.Prelude.{slice_index}
-use Rattle.std.proofs.lemmas.Bool.{cases_Bool, eqb-true, eq-eqb, false≢true}
-use Rattle.std.proofs.lemmas.List.{get_or_append_left}
-use Rattle.std.proofs.lemmas.List.Elements.{All-filter}
-use Rattle.std.proofs.lemmas.List.FromFn.{get_or-range_with_len, length-range_with_len}
-use Rattle.std.proofs.lemmas.Map.Views.{any-filter_same}
+use Rattle.std.proofs.{Math.Seq.{get_or-append_seam}, lemmas.Bool.{cases_Bool, eqb-true, eq-eqb, false≢true}, lemmas.List.{get_or_append_left}}
+use Rattle.std.proofs.{lemmas.List.Elements.{All-filter}, lemmas.List.FromFn.{get_or-range_with_len, length-range_with_len}, lemmas.Map.Views.{any-filter_same}}
+use Rattle.std.specs.{List.{range_with_len, list_any}, Prelude.{slice_index}}
 use Rattle.mdp_math.specs.Rational.{ℚ}
 use Rattle.mdp_math.proofs.Numbers.{last_or}
 use Rattle.mdp_spec.specs.Mdp.{Mdp, states_of, value_at}
 use Rattle.mdp_rows.specs.declared.dir.Dir.{Dir}
 use Rattle.mdp_ends.specs.Ends.{part_of, has_number, in_part, count_of}
-use Rattle.mdp_ends.proofs.Walking.{some-any}
-use Rattle.mdp_ends.proofs.RoundLaws.{number-has}
-use Rattle.mdp_gain.specs.Query.{Answer, members}
+use Rattle.mdp_ends.proofs.{Walking.{some-any}, RoundLaws.{number-has}}
+use Rattle.mdp_gain.specs.{Query.{Answer, members}, Best.{IsBestInner, entry_of}}
 use Rattle.mdp_gain.specs.Query as inner
-use Rattle.mdp_gain.specs.Best.{IsBestInner, entry_of}
 use Rattle.mdp_wide.specs.Term.{WideTerm}
 use Rattle.mdp_farkas.specs.Compare.{0ℚ}
-use Rattle.mdp_mean.specs.Inners.{Inners, AreAnswers, AreInners, Answered, InnersEndSo}
-use Rattle.mdp_mean.specs.Best.{IsBest, AreBest}
-use Rattle.mdp_mean.specs.PartsCode.{IsEmpty, IsAdded}
+use Rattle.mdp_mean.specs.{Inners.{Inners, AreAnswers, AreInners, Answered, InnersEndSo}, Best.{IsBest, AreBest}, PartsCode.{IsEmpty, IsAdded}}
 
 -- ---- entries
 

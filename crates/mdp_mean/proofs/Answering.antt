@@ -6,9 +6,7 @@ use Rattle.mdp_math.proofs.Numbers.{last_or}
 use Rattle.mdp_num.specs.declared.errors.Wide.{Wide}
 use Rattle.mdp_wide.specs.declared.too_wide.Kind.{Kind}
 use Rattle.mdp_policy_iteration.specs.Places.{at_place}
-use Rattle.mdp_mean.specs.Join.{Place, steps_to}
-use Rattle.mdp_mean.specs.Faults.{placed_at, Says, Answers}
-use Rattle.mdp_mean.specs.Errors.{JoinError}
+use Rattle.mdp_mean.specs.{Join.{Place, steps_to}, Faults.{placed_at, Says, Answers}, Errors.{JoinError}}
 use Rattle.mdp_wide.specs.declared.unfinished.Unfinished.TheVariants as fault
 
 -- an error of a step: its term is past width, and the error names the place

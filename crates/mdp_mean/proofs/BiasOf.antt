@@ -1,25 +1,15 @@
 -- The written bias solves the policy's equation where nodes are left, and is the inner one elsewhere.
 use Rattle.std.proofs.Common.{◌≡◌, ℕ, ◌<◌, inl, Bool, true, false, not, if◌then◌else◌, List, [], ◌∷◌, length}
 use Rattle.std.proofs.Common.{Some, Result, Ok, Err, refl, sym, ap, ◌∙◌, subst, arith, pos, zero-add}
-use Rattle.std.specs.Prelude.{slice_index, slice_index_or}
 use Rattle.std.proofs.lemmas.List.FromFn.{get_or-map-range_with_len, length-map-range_with_len}
-use Rattle.mdp_math.specs.Rational.{ℚ, ◌+ℚ◌, ◌-ℚ◌, ◌*ℚ◌}
-use Rattle.mdp_math.specs.Kernel.{weigh}
-use Rattle.mdp_math.proofs.Laws.{zero-+ℚ}
-use Rattle.mdp_math.proofs.Options.{step_told}
-use Rattle.mdp_math.proofs.Written.{written_add-some}
-use Rattle.mdp_math.proofs.Ring.{◌⊕◌, ◌⊗◌, lit}
-use Rattle.mdp_math.proofs.Linear.{combine, equal}
-use Rattle.mdp_math.proofs.Kernel.{weigh-same}
-use Rattle.mdp_spec.specs.Mdp.{Entry, states_of, row_at, value_at}
-use Rattle.mdp_spec.specs.Row.{row_sum, IsRow, AreRows}
-use Rattle.mdp_spec.specs.Written.{written_sum}
+use Rattle.std.specs.Prelude.{slice_index, slice_index_or}
+use Rattle.mdp_math.specs.{Rational.{ℚ, ◌+ℚ◌, ◌-ℚ◌, ◌*ℚ◌}, Kernel.{weigh}}
+use Rattle.mdp_math.proofs.{Laws.{zero-+ℚ}, Options.{step_told}, Written.{written_add-some}, Ring.{◌⊕◌, ◌⊗◌, lit}, Linear.{combine, equal}, Kernel.{weigh-same}}
+use Rattle.mdp_spec.specs.{Mdp.{Entry, states_of, row_at, value_at}, Row.{row_sum, IsRow, AreRows}, Written.{written_sum}}
 use Rattle.mdp_num.specs.Written.{written_sub}
-use Rattle.mdp_elim.specs.System.{is_active, row_of, IsSolution, SolveEach, Leaves}
-use Rattle.mdp_elim.specs.Solve.{written_solution}
+use Rattle.mdp_elim.specs.{System.{is_active, row_of, IsSolution, SolveEach, Leaves}, Solve.{written_solution}}
 use Rattle.mdp_elim.proofs.OneSolution.{gives_solutions}
-use Rattle.mdp_policy_iteration.specs.Path.{outer}
-use Rattle.mdp_policy_iteration.specs.Places.{up_to}
+use Rattle.mdp_policy_iteration.specs.{Path.{outer}, Places.{up_to}}
 use Rattle.mdp_policy_iteration.proofs.Results.{ok_same, ok_part, place_part, IsUpTo, up_to-is}
 use Rattle.mdp_farkas.specs.Compare.{0ℚ}
 use Rattle.mdp_spec.proofs.Summed.{written_sum-some}

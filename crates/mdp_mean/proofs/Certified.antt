@@ -1,26 +1,17 @@
 -- What is joined meets the rules of certificates, and so does an answer.
 use Rattle.std.proofs.Common.{◌≡◌, ℕ, List, Option, Ok, sym, ap, ◌∙◌, subst, refl}
-use Rattle.mdp_spec.specs.Bounds.{MeanMax, MeanMin}
-use Rattle.mdp_spec.specs.Mdp.{Mdp}
+use Rattle.mdp_spec.specs.{Bounds.{MeanMax, MeanMin}, Mdp.{Mdp}}
 use Rattle.mdp_spec.proofs.Mean.{mean_max_of_rules, mean_min_of_rules}
-use Rattle.mdp_rows.specs.declared.dir.Dir.{Dir}
-use Rattle.mdp_rows.specs.declared.dir.Dir.TheVariants.{Max, Min}
+use Rattle.mdp_rows.specs.{declared.dir.Dir.{Dir}, declared.dir.Dir.TheVariants.{Max, Min}}
 use Rattle.mdp_ends.specs.Ends.{count_of, AreEnds}
 use Rattle.mdp_gain.specs.Laws as gain
-use Rattle.mdp_quot_exits.specs.OfModel.{IsOfModel}
-use Rattle.mdp_quot_exits.specs.Laws.{StepsAreLongest, OuterIsBest}
+use Rattle.mdp_quot.specs.{OfModel.{IsOfModel}, ExitsLaws.{StepsAreLongest, OuterIsBest}}
 use Rattle.mdp_farkas.specs.Mean.{MeetsMean, IsMean}
 use Rattle.mdp_claims.specs.declared.verdict.Verdict.TheVariants.{Yes}
 use Rattle.mdp_farkas.proofs.MeanRules.{mean_rules}
-use Rattle.mdp_mean.specs.Terms.{Joining}
-use Rattle.mdp_mean.specs.Join.{Joined, written_join}
-use Rattle.mdp_mean.specs.Inners.{Inners, AreInners}
-use Rattle.mdp_mean.specs.Best.{AreBest}
-use Rattle.mdp_mean.specs.Query.{Answer, IsJoining, EndsSo}
+use Rattle.mdp_mean.specs.{Terms.{Joining}, Join.{Joined, written_join}, Inners.{Inners, AreInners}, Best.{AreBest}, Query.{Answer, IsJoining, EndsSo}}
 use Rattle.mdp_mean.specs.Laws.{HasReward, IsAcceptedJoin}
-use Rattle.mdp_mean.proofs.Held.{has-spread, has-policy}
-use Rattle.mdp_mean.proofs.Joinings.{answer-joined}
-use Rattle.mdp_mean.proofs.Meets.{meets}
+use Rattle.mdp_mean.proofs.{Held.{has-spread, has-policy}, Joinings.{answer-joined}, Meets.{meets}}
 
 module _ (dir : Dir) (m : Mdp) (r : ℕ) (has : HasReward m r) (gain_best : gain.AnswersAreBest) (longest : StepsAreLongest) (outer_best : OuterIsBest) where
   are-best : (parts : List (Option ℕ)) → AreEnds m parts → (x : Inners) → AreInners dir m parts r (count_of parts) x → AreBest dir m parts r x

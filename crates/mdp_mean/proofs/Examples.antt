@@ -2,23 +2,17 @@
 -- to 2, which earns nothing, with 1/2 each; `leave` earns 1 in each step, and 5 once on the way from 0 to 1; `pay` loses 1 in each step at 0, or 5 once
 -- on the way to 1, which loses 1/2 in each step; `free` earns 1 in each step, and nothing on the way from 0 to 1.
 use Rattle.std.proofs.Common.{◌≡◌, ℕ, ◌^◌, ◌-◌, List, [], ◌∷◌, refl, map, Option, Some, Result, Ok, Err}
-use Rattle.mdp_math.specs.Gcd.{gcd, gcd_with_fuel}
-use Rattle.mdp_math.specs.Rational.{ℚ, of_int, ratio, neg_ℚ, inv_ℚ, ◌+ℚ◌, ◌*ℚ◌}
+use Rattle.mdp_math.specs.{Gcd.{gcd, gcd_with_fuel}, Rational.{ℚ, of_int, ratio, neg_ℚ, inv_ℚ, ◌+ℚ◌, ◌*ℚ◌}}
 use Rattle.mdp_math.specs.Written.{narrow, narrow_ℚ, written_add, written_mul, written_compare}
 use Rattle.mdp_spec.specs.Mdp.{Mdp}
 use Rattle.mdp_spec.proofs.Small.{gamble, leave, minus, model, number, over, pay, state, to}
-use Rattle.mdp_elim.specs.Elimination.{divided_rest, plus_equation, eliminated, evaluated}
-use Rattle.mdp_elim.specs.System.{equation_of}
+use Rattle.mdp_elim.specs.{Elimination.{divided_rest, plus_equation, eliminated, evaluated}, System.{equation_of}}
 use Rattle.mdp_wide.specs.declared.too_wide.Kind.TheVariants.{Evaluate, Compare}
-use Rattle.mdp_rows.specs.declared.dir.Dir.{Dir}
-use Rattle.mdp_rows.specs.declared.dir.Dir.TheVariants.{Max, Min}
-use Rattle.mdp_ends.specs.Quotient.{exits_of}
-use Rattle.mdp_ends.specs.Toward.{first_below}
+use Rattle.mdp_rows.specs.{declared.dir.Dir.{Dir}, declared.dir.Dir.TheVariants.{Max, Min}}
+use Rattle.mdp_ends.specs.{Quotient.{exits_of}, Toward.{first_below}}
 use Rattle.mdp_quot.specs.Quotient.{Quotient, node_rows}
 use Rattle.mdp_claims.specs.declared.verdict.Verdict.TheVariants.{Wide}
-use Rattle.mdp_mean.specs.Terms.{Joining}
-use Rattle.mdp_mean.specs.Join.{Joined, Place, place, written_join}
-use Rattle.mdp_mean.specs.Query.{joining, answer_of, checked}
+use Rattle.mdp_mean.specs.{Terms.{Joining}, Join.{Joined, Place, place, written_join}, Query.{joining, answer_of, checked}}
 
 abbrev free : Mdp
 free = model (state (to 0 (number 1) ∷ to 1 (number 0) ∷ []) ∷ state (to 1 (number 1) ∷ []) ∷ [])

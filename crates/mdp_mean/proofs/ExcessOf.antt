@@ -1,28 +1,16 @@
 -- The written excess is at least 0 and at least that of each exit, and the bound is the inner bias, moved by it for each step.
 use Rattle.std.proofs.Common.{◌≡◌, ℕ, zero, suc, ◌<◌, inl, inr, Bool, true, false, if◌then◌else◌, List, [], ◌∷◌}
 use Rattle.std.proofs.Common.{length, Some, Result, Ok, refl, sym, ap, ◌∙◌, subst, arith, negsuc}
-use Rattle.std.specs.declared.cmp.Ordering.{Ordering}
-use Rattle.std.specs.declared.cmp.Ordering.TheVariants.{Less, Equal, Greater}
-use Rattle.mdp_math.specs.Rational.{ℚ, ◌+ℚ◌, ◌*ℚ◌, ◌≤ℚ◌}
-use Rattle.mdp_math.specs.Written.{written_add, written_mul, written_compare, cmp_ℚ}
-use Rattle.mdp_math.proofs.Numbers.{last_or}
-use Rattle.mdp_math.proofs.Options.{Some_same, step_told}
-use Rattle.mdp_math.proofs.Written.{written_add-some, written_mul-some, written_compare-some}
-use Rattle.mdp_math.proofs.Order.{≤ℚ_refl, ≤ℚ_trans, ≤ℚ_of_eq, ≤ℚ_of_lt, lt_of_cmp, eq_of_cmp, gt_of_cmp}
-use Rattle.mdp_math.proofs.Ring.{◌⊕◌, ⊖, lit}
-use Rattle.mdp_math.proofs.Linear.{linear, known, equal}
-use Rattle.mdp_spec.specs.Mdp.{states_of, choices_at, row_at, value_at}
-use Rattle.mdp_spec.specs.Row.{row_sum}
-use Rattle.mdp_spec.specs.Written.{written_sum}
-use Rattle.mdp_ends.specs.Ends.{is_inside}
-use Rattle.mdp_ends.specs.Join.{IsAsGood, moved_by}
+use Rattle.std.specs.{declared.cmp.Ordering.{Ordering}, declared.cmp.Ordering.TheVariants.{Less, Equal, Greater}}
+use Rattle.mdp_math.specs.{Rational.{ℚ, ◌+ℚ◌, ◌*ℚ◌, ◌≤ℚ◌}, Written.{written_add, written_mul, written_compare, cmp_ℚ}}
+use Rattle.mdp_math.proofs.{Numbers.{last_or}, Options.{Some_same, step_told}, Written.{written_add-some, written_mul-some, written_compare-some}}
+use Rattle.mdp_math.proofs.{Order.{≤ℚ_refl, ≤ℚ_trans, ≤ℚ_of_eq, ≤ℚ_of_lt, lt_of_cmp, eq_of_cmp, gt_of_cmp}, Ring.{◌⊕◌, ⊖, lit}, Linear.{linear, known, equal}}
+use Rattle.mdp_spec.specs.{Mdp.{states_of, choices_at, row_at, value_at}, Row.{row_sum}, Written.{written_sum}}
+use Rattle.mdp_ends.specs.{Ends.{is_inside}, Join.{IsAsGood, moved_by}}
 use Rattle.mdp_policy_iteration.proofs.Results.{ok_same, ok_part, place_part, up_to-is}
-use Rattle.mdp_farkas.specs.Compare.{0ℚ}
-use Rattle.mdp_rows.specs.Better.{is_better}
-use Rattle.mdp_farkas.specs.Spread.{written_best}
+use Rattle.mdp_farkas.specs.{Compare.{0ℚ}, Spread.{written_best}}
+use Rattle.mdp_rows.specs.{Better.{is_better}, declared.dir.Dir.{Dir}, declared.dir.Dir.TheVariants.{Max, Min}}
 use Rattle.mdp_spec.proofs.Summed.{written_sum-some}
-use Rattle.mdp_rows.specs.declared.dir.Dir.{Dir}
-use Rattle.mdp_rows.specs.declared.dir.Dir.TheVariants.{Max, Min}
 use Rattle.mdp_mean.specs.Terms.{Joining, reward_at, excess_over, excess_at, greater_excess, written_moved, bound_by}
 use Rattle.mdp_mean.specs.Join.{place, bounding, steps_to, after_choice_by, after_choice, after_state, written_excess, bound_at, written_bound}
 

@@ -6,24 +6,15 @@ use Rattle.mdp_rows.specs.declared.dir.Dir.{Dir}
 use Rattle.mdp_wide.specs.Term.{WideTerm}
 use Rattle.mdp_ends.specs.Ends.{AreEnds}
 use Rattle.mdp_ends.proofs.Existing.{ends_exist}
-use Rattle.mdp_quot.specs.Quotient.{Quotient, IsQuotient}
+use Rattle.mdp_quot.specs.{Quotient.{Quotient, IsQuotient}, OfModel.{IsOfModel}, Steps.{StepsEndSo}, ExitsLaws.{StepsEnd, OuterEnds}}
 use Rattle.mdp_gain.specs.Laws as gain
-use Rattle.mdp_quot_exits.specs.Outer as outer
-use Rattle.mdp_quot_exits.specs.OfModel.{IsOfModel}
-use Rattle.mdp_quot_exits.specs.Steps.{StepsEndSo}
-use Rattle.mdp_quot_exits.specs.Laws.{StepsEnd, OuterEnds}
+use Rattle.mdp_quot.specs.Outer as outer
 use Rattle.mdp_farkas.specs.Laws.{MeanNeverNo}
-use Rattle.mdp_claims.specs.declared.verdict.Fault.{Fault}
-use Rattle.mdp_claims.specs.declared.verdict.Verdict.{Verdict}
-use Rattle.mdp_claims.specs.declared.verdict.Verdict.TheVariants.{Yes, No, Wide}
-use Rattle.mdp_mean.specs.Terms.{Joining}
-use Rattle.mdp_mean.specs.Join.{Place, Joined, written_join}
-use Rattle.mdp_mean.specs.Inners.{Inners, InnersEndSo}
+use Rattle.mdp_claims.specs.{declared.verdict.Fault.{Fault}, declared.verdict.Verdict.{Verdict}, declared.verdict.Verdict.TheVariants.{Yes, No, Wide}}
+use Rattle.mdp_mean.specs.{Terms.{Joining}, Join.{Place, Joined, written_join}, Inners.{Inners, InnersEndSo}}
 use Rattle.mdp_mean.specs.Query.{Answer, answer_of, term_at, checking, checked, Held, joining, AfterJoin, AfterSteps, AfterOuter, AfterQuotient, AfterInners, EndsSo}
 use Rattle.mdp_mean.specs.Laws.{HasReward, JoinedMeetsRules}
-use Rattle.mdp_mean.proofs.InnersExist.{inners_end}
-use Rattle.mdp_mean.proofs.QuotientExists.{quotient_exists}
-use Rattle.mdp_mean.proofs.Joinings.{is-joining}
+use Rattle.mdp_mean.proofs.{InnersExist.{inners_end}, QuotientExists.{quotient_exists}, Joinings.{is-joining}}
 
 -- ---- the join
 

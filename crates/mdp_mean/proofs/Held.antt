@@ -1,12 +1,9 @@
 -- What the rules of the mean payoff say of the lists of a certificate.
 use Rattle.std.proofs.Common.{ℕ, List}
 use Rattle.mdp_math.specs.Rational.{ℚ}
-use Rattle.mdp_spec.specs.Mdp.{Mdp}
-use Rattle.mdp_spec.specs.MeanRules.{HasSpread}
-use Rattle.mdp_spec.specs.Tree.{IsPolicy}
+use Rattle.mdp_spec.specs.{Mdp.{Mdp}, MeanRules.{HasSpread}, Tree.{IsPolicy}}
 use Rattle.mdp_farkas.specs.Mean.{MeetsMean}
-use Rattle.mdp_rows.specs.declared.dir.Dir.{Dir}
-use Rattle.mdp_rows.specs.declared.dir.Dir.TheVariants.{Max, Min}
+use Rattle.mdp_rows.specs.{declared.dir.Dir.{Dir}, declared.dir.Dir.TheVariants.{Max, Min}}
 
 module _ (m : Mdp) (r : ℕ) (g a b : List ℚ) (spread : ℚ) (policy : List ℕ) where
   pub has-spread : (dir : Dir) → MeetsMean dir m r g a b spread policy → HasSpread m a b spread

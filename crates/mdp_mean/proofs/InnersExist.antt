@@ -1,19 +1,16 @@
 -- The end components of a model are all solved, or the first that has a term past width ends it.
 use Rattle.std.proofs.Common.{◌≡◌, ◌⊎◌, inl, inr, ℕ, zero, suc, ◌<◌, ◌≤◌, List, [], map, get_or, Option, Some, None, Result, Ok, Err}
-use Rattle.std.proofs.Common.{sym, ap, ◌∙◌, subst, arith, zero-add}
+use Rattle.std.proofs.{Common.{sym, ap, ◌∙◌, subst, arith, zero-add}, lemmas.List.FromFn.{get_or-map-range_with_len, length-map-range_with_len}}
 use Rattle.std.specs.List.{range_with_len}
-use Rattle.std.proofs.lemmas.List.FromFn.{get_or-map-range_with_len, length-map-range_with_len}
 use Rattle.mdp_math.specs.Rational.{ℚ}
 use Rattle.mdp_math.proofs.Numbers.{le_or, last_or}
-use Rattle.mdp_spec.specs.Mdp.{Mdp, states_of}
-use Rattle.mdp_spec.specs.Row.{IsMdp}
+use Rattle.mdp_spec.specs.{Mdp.{Mdp, states_of}, Row.{IsMdp}}
 use Rattle.mdp_rows.specs.declared.dir.Dir.{Dir}
 use Rattle.mdp_wide.specs.Term.{WideTerm}
 use Rattle.mdp_ends.specs.Ends.{part_of, count_of, AreEnds}
 use Rattle.mdp_ends.proofs.RoundLaws.{number-has}
-use Rattle.mdp_gain.specs.Query.{Answer}
+use Rattle.mdp_gain.specs.{Query.{Answer}, Best.{bias_at, taken_at}}
 use Rattle.mdp_gain.specs.Query as inner
-use Rattle.mdp_gain.specs.Best.{bias_at, taken_at}
 use Rattle.mdp_gain.specs.Laws as gain
 use Rattle.mdp_farkas.specs.Compare.{0ℚ}
 use Rattle.mdp_mean.specs.Inners.{Inners, AreInners, IsRefused, InnersEndSo}

@@ -5,18 +5,13 @@ use Rattle.mdp_spec.specs.Mdp.{Mdp}
 use Rattle.mdp_rows.specs.declared.dir.Dir.{Dir}
 use Rattle.mdp_wide.specs.Term.{WideTerm}
 use Rattle.mdp_ends.specs.Ends.{AreEnds}
-use Rattle.mdp_quot.specs.Quotient.{Quotient, IsQuotient}
-use Rattle.mdp_quot_exits.specs.Outer as outer
-use Rattle.mdp_quot_exits.specs.Steps.{StepsEndSo}
-use Rattle.mdp_claims.specs.declared.verdict.Verdict.{Verdict}
-use Rattle.mdp_claims.specs.declared.verdict.Verdict.TheVariants.{Yes, No, Wide}
-use Rattle.mdp_mean.specs.Terms.{Joining}
-use Rattle.mdp_mean.specs.Join.{Place, Joined, written_join}
-use Rattle.mdp_mean.specs.Inners.{Inners, InnersEndSo}
+use Rattle.mdp_quot.specs.{Quotient.{Quotient, IsQuotient}, Steps.{StepsEndSo}}
+use Rattle.mdp_quot.specs.Outer as outer
+use Rattle.mdp_claims.specs.{declared.verdict.Verdict.{Verdict}, declared.verdict.Verdict.TheVariants.{Yes, No, Wide}}
+use Rattle.mdp_mean.specs.{Terms.{Joining}, Join.{Place, Joined, written_join}, Inners.{Inners, InnersEndSo}}
 use Rattle.mdp_mean.specs.Query.{Answer, answer_of, checked, Held, joining, IsJoining, AfterJoin, JoinEndsSo, AfterSteps, AfterOuter, AfterInners, EndsSo}
 use Rattle.mdp_mean.specs.Laws.{IsAcceptedJoin}
-use Rattle.mdp_mean.proofs.OneEnd.{ok_is, ok_no_err}
-use Rattle.mdp_mean.proofs.Passing.{ends-join}
+use Rattle.mdp_mean.proofs.{OneEnd.{ok_is, ok_no_err}, Passing.{ends-join}}
 
 module _ (dir : Dir) (m : Mdp) (r : ℕ) where
   pub joining-ends : (j : Joining) (p : Result Answer WideTerm) → IsJoining dir m r j → JoinEndsSo j p → EndsSo dir m r p

@@ -1,51 +1,30 @@
 -- What is joined of the solved parts meets the rules of the mean payoff.
-use Rattle.std.proofs.Common.{◌≡◌, ◌==◌, ℕ, suc, ◌<◌, true, not, List, length, get_or}
-use Rattle.std.proofs.Common.{Option, Some, Ok, sym, ap, ap₂, ◌∙◌, subst, arith, zero-add}
+use Rattle.std.proofs.Common.{◌≡◌, ◌==◌, ℕ, suc, ◌<◌, true, not, List, length, get_or, Option, Some, Ok, sym, ap, ap₂, ◌∙◌, subst, arith, zero-add}
+use Rattle.std.proofs.{lemmas.Bool.{eq-eqb}, lemmas.List.FromFn.{get_or-map-range_with_len, length-map-range_with_len}}
 use Rattle.std.specs.Prelude.{slice_index}
-use Rattle.std.proofs.lemmas.Bool.{eq-eqb}
-use Rattle.std.proofs.lemmas.List.FromFn.{get_or-map-range_with_len, length-map-range_with_len}
 use Rattle.mdp_math.specs.Rational.{ℚ, ◌+ℚ◌, ◌-ℚ◌, ◌*ℚ◌}
 use Rattle.mdp_math.proofs.Kernel.{weigh-same}
-use Rattle.mdp_spec.specs.Mdp.{Entry, Mdp, states_of, choices_at, choice_at, row_at, value_at}
-use Rattle.mdp_spec.specs.MeanRules.{HasSpread, IsEvaluation}
-use Rattle.mdp_spec.specs.Row.{row_sum, IsRow, IsMdp, AreRows}
-use Rattle.mdp_spec.specs.Tree.{IsPolicy}
-use Rattle.mdp_spec.specs.Unit.{reward_of}
-use Rattle.mdp_rows.specs.declared.dir.Dir.{Dir}
-use Rattle.mdp_rows.specs.declared.dir.Dir.TheVariants.{Max, Min}
+use Rattle.mdp_spec.specs.{Mdp.{Entry, Mdp, states_of, choices_at, choice_at, row_at, value_at}, MeanRules.{HasSpread, IsEvaluation}}
+use Rattle.mdp_spec.specs.{Row.{row_sum, IsRow, IsMdp, AreRows}, Tree.{IsPolicy}, Unit.{reward_of}}
+use Rattle.mdp_rows.specs.{declared.dir.Dir.{Dir}, declared.dir.Dir.TheVariants.{Max, Min}}
 use Rattle.mdp_elim.specs.System.{is_active, Leaves}
 use Rattle.mdp_policy_iteration.specs.Places.{at_place}
 use Rattle.mdp_rows.specs.Better as better
 use Rattle.mdp_policy_iteration.proofs.Results.{ok_same, ok_part, place_part}
-use Rattle.mdp_ends.specs.Ends.{part_of, in_part, is_inside, count_of, AreEnds}
-use Rattle.mdp_ends.specs.Quotient.{nodes_in}
-use Rattle.mdp_ends.specs.Selection.{exit_row}
-use Rattle.mdp_ends.specs.Toward.{IsOuter}
+use Rattle.mdp_ends.specs.{Ends.{part_of, in_part, is_inside, count_of, AreEnds}, Quotient.{nodes_in}, Selection.{exit_row}, Toward.{IsOuter}}
 use Rattle.mdp_ends.specs.Join.{IsAsGood, over, moved_by, CanJoin, bound_of, IsCoveredBy, IsReachedBy}
-use Rattle.mdp_ends.proofs.Walking.{stays-at}
-use Rattle.mdp_ends.proofs.Numbering.{numbered-below}
-use Rattle.mdp_ends.proofs.RoundLaws.{has-number, inside-stays}
-use Rattle.mdp_ends.proofs.Joining.{leads-to_entry, joined}
-use Rattle.mdp_ends.proofs.Lifting.{state_ranks, lifted_leaves}
-use Rattle.mdp_ends.proofs.LiftedRules.{choice-kind, lifted_reaches}
-use Rattle.mdp_quot.specs.Quotient.{Quotient, IsQuotient}
-use Rattle.mdp_gain.specs.Query.{Answer}
-use Rattle.mdp_gain.specs.Best.{IsBestInner, bias_at, worth_of}
-use Rattle.mdp_quot_exits.specs.Outer.{IsBestOuter}
-use Rattle.mdp_quot_exits.specs.Outer as outer
-use Rattle.mdp_quot_exits.specs.Steps.{IsLongest}
-use Rattle.mdp_quot_exits.proofs.InModel.{outer-policy, node_below, component-is, row-same}
-use Rattle.mdp_quot_exits.proofs.ForJoin.{at_part, at_exit, falls}
-use Rattle.mdp_farkas.specs.Mean.{MeetsMean}
-use Rattle.mdp_farkas.specs.Spread.{written_spread}
+use Rattle.mdp_ends.proofs.{Walking.{stays-at}, Numbering.{numbered-below}, RoundLaws.{has-number, inside-stays}, Joining.{leads-to_entry, joined}}
+use Rattle.mdp_ends.proofs.{Lifting.{state_ranks, lifted_leaves}, LiftedRules.{choice-kind, lifted_reaches}}
+use Rattle.mdp_quot.specs.{Quotient.{Quotient, IsQuotient}, Outer.{IsBestOuter}, Steps.{IsLongest}}
+use Rattle.mdp_gain.specs.{Query.{Answer}, Best.{IsBestInner, bias_at, worth_of}}
+use Rattle.mdp_quot.specs.Outer as outer
+use Rattle.mdp_quot.proofs.{InModel.{outer-policy, node_below, component-is, row-same}, ForJoin.{at_part, at_exit, falls}}
+use Rattle.mdp_farkas.specs.{Mean.{MeetsMean}, Spread.{written_spread}}
 use Rattle.mdp_farkas.proofs.Spreading.{written_spread-some}
 use Rattle.mdp_mean.specs.Terms.{Joining}
 use Rattle.mdp_mean.specs.Join.{Joined, policy_rows, written_bias, written_excess, written_bound, with_bias, with_excess, with_spread, spreading, written_join}
-use Rattle.mdp_mean.specs.Inners.{Inners, AreAnswers}
-use Rattle.mdp_mean.specs.Best.{AreBest}
-use Rattle.mdp_mean.specs.Query.{at_nodes, joining}
-use Rattle.mdp_mean.proofs.BiasOf.{IsBias, bias-is}
-use Rattle.mdp_mean.proofs.ExcessOf.{excess-nonneg, excess-leaving, bound-len, bound-is}
+use Rattle.mdp_mean.specs.{Inners.{Inners, AreAnswers}, Best.{AreBest}, Query.{at_nodes, joining}}
+use Rattle.mdp_mean.proofs.{BiasOf.{IsBias, bias-is}, ExcessOf.{excess-nonneg, excess-leaving, bound-len, bound-is}}
 
 as_good : (dir : Dir) (x y : ℚ) → better.IsAsGood dir x y → IsAsGood dir x y
 as_good Max x y h = h

@@ -1,36 +1,25 @@
 -- A query has one end at most.
 use Rattle.std.proofs.Common.{◌≡◌, inl, inr, ℕ, ◌<◌, List, map, get_or, Option, None, Result, Ok, Err, sym, ap, ◌∙◌, subst, arith}
-use Rattle.std.specs.List.{range_with_len}
-use Rattle.std.specs.Prelude.{slice_index, slice_index_or}
+use Rattle.std.specs.{List.{range_with_len}, Prelude.{slice_index, slice_index_or}}
 use Rattle.mdp_math.specs.Rational.{ℚ}
 use Rattle.mdp_math.proofs.Numbers.{le_or}
 use Rattle.mdp_spec.specs.Mdp.{Mdp, states_of, value_at}
 use Rattle.mdp_rows.specs.declared.dir.Dir.{Dir}
 use Rattle.mdp_wide.specs.Term.{WideTerm}
-use Rattle.mdp_ends.specs.Ends.{part_of, count_of, AreEnds}
-use Rattle.mdp_ends.specs.Quotient.{nodes_in}
-use Rattle.mdp_ends.proofs.Numbering.{case-number, numbered-below}
-use Rattle.mdp_ends.proofs.RoundLaws.{has-number}
-use Rattle.mdp_ends.proofs.Exits.{node-has}
-use Rattle.mdp_ends.proofs.OneNumbering.{one_ends, one_nodes}
-use Rattle.mdp_quot.specs.Quotient.{Quotient, IsQuotient, node_rows}
+use Rattle.mdp_ends.specs.{Ends.{part_of, count_of, AreEnds}, Quotient.{nodes_in}}
+use Rattle.mdp_ends.proofs.{Numbering.{case-number, numbered-below}, RoundLaws.{has-number}, Exits.{node-has}, OneNumbering.{one_ends, one_nodes}}
+use Rattle.mdp_quot.specs.{Quotient.{Quotient, IsQuotient, node_rows}, ExitsLaws.{StepsHaveOneEnd, OuterHasOneEnd}}
 use Rattle.mdp_ends.specs.Quotient as ends_quotient
-use Rattle.mdp_gain.specs.Query.{Answer}
+use Rattle.mdp_gain.specs.{Query.{Answer}, Best.{bias_at, taken_at}}
 use Rattle.mdp_gain.specs.Query as inner
-use Rattle.mdp_gain.specs.Best.{bias_at, taken_at}
 use Rattle.mdp_gain.specs.Laws as gain
-use Rattle.mdp_quot_exits.specs.Outer as outer
-use Rattle.mdp_quot_exits.specs.Laws.{StepsHaveOneEnd, OuterHasOneEnd}
+use Rattle.mdp_quot.specs.Outer as outer
 use Rattle.mdp_farkas.specs.Compare.{0ℚ}
-use Rattle.mdp_claims.specs.declared.verdict.Verdict.{Verdict}
-use Rattle.mdp_claims.specs.declared.verdict.Verdict.TheVariants.{Yes, No, Wide}
+use Rattle.mdp_claims.specs.{declared.verdict.Verdict.{Verdict}, declared.verdict.Verdict.TheVariants.{Yes, No, Wide}}
 use Rattle.mdp_graph.proofs.OnePass.{same_list}
-use Rattle.mdp_mean.specs.Terms.{Joining}
-use Rattle.mdp_mean.specs.Join.{Place, Joined, written_join}
-use Rattle.mdp_mean.specs.Inners.{Inners, AreAnswers, AreInners, IsRefused, InnersEndSo}
+use Rattle.mdp_mean.specs.{Terms.{Joining}, Join.{Place, Joined, written_join}, Inners.{Inners, AreAnswers, AreInners, IsRefused, InnersEndSo}}
+use Rattle.mdp_mean.specs.{Query.{Held, AfterJoin, joining, AfterSteps, AfterOuter, AfterQuotient, AfterInners, EndsSo}, Laws.{HasReward}}
 use Rattle.mdp_mean.specs.Query as query
-use Rattle.mdp_mean.specs.Query.{Held, AfterJoin, joining, AfterSteps, AfterOuter, AfterQuotient, AfterInners, EndsSo}
-use Rattle.mdp_mean.specs.Laws.{HasReward}
 
 pub ok_is : {A R : Type 0} (x y : A) → (let r : Result A R = Ok x in r) ≡ Ok y → x ≡ y
 ok_is x y e = cc

@@ -4,21 +4,15 @@ use Rattle.std.specs.Global.{Global}
 use Rattle.mdp_math.specs.Rational.{ℚ}
 use Rattle.mdp_spec.specs.Mdp.{Mdp}
 use Rattle.mdp_rows.specs.declared.dir.Dir.{Dir}
-use Rattle.mdp_wide.specs.Errors.{SolveError}
+use Rattle.mdp_wide.specs.{Errors.{SolveError}, Term.{WideTerm}}
 use Rattle.mdp_wide.specs.declared.unfinished.Unfinished.TheVariants as error
-use Rattle.mdp_wide.specs.Term.{WideTerm}
 use Rattle.mdp_policy_iteration.specs.Queries.{Solves}
 use Rattle.mdp_ends.specs.Ends.{AreEnds}
-use Rattle.mdp_quot.specs.Quotient.{Quotient, IsQuotient}
-use Rattle.mdp_quot_exits.specs.Outer as outer
-use Rattle.mdp_quot_exits.specs.Steps.{StepsEndSo}
+use Rattle.mdp_quot.specs.{Quotient.{Quotient, IsQuotient}, Steps.{StepsEndSo}}
+use Rattle.mdp_quot.specs.Outer as outer
 use Rattle.mdp_claims.specs.declared.exact.MeanCert.{MeanCert}
-use Rattle.mdp_mean.specs.Terms.{Joining}
-use Rattle.mdp_mean.specs.Join.{Place, Joined, written_join}
-use Rattle.mdp_mean.specs.Faults.{Says, in_join}
-use Rattle.mdp_mean.specs.Inners.{Inners, InnersEndSo}
-use Rattle.mdp_mean.specs.Query.{Answer, plain, joining, answer_of, term_at, Held, checked, AfterJoin, JoinEndsSo, EndsSo}
-use Rattle.mdp_mean.specs.Errors.{JoinError}
+use Rattle.mdp_mean.specs.{Terms.{Joining}, Join.{Place, Joined, written_join}, Faults.{Says, in_join}, Inners.{Inners, InnersEndSo}}
+use Rattle.mdp_mean.specs.{Query.{Answer, plain, joining, answer_of, term_at, Held, checked, AfterJoin, JoinEndsSo, EndsSo}, Errors.{JoinError}}
 
 -- an error that is returned
 pub solves-err : {A B : Type 0} (f : A → B) (Ends : Result B WideTerm → Type 0) (result : Result A SolveError) (e d : SolveError) → result ≡ Err e → e ≡ d → Solves f Ends (Err d) → Solves f Ends result

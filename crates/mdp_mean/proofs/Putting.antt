@@ -1,8 +1,6 @@
 -- Entries that are written from the last one back: where a number stands more than once, the first one's entry is left.
 use Rattle.std.proofs.Common.{◌≡◌, ℕ, suc, ◌<◌, Bool, true, false, cond, ◌==◌, List, ◌∷◌, length, get_or, set, drop, refl, sym, ap, ◌∙◌, subst, arith}
-use Rattle.std.proofs.Math.Seq.{drop-cons}
-use Rattle.std.proofs.lemmas.Bool.{eqb-true, eq-eqb, false≢true}
-use Rattle.std.proofs.lemmas.List.{get_or-set_same, get_or-set_other, length-set}
+use Rattle.std.proofs.{Math.Seq.{drop-cons}, lemmas.Bool.{eqb-true, eq-eqb, false≢true}, lemmas.List.{get_or-set_same, get_or-set_other, length-set}}
 use Rattle.mdp_gain.specs.Best.{entry_of}
 
 -- the entries from k on are written

@@ -1,14 +1,11 @@
 -- Each model has the quotient by its end components.
 use Rattle.std.proofs.Common.{◌≡◌, ◌⊎◌, inl, inr, ℕ, ◌<◌, ◌≤◌, List, length, map, Option, None, refl, sym, ap, ◌∙◌, arith, zero-add}
-use Rattle.std.specs.List.{range_with_len}
-use Rattle.std.specs.Prelude.{slice_index, slice_index_or}
 use Rattle.std.proofs.lemmas.List.FromFn.{get_or-map-range_with_len, length-map-range_with_len}
+use Rattle.std.specs.{List.{range_with_len}, Prelude.{slice_index, slice_index_or}}
 use Rattle.mdp_math.proofs.Numbers.{le_or}
 use Rattle.mdp_spec.specs.Mdp.{Mdp}
-use Rattle.mdp_ends.specs.Ends.{part_of, AreEnds}
-use Rattle.mdp_ends.specs.Quotient.{ShareAPart, AreNodes, nodes_in, exits_of}
-use Rattle.mdp_ends.proofs.ByTest.{nodes_exist}
-use Rattle.mdp_ends.proofs.Exits.{node-below, node-has}
+use Rattle.mdp_ends.specs.{Ends.{part_of, AreEnds}, Quotient.{ShareAPart, AreNodes, nodes_in, exits_of}}
+use Rattle.mdp_ends.proofs.{ByTest.{nodes_exist}, Exits.{node-below, node-has}}
 use Rattle.mdp_quot.specs.Quotient.{Quotient, IsQuotient, node_rows}
 
 -- ---- the nodes

@@ -4,8 +4,7 @@ use Rattle.mdp_math.specs.Rational.{of_int}
 use Rattle.mdp_spec.specs.Mdp.{Mdp, states_of, value_at}
 use Rattle.mdp_rows.specs.declared.dir.Dir.{Dir}
 use Rattle.mdp_ends.specs.Ends.{part_of, count_of}
-use Rattle.mdp_gain.specs.Query.{Answer}
-use Rattle.mdp_gain.specs.Best.{IsBestInner}
+use Rattle.mdp_gain.specs.{Query.{Answer}, Best.{IsBestInner}}
 use Rattle.mdp_mean.specs.Inners.{Inners, AreAnswers}
 
 -- what stands for end component i is a best answer

@@ -1,8 +1,7 @@
 -- What is joined, as the code holds it.
 use Rattle.mdp_mean.specs.Terms as spec
-use Rattle.mdp_mean.specs.declared.joining.Joining.{Joining}
+use Rattle.mdp_mean.specs.{declared.joining.Joining.{Joining}, declared.join.JoinedValues.{JoinedValues}}
 use Rattle.mdp_mean.specs.Join as joined
-use Rattle.mdp_mean.specs.declared.join.JoinedValues.{JoinedValues}
 
 abbrev pub joining_in : Joining → spec.Joining
 joining_in j = record {

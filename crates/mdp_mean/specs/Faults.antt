@@ -1,13 +1,10 @@
 -- Places of the join as errors of the code.
-use Rattle.std.specs.Prelude.{◌≡◌, ℕ, Option, Result, Ok, Err, Vec}
-use Rattle.std.specs.Global.{Global}
+use Rattle.std.specs.{Prelude.{◌≡◌, ℕ, Option, Result, Ok, Err, Vec}, Global.{Global}}
 use Rattle.mdp_wide.specs.declared.too_wide.Part.TheVariants as part
-use Rattle.mdp_wide.specs.Errors.{SolveError}
+use Rattle.mdp_wide.specs.{Errors.{SolveError}, declared.too_wide.Kind.{Kind}}
 use Rattle.mdp_wide.specs.declared.unfinished.Unfinished.TheVariants as error
-use Rattle.mdp_wide.specs.declared.too_wide.Kind.{Kind}
 use Rattle.mdp_num.specs.declared.errors.Wide.{Wide}
-use Rattle.mdp_mean.specs.Join.{Place}
-use Rattle.mdp_mean.specs.Errors.{JoinError}
+use Rattle.mdp_mean.specs.{Join.{Place}, Errors.{JoinError}}
 
 -- a step for a state and a choice, where there is one
 abbrev pub placed_at : {A : Type 0} → Kind → Option ℕ → Option ℕ → Result A Wide → Result A JoinError

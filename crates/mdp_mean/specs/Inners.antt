@@ -5,9 +5,8 @@ use Rattle.mdp_spec.specs.Mdp.{Mdp, states_of, value_at}
 use Rattle.mdp_rows.specs.declared.dir.Dir.{Dir}
 use Rattle.mdp_ends.specs.Ends.{part_of, in_part, count_of}
 use Rattle.mdp_wide.specs.Term.{WideTerm}
-use Rattle.mdp_gain.specs.Query.{Answer}
+use Rattle.mdp_gain.specs.{Query.{Answer}, Best.{bias_at, taken_at}}
 use Rattle.mdp_gain.specs.Query as inner
-use Rattle.mdp_gain.specs.Best.{bias_at, taken_at}
 
 -- a gain for each end component; a bias and a choice for each state, 0 at states that are in none
 pub record Inners : Type 0 where

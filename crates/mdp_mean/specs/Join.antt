@@ -4,19 +4,14 @@
 --     bound    the inner bias, moved by the excess for each step
 use Rattle.std.specs.Prelude.{ℕ, zero, suc, Bool, true, false, List, [], ◌∷◌, length, map, slice_index, slice_index_or, Option, Some, None, Result, Ok, Err}
 use Rattle.std.specs.List.{range_with_len}
-use Rattle.mdp_math.specs.Rational.{ℚ}
-use Rattle.mdp_math.specs.Result.{◌>>=◌}
+use Rattle.mdp_math.specs.{Rational.{ℚ}, Result.{◌>>=◌}}
 use Rattle.mdp_spec.specs.Mdp.{Entry, states_of, choices_at, row_at, value_at}
-use Rattle.mdp_elim.specs.System.{is_active}
-use Rattle.mdp_elim.specs.Solve.{written_solution}
-use Rattle.mdp_wide.specs.declared.too_wide.Kind.{Kind}
-use Rattle.mdp_mean.specs.declared.errors.JoinPlace.{JoinPlace}
-use Rattle.mdp_wide.specs.declared.too_wide.Kind.TheVariants.{Evaluate, Compare}
+use Rattle.mdp_elim.specs.{System.{is_active}, Solve.{written_solution}}
+use Rattle.mdp_wide.specs.{declared.too_wide.Kind.{Kind}, declared.too_wide.Kind.TheVariants.{Evaluate, Compare}}
+use Rattle.mdp_mean.specs.{declared.errors.JoinPlace.{JoinPlace}, Terms.{Joining, constant_by, greater_excess, bound_by}}
 use Rattle.mdp_policy_iteration.specs.Places.{at_place, up_to}
 use Rattle.mdp_ends.specs.Ends.{is_inside}
-use Rattle.mdp_farkas.specs.Compare.{0ℚ}
-use Rattle.mdp_farkas.specs.Spread.{written_spread}
-use Rattle.mdp_mean.specs.Terms.{Joining, constant_by, greater_excess, bound_by}
+use Rattle.mdp_farkas.specs.{Compare.{0ℚ}, Spread.{written_spread}}
 
 -- what was computed, and for which state and choice, where there is one
 abbrev pub Place : Type 0

@@ -1,16 +1,11 @@
 -- What a query of the mean payoff ends with.
 use Rattle.std.specs.Prelude.{◌≡◌, ℕ, ◌<◌, length, Result, Ok}
-use Rattle.mdp_spec.specs.Mdp.{Mdp}
-use Rattle.mdp_spec.specs.Bounds.{MeanMax, MeanMin}
-use Rattle.mdp_rows.specs.Limits.{IsModel}
-use Rattle.mdp_rows.specs.declared.dir.Dir.{Dir}
-use Rattle.mdp_rows.specs.declared.dir.Dir.TheVariants.{Max, Min}
+use Rattle.mdp_spec.specs.{Mdp.{Mdp}, Bounds.{MeanMax, MeanMin}}
+use Rattle.mdp_rows.specs.{Limits.{IsModel}, declared.dir.Dir.{Dir}, declared.dir.Dir.TheVariants.{Max, Min}}
 use Rattle.mdp_wide.specs.Term.{WideTerm}
 use Rattle.mdp_farkas.specs.Mean.{MeetsMean, IsMean}
 use Rattle.mdp_claims.specs.declared.verdict.Verdict.TheVariants.{Yes}
-use Rattle.mdp_mean.specs.Terms.{Joining}
-use Rattle.mdp_mean.specs.Join.{Joined, written_join}
-use Rattle.mdp_mean.specs.Query.{Answer, answer_of, checked, JoinEndsSo, IsJoining, EndsSo}
+use Rattle.mdp_mean.specs.{Terms.{Joining}, Join.{Joined, written_join}, Query.{Answer, answer_of, checked, JoinEndsSo, IsJoining, EndsSo}}
 
 -- a model with reward name r
 pub record HasReward (m : Mdp) (r : ℕ) : Type 0 where

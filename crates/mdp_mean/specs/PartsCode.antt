@@ -2,15 +2,11 @@
 use Rattle.std.specs.Prelude.{◌≡◌, ℕ, [], ◌∷◌, ◌++◌, length, slice_index, pos}
 use Rattle.mdp_math.specs.Rational.{of_int}
 use Rattle.mdp_spec.specs.Mdp.{Mdp, value_at}
-use Rattle.mdp_gain.specs.Query.{Answer}
-use Rattle.mdp_gain.specs.Best.{entry_of}
+use Rattle.mdp_gain.specs.{Query.{Answer}, Best.{entry_of}}
 use Rattle.mdp_rows.specs.declared.dir.Dir.{Dir}
-use Rattle.mdp_quot_exits.specs.Outer as outer
-use Rattle.mdp_mean.specs.Terms.{Joining}
-use Rattle.mdp_mean.specs.Query.{joining}
+use Rattle.mdp_quot.specs.Outer as outer
+use Rattle.mdp_mean.specs.{Terms.{Joining}, Query.{joining}, declared.parts.Parts.{Parts}, declared.inners.Inners.{Inners}}
 use Rattle.mdp_mean.specs.Inners as spec
-use Rattle.mdp_mean.specs.declared.parts.Parts.{Parts}
-use Rattle.mdp_mean.specs.declared.inners.Inners.{Inners}
 
 abbrev pub inners_in : Inners → spec.Inners
 inners_in x = record { gains = x.gains.items; bias = x.bias.items; choices = x.choices.items }

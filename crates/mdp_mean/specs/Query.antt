@@ -2,28 +2,18 @@
 --     the end components, one after the other; the best gains over the quotient; the greatest expected numbers of exits; the join of all these;
 --     and the rules of certificates
 -- The first written term past width ends it.
-use Rattle.std.specs.Prelude.{◌≡◌, ℕ, ◌==◌, Bool, not, List, map, Option, slice_index, Result, Ok, Err}
-use Rattle.std.specs.List.{range_with_len}
+use Rattle.std.specs.{Prelude.{◌≡◌, ℕ, ◌==◌, Bool, not, List, map, Option, slice_index, Result, Ok, Err}, List.{range_with_len}}
 use Rattle.mdp_math.specs.Rational.{ℚ}
 use Rattle.mdp_spec.specs.Mdp.{Mdp, states_of, value_at}
 use Rattle.mdp_rows.specs.declared.dir.Dir.{Dir}
 use Rattle.mdp_wide.specs.declared.too_wide.Part.TheVariants as part
-use Rattle.mdp_wide.specs.declared.too_wide.Kind.TheVariants.{Check}
-use Rattle.mdp_wide.specs.Term.{WideTerm}
-use Rattle.mdp_ends.specs.Ends.{AreEnds}
-use Rattle.mdp_ends.specs.Toward.{lifted}
-use Rattle.mdp_quot.specs.Quotient.{Quotient, IsQuotient}
-use Rattle.mdp_quot_exits.specs.Outer.{OuterEndSo}
-use Rattle.mdp_quot_exits.specs.Outer as outer
-use Rattle.mdp_quot_exits.specs.Steps.{StepsEndSo}
-use Rattle.mdp_farkas.specs.Mean.{mean_checks}
-use Rattle.mdp_farkas.specs.Verdict.{verdict_of}
-use Rattle.mdp_claims.specs.declared.exact.MeanCert.{MeanCert}
-use Rattle.mdp_claims.specs.declared.verdict.Verdict.{Verdict}
-use Rattle.mdp_claims.specs.declared.verdict.Verdict.TheVariants.{Yes, No, Wide}
-use Rattle.mdp_mean.specs.Terms.{Joining}
-use Rattle.mdp_mean.specs.Join.{Place, Joined, written_join}
-use Rattle.mdp_mean.specs.Inners.{Inners, InnersEndSo}
+use Rattle.mdp_wide.specs.{declared.too_wide.Kind.TheVariants.{Check}, Term.{WideTerm}}
+use Rattle.mdp_ends.specs.{Ends.{AreEnds}, Toward.{lifted}}
+use Rattle.mdp_quot.specs.{Quotient.{Quotient, IsQuotient}, Outer.{OuterEndSo}, Steps.{StepsEndSo}}
+use Rattle.mdp_quot.specs.Outer as outer
+use Rattle.mdp_farkas.specs.{Mean.{mean_checks}, Verdict.{verdict_of}}
+use Rattle.mdp_claims.specs.{declared.exact.MeanCert.{MeanCert}, declared.verdict.Verdict.{Verdict}, declared.verdict.Verdict.TheVariants.{Yes, No, Wide}}
+use Rattle.mdp_mean.specs.{Terms.{Joining}, Join.{Place, Joined, written_join}, Inners.{Inners, InnersEndSo}}
 
 -- ---- what is joined
 

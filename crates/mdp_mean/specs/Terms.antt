@@ -1,17 +1,12 @@
 -- The written terms by which values of end components and of the quotient's nodes are put together for all states. At each state stand the gain of its
 -- node, the greatest expected number of exits from its node, and the bias in its end component, 0 where it is in none.
 use Rattle.std.specs.Prelude.{ℕ, Bool, true, false, List, [], ◌∷◌, Option, Some}
-use Rattle.mdp_math.specs.Rational.{ℚ}
-use Rattle.mdp_math.specs.Written.{written_add, written_mul, ◌>>=◌}
+use Rattle.mdp_math.specs.{Rational.{ℚ}, Written.{written_add, written_mul, ◌>>=◌}}
 use Rattle.mdp_num.specs.Written.{written_sub}
-use Rattle.mdp_spec.specs.Mdp.{Mdp, choice_at, row_at, value_at}
-use Rattle.mdp_spec.specs.Unit.{reward_of}
-use Rattle.mdp_spec.specs.Written.{written_sum}
+use Rattle.mdp_spec.specs.{Mdp.{Mdp, choice_at, row_at, value_at}, Unit.{reward_of}, Written.{written_sum}}
 use Rattle.mdp_policy_iteration.specs.Path.{outer}
-use Rattle.mdp_farkas.specs.Compare.{0ℚ}
-use Rattle.mdp_farkas.specs.Spread.{written_best}
-use Rattle.mdp_rows.specs.declared.dir.Dir.{Dir}
-use Rattle.mdp_rows.specs.declared.dir.Dir.TheVariants.{Max, Min}
+use Rattle.mdp_farkas.specs.{Compare.{0ℚ}, Spread.{written_best}}
+use Rattle.mdp_rows.specs.{declared.dir.Dir.{Dir}, declared.dir.Dir.TheVariants.{Max, Min}}
 
 -- what is put together: the number of each state's end component, the policy of all states, and which of them are active: those whose node takes an exit
 pub record Joining : Type 0 where

@@ -1,11 +1,7 @@
-ghost use Rattle.std.specs.Prelude.{◌≡◌, ◌<◌, length, Some, slice_index};
-ghost use Rattle.std.specs.Result.{result_ok};
+ghost use Rattle.std.specs.{Prelude.{◌≡◌, ◌<◌, length, Some, slice_index}, Result.{result_ok}};
 ghost use Rattle.mdp_wide.specs.declared.too_wide.Kind.TheVariants.{Compare};
 ghost use Rattle.mdp_spec.specs.Mdp.{states_of};
-ghost use Rattle.mdp_mean.specs.Code.{joining_in};
-ghost use Rattle.mdp_mean.specs.Faults.{placed_at, Answers};
-ghost use Rattle.mdp_mean.specs.Join.{written_bound};
-ghost use Rattle.mdp_mean.specs.Terms.{written_moved, bound_by};
+ghost use Rattle.mdp_mean.specs.{Code.{joining_in}, Faults.{placed_at, Answers}, Join.{written_bound}, Terms.{written_moved, bound_by}};
 
 use crate::errors::{JoinError, JoinPlace};
 use crate::joining::Joining;

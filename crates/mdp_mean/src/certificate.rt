@@ -1,6 +1,5 @@
 ghost use Rattle.std.specs.Prelude.{◌≡◌, ◌<◌, length, IfOk};
-ghost use Rattle.mdp_spec.specs.Bounds.{MeanMax, MeanMin};
-ghost use Rattle.mdp_spec.specs.Mdp.{states_of};
+ghost use Rattle.mdp_spec.specs.{Bounds.{MeanMax, MeanMin}, Mdp.{states_of}};
 ghost use Rattle.mdp_rows.specs.declared.dir.Dir.TheVariants.{Max, Min};
 ghost use Rattle.mdp_farkas.specs.Mean.{MeetsMean, IsMean};
 ghost use Rattle.mdp_policy_iteration.specs.Queries.{Solves};

@@ -1,12 +1,9 @@
-ghost use Rattle.std.specs.Prelude.{◌≡◌, ◌<◌, length, [], ◌∷◌, Some};
-ghost use Rattle.std.specs.Result.{result_ok};
+ghost use Rattle.std.specs.{Prelude.{◌≡◌, ◌<◌, length, [], ◌∷◌, Some}, Result.{result_ok}};
 ghost use Rattle.mdp_wide.specs.declared.too_wide.Kind.TheVariants.{Compare};
 ghost use Rattle.mdp_farkas.specs.Spread.{written_best};
 ghost use Rattle.mdp_rows.specs.declared.dir.Dir.TheVariants.{Max};
 ghost use Rattle.mdp_spec.specs.Mdp.{states_of, choices_at};
-ghost use Rattle.mdp_mean.specs.Code.{joining_in};
-ghost use Rattle.mdp_mean.specs.Faults.{placed_at, Answers};
-ghost use Rattle.mdp_mean.specs.Join.{after_choice, after_state, written_excess};
+ghost use Rattle.mdp_mean.specs.{Code.{joining_in}, Faults.{placed_at, Answers}, Join.{after_choice, after_state, written_excess}};
 ghost use Rattle.mdp_mean.specs.Terms.{excess_over, excess_at, greater_excess};
 
 use crate::errors::{JoinError, JoinPlace};

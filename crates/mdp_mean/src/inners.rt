@@ -2,15 +2,11 @@ ghost use Rattle.std.specs.Prelude.{ℕ, ◌≡◌, ◌<◌, length, slice_index
 ghost use Rattle.mdp_spec.specs.Mdp.{value_at};
 ghost use Rattle.mdp_parts.specs.FoundEnds.{AreEndsOf};
 ghost use Rattle.mdp_policy_iteration.specs.Queries.{Solves};
-ghost use Rattle.mdp_gain.specs.Best.{entry_of};
-ghost use Rattle.mdp_gain.specs.Query.{plain};
-ghost use Rattle.mdp_mean.specs.Inners.{InnersEndSo};
-ghost use Rattle.mdp_mean.specs.Best.{AreBest};
-ghost use Rattle.mdp_mean.specs.PartsCode.{inners_in, IsEmpty, IsAdded};
+ghost use Rattle.mdp_gain.specs.{Best.{entry_of}, Query.{plain}};
+ghost use Rattle.mdp_mean.specs.{Inners.{InnersEndSo}, Best.{AreBest}, PartsCode.{inners_in, IsEmpty, IsAdded}};
 
-use mdp_gain::Inner;
+use mdp_gain::{Inner, members_of, solve_alone};
 use mdp_num::Frac;
-use mdp_part_model::{members_of, solve_alone};
 use mdp_parts::Ends;
 use mdp_rows::{Dir, Model};
 use mdp_wide::SolveError;

@@ -1,9 +1,7 @@
 ghost use Rattle.std.specs.Prelude.{ℕ, List, ◌≡◌, None};
 ghost use Rattle.mdp_elim.specs.System.{Leaves};
 ghost use Rattle.mdp_wide.specs.declared.too_wide.Kind.TheVariants.{Compare};
-ghost use Rattle.mdp_mean.specs.Code.{joining_in, shown};
-ghost use Rattle.mdp_mean.specs.Faults.{placed_at, Answers};
-ghost use Rattle.mdp_mean.specs.Join.{policy_rows, written_join};
+ghost use Rattle.mdp_mean.specs.{Code.{joining_in, shown}, Faults.{placed_at, Answers}, Join.{policy_rows, written_join}};
 
 use crate::bias::bias_of;
 use crate::bound::bound_of;

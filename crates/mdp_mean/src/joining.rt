@@ -1,7 +1,6 @@
 ghost use Rattle.std.specs.Prelude.{ℕ, [], ◌≡◌, ◌<◌, length, slice_index_or};
 ghost use Rattle.mdp_ends.specs.Ends.{is_inside};
-ghost use Rattle.mdp_spec.specs.Mdp.{states_of, choices_at};
-ghost use Rattle.mdp_spec.specs.Tree.{IsPolicy};
+ghost use Rattle.mdp_spec.specs.{Mdp.{states_of, choices_at}, Tree.{IsPolicy}};
 ghost use Rattle.mdp_parts.specs.FoundEnds.{inner_at};
 
 use mdp_num::Frac;

@@ -1,6 +1,5 @@
 ghost use Rattle.std.specs.Prelude.{◌≡◌, ◌<◌, length, IfOk};
-ghost use Rattle.mdp_spec.specs.Bounds.{MeanMax, MeanMin};
-ghost use Rattle.mdp_spec.specs.Mdp.{states_of};
+ghost use Rattle.mdp_spec.specs.{Bounds.{MeanMax, MeanMin}, Mdp.{states_of}};
 ghost use Rattle.mdp_rows.specs.declared.dir.Dir.TheVariants.{Max, Min};
 ghost use Rattle.mdp_farkas.specs.Mean.{IsMean};
 ghost use Rattle.mdp_policy_iteration.specs.Queries.{Solves};
@@ -11,8 +10,7 @@ use crate::parts::{Parts, join_parts};
 use bumpalo::Bump;
 use mdp_farkas::MeanCert;
 use mdp_parts::end_components;
-use mdp_quot::Quotient;
-use mdp_quot_exits::{best_exits, longest};
+use mdp_quot::{Quotient, best_exits, longest};
 use mdp_rows::{Dir, Model};
 use mdp_wide::SolveError;
 use std::alloc::Global;

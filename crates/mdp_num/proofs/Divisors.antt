@@ -1,11 +1,10 @@
 -- What a greatest common divisor keeps where a factor, a difference or a power of 2 is dropped.
 use Rattle.std.proofs.Common.{◌≡◌, ℕ, zero, suc, ◌+◌, ◌-◌, ◌*◌, ◌/◌, ◌%◌, ◌^◌, ◌<◌, ◌≤◌, min, arith, sym, ◌∙◌, ap, ap₂, subst, mul_comm, mul-zero, mod-eq_of_lt}
-use Rattle.std.specs.Int.{◌∣◌, bit_at, trailing_zeros, Width, abs_diff}
 use Rattle.std.proofs.lemmas.Nat.Gcd.{dvd_refl, dvd_trans, dvd_antisymm, IsGcd-from_sub, same_from_IsGcd}
-use native.Mathlib.Nat.{dvd-mul_left, mul-div_cancel', div-le_self}
-use Rattle.std.proofs.Math.Nat.{one-dvd, mul-dvd-mul_left, mul-sub, mul-div_cancel_left, dvd-mul_right, add-mod_right}
-use Rattle.std.proofs.lemmas.Nat.{pow-add, pow_pos}
+use Rattle.std.proofs.{Math.Nat.{one-dvd, mul-dvd-mul_left, mul-sub, mul-div_cancel_left, dvd-mul_right, add-mod_right}, lemmas.Nat.{pow-add, pow_pos}}
 use Rattle.std.proofs.lemmas.Nat.Bits.{bit_at_lowest, bit_at-suc, bit_at-trailing_zeros}
+use Rattle.std.specs.Int.{◌∣◌, bit_at, trailing_zeros, Width, abs_diff}
+use native.Mathlib.Nat.{dvd-mul_left, mul-div_cancel', div-le_self}
 use mir.Val.{bits}
 use Rattle.mdp_math.specs.Gcd.{gcd, gcd_is, gcd_comm, gauss, coprime_divisors, coprime-mul_left, gcd-mod, gcd-one_right, gcd_scaled, gcd-zero, gcd-le_right}
 

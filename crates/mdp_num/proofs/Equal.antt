@@ -1,12 +1,10 @@
 -- Equality of fractions, as the code tests it.
-use Rattle.std.proofs.Common.{◌≡◌, eqb, sym, ap, ◌∙◌, pos, unsigned_abs, to_z, of_z}
+use Rattle.std.proofs.{Common.{◌≡◌, eqb, sym, ap, ◌∙◌, pos, unsigned_abs, to_z, of_z}, lemmas.Bool.Decides.{Decides-eqb}}
 use Rattle.std.specs.Bool.{Decides}
-use Rattle.std.proofs.lemmas.Bool.Decides.{Decides-eqb}
 use mir.Syntax.{w128}
 use Rattle.mdp_math.specs.Rational.{ℚ}
 use Rattle.mdp_math.proofs.Laws.{same_terms}
-use Rattle.mdp_num.specs.declared.frac.Frac.TheInside.{Inside}
-use Rattle.mdp_num.specs.Inside.{value_of, IsFrac}
+use Rattle.mdp_num.specs.{declared.frac.Frac.TheInside.{Inside}, Inside.{value_of, IsFrac}}
 use Rattle.mdp_num.proofs.Values.{num-bits, den-bits, num-value, pos-den-value}
 
 module _ (f g : Inside) (x y : ℚ) (vf : value_of f ≡ x) (i : IsFrac f) (vg : value_of g ≡ y) (j : IsFrac g) where

@@ -1,20 +1,13 @@
 -- Worked rows, by computation.
 use Rattle.std.proofs.Common.{◌≡◌, ℕ, ◌<◌, ◌-◌, ◌^◌, ◌/◌, ◌%◌, false, not, ◌||◌, cond, eqb, List, [], ◌∷◌, Option, Some, None, Ok, Err, refl, sym, ap, subst, ◌∙◌, arith, lit<}
-use Rattle.std.proofs.Common.{ℤ, pos, negsuc, ◌+ℤ◌, ◌*ℤ◌, unsigned_abs}
+use Rattle.std.proofs.{Common.{ℤ, pos, negsuc, ◌+ℤ◌, ◌*ℤ◌, unsigned_abs}, lemmas.Fmt.{decimal_digit}}
 use Rattle.std.specs.Prelude.{codes, map, replicate}
-use Rattle.std.proofs.lemmas.Fmt.{decimal_digit}
-use Rattle.mdp_math.specs.Gcd.{gcd, gcd_comm, gcd-mod, gcd-zero, gcd-one_right}
-use Rattle.mdp_math.specs.Rational.{ℚ, ratio, of_int, ◌+ℚ◌}
+use Rattle.mdp_math.specs.{Gcd.{gcd, gcd_comm, gcd-mod, gcd-zero, gcd-one_right}, Rational.{ℚ, ratio, of_int, ◌+ℚ◌}}
 use Rattle.mdp_math.specs.Written.{narrow, narrow_ℚ, written_add, ◌>>=◌}
-use Rattle.mdp_math.proofs.Laws.{same_is, is_ratio, num-ratio, den-ratio}
-use Rattle.mdp_math.proofs.Written.{narrow_ℚ-kept, narrow_ℚ-past_num}
-use Rattle.mdp_num.specs.Value.{quotient, spelling, IsOver}
-use Rattle.mdp_num.specs.Numeral.{numeral_of, parts_of, limit}
-use Rattle.mdp_num.specs.Canonical.{canonical_of}
-use Rattle.mdp_num.specs.declared.errors.NumeralError.{NumeralError}
-use Rattle.mdp_num.specs.declared.errors.NumeralError.TheVariants.{Shape, ZeroDen, Large}
-use Rattle.mdp_num.proofs.Meaning.{ratio_same}
-use Rattle.mdp_num.proofs.Over.{over-whole}
+use Rattle.mdp_math.proofs.{Laws.{same_is, is_ratio, num-ratio, den-ratio}, Written.{narrow_ℚ-kept, narrow_ℚ-past_num}}
+use Rattle.mdp_num.specs.{Value.{quotient, spelling, IsOver}, Numeral.{numeral_of, parts_of, limit}, Canonical.{canonical_of}}
+use Rattle.mdp_num.specs.{declared.errors.NumeralError.{NumeralError}, declared.errors.NumeralError.TheVariants.{Shape, ZeroDen, Large}}
+use Rattle.mdp_num.proofs.{Meaning.{ratio_same}, Over.{over-whole}}
 
 -- ---- numerals
 

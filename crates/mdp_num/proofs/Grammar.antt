@@ -1,11 +1,9 @@
 -- The parts of a numeral against its grammar.
 use Rattle.std.proofs.Common.{◌≡◌, ℕ, suc, ◌+◌, ◌<◌, ◌⊎◌, inl, inr, Bool, true, false, cond, ltb, eqb, ◌||◌}
 use Rattle.std.proofs.Common.{List, [], ◌∷◌, ◌++◌, length, take, Option, Some, None, refl, sym, ap, subst, ◌∙◌, arith}
-use Rattle.std.specs.Char.{is_ascii_digit}
-use Rattle.std.specs.List.{prefix_len}
-use Rattle.std.proofs.lemmas.List.{take_at, drop_at, take-append-drop}
-use Rattle.std.proofs.lemmas.List.Folds.{prefix_len-append, length-prefix_len}
+use Rattle.std.proofs.{lemmas.List.{take_at, drop_at, take-append-drop}, lemmas.List.Folds.{prefix_len-append, length-prefix_len}}
 use Rattle.std.proofs.lemmas.Bool.Decides.{nat_tests}
+use Rattle.std.specs.{Char.{is_ascii_digit}, List.{prefix_len}}
 use Rattle.mdp_num.specs.Digits.{is_digits, front_digits, behind_digits}
 use Rattle.mdp_num.specs.Numeral.{Parts, Decimal, Quotient, digits_or_none, signed_digits, exponent_of, decimal_parts, parts_behind, parts_of}
 use Rattle.mdp_num.specs.Grammar.{IsDigits, IsSign, IsExponent, Spells, IsSound, IsComplete}

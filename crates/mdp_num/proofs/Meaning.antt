@@ -2,28 +2,16 @@
 use Rattle.std.proofs.Common.{◌≡◌, ◌≢◌, ℕ, zero, suc, ◌+◌, ◌-◌, ◌*◌, ◌/◌, ◌%◌, ◌^◌, ◌<◌, ◌≤◌}
 use Rattle.std.proofs.Common.{inl, inr, Bool, true, false, cond, eqb, ltb, ◌||◌, List, [], ◌∷◌, ◌++◌}
 use Rattle.std.proofs.Common.{length, take, get_or, Option, Some, None, Result, Ok, Err, refl, sym, ap, ap₂, subst, ◌∙◌, arith, lit<, pos, unsigned_abs, mul-one}
-use Rattle.std.specs.Char.{is_ascii_digit}
-use Rattle.std.specs.Result.{IfOk}
-use Rattle.std.proofs.Math.Nat.{one-le-pow, div-le_self}
-use Rattle.std.proofs.lemmas.Nat.{pow-add, mod-mul-add}
-use Rattle.std.proofs.lemmas.List.{append-nil, take_more, take_all, length-take-le, get_or-take}
-use Rattle.std.proofs.lemmas.Bool.{cases_eq}
-use Rattle.std.proofs.lemmas.Bool.Decides.{nat_tests}
-use Rattle.mdp_math.specs.Gcd.{gcd}
-use Rattle.mdp_math.specs.Rational.{ℚ, ratio}
-use Rattle.mdp_math.proofs.Laws.{same_is, is_ratio}
-use Rattle.mdp_math.proofs.Order.{ratio-nonneg}
-use Rattle.mdp_math.proofs.Written.{num-ratio_signed, den-ratio_signed}
-use Rattle.mdp_num.specs.Digits.{number}
-use Rattle.mdp_num.specs.Grammar.{Spells}
+use Rattle.std.proofs.{Math.Nat.{one-le-pow, div-le_self}, lemmas.Nat.{pow-add, mod-mul-add}}
+use Rattle.std.proofs.{lemmas.List.{append-nil, take_more, take_all, length-take-le, get_or-take}, lemmas.Bool.{cases_eq}, lemmas.Bool.Decides.{nat_tests}}
+use Rattle.std.specs.{Char.{is_ascii_digit}, Result.{IfOk}}
+use Rattle.mdp_math.specs.{Gcd.{gcd}, Rational.{ℚ, ratio}}
+use Rattle.mdp_math.proofs.{Laws.{same_is, is_ratio}, Order.{ratio-nonneg}, Written.{num-ratio_signed, den-ratio_signed}}
+use Rattle.mdp_num.specs.{Digits.{number}, Grammar.{Spells}}
 use Rattle.mdp_num.specs.Numeral.{Parts, Decimal, Quotient, limit, zeros_behind, significant, scaled, decimal_terms, quotient_terms, parts_of, terms_of, value_of, numeral_of}
-use Rattle.mdp_num.specs.Meaning.{meaning, decimal_value, IsMeant, IsRefusedByShape, IsSplit, HasNoZero, AreWithinLimit, IsWithinLimit}
-use Rattle.mdp_num.specs.Value.{IsNarrow}
-use Rattle.mdp_num.specs.declared.errors.NumeralError.{NumeralError}
-use Rattle.mdp_num.specs.declared.errors.NumeralError.TheVariants.{Shape, ZeroDen, Large}
-use Rattle.mdp_num.proofs.Grammar.{sound, complete, chosen, eqb-is, digits-long}
-use Rattle.mdp_num.proofs.Plain.{digit-at, digit-bounds}
-use Rattle.mdp_num.proofs.Scale.{ten-le}
+use Rattle.mdp_num.specs.{Meaning.{meaning, decimal_value, IsMeant, IsRefusedByShape, IsSplit, HasNoZero, AreWithinLimit, IsWithinLimit}, Value.{IsNarrow}}
+use Rattle.mdp_num.specs.{declared.errors.NumeralError.{NumeralError}, declared.errors.NumeralError.TheVariants.{Shape, ZeroDen, Large}}
+use Rattle.mdp_num.proofs.{Grammar.{sound, complete, chosen, eqb-is, digits-long}, Plain.{digit-at, digit-bounds}, Scale.{ten-le}}
 use Rattle.mdp_num.proofs.Zeros.{significant-some, significant-none, zeros-all, zeros-some, number_after-append}
 
 -- ---- one digit more at the end

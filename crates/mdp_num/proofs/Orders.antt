@@ -1,7 +1,6 @@
 -- The order of fractions of natural numbers, by whole parts and the reciprocals of the rests.
 use Rattle.std.proofs.Common.{◌≡◌, ◌≢◌, ℕ, suc, ◌+◌, ◌*◌, ◌/◌, ◌%◌, ◌<◌, ◌≤◌, ◌⊎◌, inl, inr, ⊎_elim, sym, ◌∙◌, ap, ap₂, arith, mul-pos, mul-zero, mod-lt}
-use Rattle.std.proofs.Common.{true, false, Less, Greater, nat_cmp, ℤ, pos, negsuc, neg_ℤ, ◌*ℤ◌, ◌<ℤ◌, ◌≤ℤ◌, int_cmp, int_lt, unsigned_abs}
-use Rattle.std.proofs.lemmas.Int.{ints}
+use Rattle.std.proofs.{Common.{true, false, Less, Greater, nat_cmp, ℤ, pos, negsuc, neg_ℤ, ◌*ℤ◌, ◌<ℤ◌, ◌≤ℤ◌, int_cmp, int_lt, unsigned_abs}, lemmas.Int.{ints}}
 use native.Mathlib.Nat.{div-add-mod, mul-le-mul_right, mul-lt-mul_of_pos_right}
 
 -- ---- the order of two numbers

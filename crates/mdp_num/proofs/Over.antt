@@ -1,15 +1,12 @@
 -- A number over a denominator that may be a multiple of its own.
 use Rattle.std.proofs.Common.{◌≡◌, ℕ, suc, ◌*◌, ◌/◌, ◌%◌, ◌<◌, ◌≤◌, ◌^◌, sym, ◌∙◌, ap, ap₂, subst, arith, ℤ, pos, negsuc, ◌*ℤ◌, ◌-◌, to_z, of_z, to_z-of_z}
-use Rattle.std.proofs.lemmas.Int.{ints, fits_signed_mul}
-use Rattle.std.proofs.lemmas.Nat.Gcd.{mod-eq-zero_of_dvd, dvd_of_mod-eq-zero}
+use Rattle.std.proofs.{lemmas.Int.{ints, fits_signed_mul}, lemmas.Nat.Gcd.{mod-eq-zero_of_dvd, dvd_of_mod-eq-zero}}
 use Rattle.std.proofs.Math.Nat.{div-le_self, le_of_dvd, le-mul_of_pos_right, mul-div_cancel'}
-use Rattle.std.specs.Int.{◌∣◌}
-use Rattle.std.specs.Prelude.{FitsSigned}
+use Rattle.std.specs.{Int.{◌∣◌}, Prelude.{FitsSigned}}
 use lib.Signed.{mag}
 use mir.Syntax.{w64, w128}
 use Rattle.mdp_math.specs.Rational.{ℚ, ratio, quotient-pos}
-use Rattle.mdp_math.proofs.Laws.{Is, is_ratio}
-use Rattle.mdp_math.proofs.Shared.{is-den, is-num, ratio-multiple}
+use Rattle.mdp_math.proofs.{Laws.{Is, is_ratio}, Shared.{is-den, is-num, ratio-multiple}}
 use Rattle.mdp_num.proofs.Values.{result-bits}
 
 factor-fits : (a : ℤ) (k : ℕ) → 0 < k → FitsSigned w64 (a *ℤ pos k) → FitsSigned w64 a

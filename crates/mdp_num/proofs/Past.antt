@@ -1,14 +1,10 @@
 -- Where the greatest common divisor of two denominators is small, a numerator over their least common multiple is past width.
 use Rattle.std.proofs.Common.{◌≡◌, ℕ, ◌*◌, ◌/◌, ◌^◌, ◌<◌, ◌≤◌, ◌⊎◌, inl, inr, sym, ◌∙◌, ap, arith, pos, unsigned_abs, None, max, ℤ, to_z, of_z, to_z-of_z}
-use Rattle.std.proofs.lemmas.Int.{unsigned_abs-mul, fits_signed_from_abs}
+use Rattle.std.proofs.{lemmas.Int.{unsigned_abs-mul, fits_signed_from_abs}, Math.Nat.{mul-le-mul}}
 use mir.Syntax.{w128}
-use Rattle.std.proofs.Math.Nat.{mul-le-mul}
 use native.Mathlib.Nat.{mul-div_cancel', mul-le-mul_right, le_of_mul-le-mul_right}
-use Rattle.mdp_math.specs.Gcd.{gcd, gcd_is, gcd_comm, gcd-pos, gcd-le_right}
-use Rattle.mdp_math.specs.Rational.{ℚ}
-use Rattle.mdp_math.specs.Written.{narrow, across}
-use Rattle.mdp_math.proofs.Laws.{den-pos}
-use Rattle.mdp_math.proofs.Written.{narrow-past}
+use Rattle.mdp_math.specs.{Gcd.{gcd, gcd_is, gcd_comm, gcd-pos, gcd-le_right}, Rational.{ℚ}, Written.{narrow, across}}
+use Rattle.mdp_math.proofs.{Laws.{den-pos}, Written.{narrow-past}}
 use Rattle.mdp_num.specs.Value.{IsNarrow}
 use Rattle.mdp_num.proofs.Divisors.{by_order}
 

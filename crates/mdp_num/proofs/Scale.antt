@@ -1,11 +1,8 @@
 -- Powers of ten within the limit.
 use Rattle.std.proofs.Common.{◌≡◌, ℕ, ◌+◌, ◌-◌, ◌*◌, ◌^◌, ◌<◌, ◌≤◌, ◌≢◌, inl, inr, sym, ap, ◌∙◌, arith, lit<, min, cond, Bool, true, false, Ok, Err}
-use Rattle.std.proofs.Math.Nat.{pow-le-pow_right, mul-lt-mul_of_pos_right, mul-le-mul_right, one-le-pow}
-use Rattle.std.proofs.lemmas.Nat.{pow-add}
-use Rattle.std.proofs.lemmas.Bool.{cases_lt, cases_eq}
-use Rattle.std.proofs.lemmas.Bool.Decides.{nat_tests}
-use Rattle.mdp_num.specs.Numeral.{limit, scaled}
-use Rattle.mdp_num.specs.declared.errors.NumeralError.TheVariants.{Large}
+use Rattle.std.proofs.{Math.Nat.{pow-le-pow_right, mul-lt-mul_of_pos_right, mul-le-mul_right, one-le-pow}, lemmas.Nat.{pow-add}}
+use Rattle.std.proofs.{lemmas.Bool.{cases_lt, cases_eq}, lemmas.Bool.Decides.{nat_tests}}
+use Rattle.mdp_num.specs.{Numeral.{limit, scaled}, declared.errors.NumeralError.TheVariants.{Large}}
 
 pub ten-le : (e : ℕ) → e ≤ 36 → 10 ^ e ≤ limit
 ten-le e le = let p : 10 ^ e ≤ 10 ^ 36 = pow-le-pow_right (lit< tt) le in p

@@ -3,10 +3,8 @@ use Rattle.std.proofs.Common.{◌≡◌, ◌↔◌, ℕ, zero, suc, ◌<◌, Boo
 use Rattle.std.proofs.lemmas.Int.{ints}
 use Rattle.std.specs.Int.{int_signum}
 use lib.IntN.{zero-*ℤ}
-use Rattle.mdp_math.specs.Rational.{ℚ, ratio, of_int, flip_int, inv_ℚ, ◌<ℚ◌}
-use Rattle.mdp_math.specs.Written.{signed}
-use Rattle.mdp_math.proofs.Laws.{same_is, is_self, is_of_int, num-of_int}
-use Rattle.mdp_math.proofs.Order.{0ℚ, positive, is_positive, lt_across, across_lt}
+use Rattle.mdp_math.specs.{Rational.{ℚ, ratio, of_int, flip_int, inv_ℚ, ◌<ℚ◌}, Written.{signed}}
+use Rattle.mdp_math.proofs.{Laws.{same_is, is_self, is_of_int, num-of_int}, Order.{0ℚ, positive, is_positive, lt_across, across_lt}}
 
 pub num-zero : (x : ℚ) → x.num ≡ pos 0 → x ≡ 0ℚ
 num-zero x e = same_is x 0ℚ _ _ _ _ (is_self x) (is_of_int (pos 0)) (ap (λ (k : ℤ). k *ℤ pos 1) e ∙ sym (zero-*ℤ (pos x.den)))

@@ -1,22 +1,14 @@
 -- What is read as a canonical spelling is one, and each one is read.
 use Rattle.std.proofs.Common.{◌≡◌, ℕ, zero, suc, ◌<◌, ◌^◌, Bool, true, false, not, ◌&&◌, ◌||◌, cond, eqb, ltb, lt-ltb, eq-eqb, if◌then◌else◌, List, [], ◌∷◌, ◌++◌, length}
 use Rattle.std.proofs.Common.{decimal, Option, Some, None, refl, sym, ap, ap₂, subst, ◌∙◌, arith, lit<, ℤ, pos, negsuc, unsigned_abs}
-use Rattle.std.specs.Char.{is_ascii_digit}
-use Rattle.std.specs.List.{prefix_len}
-use Rattle.std.specs.Option.{IfSome, IsNone}
-use Rattle.std.specs.Fmt.{signed_decimal}
-use Rattle.std.proofs.lemmas.List.{append-nil, take-append-drop}
-use Rattle.std.proofs.lemmas.Bool.Decides.{nat_tests}
-use Rattle.mdp_math.specs.Gcd.{gcd}
-use Rattle.mdp_math.specs.Rational.{ℚ, ratio}
-use Rattle.mdp_math.specs.Written.{signed}
-use Rattle.mdp_math.proofs.Laws.{ratio_self, num-ratio, den-ratio, den-pos, coprime}
-use Rattle.mdp_math.proofs.Written.{abs-signed}
+use Rattle.std.proofs.{lemmas.List.{append-nil, take-append-drop}, lemmas.Bool.Decides.{nat_tests}}
+use Rattle.std.specs.{Char.{is_ascii_digit}, List.{prefix_len}, Option.{IfSome, IsNone}, Fmt.{signed_decimal}}
+use Rattle.mdp_math.specs.{Gcd.{gcd}, Rational.{ℚ, ratio}, Written.{signed}}
+use Rattle.mdp_math.proofs.{Laws.{ratio_self, num-ratio, den-ratio, den-pos, coprime}, Written.{abs-signed}}
 use Rattle.mdp_num.specs.Digits.{front_digits, behind_digits, is_digits, is_plain, number}
 use Rattle.mdp_num.specs.Canonical.{term_of, above_one, den_behind, lowest_of, unsigned_of, canonical_of, IsSpelled, IsReadBack, IsOneSpelling}
 use Rattle.mdp_num.specs.Value.{spelling, IsNarrow}
-use Rattle.mdp_num.proofs.Plain.{decimal-plain, one-plain}
-use Rattle.mdp_num.proofs.Grammar.{cond-some, digit-first, front-is, behind-is}
+use Rattle.mdp_num.proofs.{Plain.{decimal-plain, one-plain}, Grammar.{cond-some, digit-first, front-is, behind-is}}
 
 -- ---- terms
 

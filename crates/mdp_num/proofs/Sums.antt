@@ -1,22 +1,15 @@
 -- A sum over the least common denominator shares with that denominator no more than with the divisor of the two denominators.
-use Rattle.std.proofs.Common.{◌≡◌, ℕ, zero, suc, ◌+◌, ◌-◌, ◌*◌, ◌/◌, ◌^◌, ◌<◌, ◌≤◌, arith, sym}
-use Rattle.std.proofs.Common.{◌∙◌, ap, ap₂, subst, refl, ℤ, pos, negsuc, ◌<ℤ◌, ◌+ℤ◌, ◌*ℤ◌, int_div}
-use Rattle.std.proofs.Common.{int_cmp, unsigned_abs, mul-le-mul_left, Some}
+use Rattle.std.proofs.Common.{◌≡◌, ℕ, zero, suc, ◌+◌, ◌-◌, ◌*◌, ◌/◌, ◌^◌, ◌<◌, ◌≤◌, arith, sym, int_cmp, unsigned_abs, mul-le-mul_left, Some}
+use Rattle.std.proofs.{Common.{◌∙◌, ap, ap₂, subst, refl, ℤ, pos, negsuc, ◌<ℤ◌, ◌+ℤ◌, ◌*ℤ◌, int_div}, lemmas.Nat.Gcd.{dvd_refl, dvd_trans}}
+use Rattle.std.proofs.{lemmas.Int.{ints, unsigned_abs-mul}, Math.Nat.{one-dvd, dvd-add, dvd-sub, dvd-mul_left}}
 use Rattle.std.specs.Int.{◌∣◌}
-use Rattle.std.proofs.lemmas.Nat.Gcd.{dvd_refl, dvd_trans}
-use Rattle.std.proofs.lemmas.Int.{ints, unsigned_abs-mul}
-use Rattle.std.proofs.Math.Nat.{one-dvd, dvd-add, dvd-sub, dvd-mul_left}
 use native.Mathlib.Nat.{div-mul_cancel, div-le_self, eq-one_of_dvd-one}
 use lib.IntN.{+ℤ_comm, *ℤ_comm}
-use Rattle.mdp_math.specs.Gcd.{gcd, gcd_is, gcd_comm, gcd-reduced, coprime_divisors, coprime-mul_left, div_divides}
-use Rattle.mdp_math.specs.Integers.{exact_div, abs_div}
-use Rattle.mdp_math.specs.Rational.{ℚ, ratio}
-use Rattle.mdp_math.specs.Written.{narrow, narrow_ℚ, across, common_den, written_add, written_compare}
-use Rattle.mdp_math.proofs.IntegerRing.{one-*ℤ}
-use Rattle.mdp_math.proofs.Laws.{coprime, den-pos}
+use Rattle.mdp_math.specs.{Gcd.{gcd, gcd_is, gcd_comm, gcd-reduced, coprime_divisors, coprime-mul_left, div_divides}, Integers.{exact_div, abs_div}}
+use Rattle.mdp_math.specs.{Rational.{ℚ, ratio}, Written.{narrow, narrow_ℚ, across, common_den, written_add, written_compare}}
+use Rattle.mdp_math.proofs.{IntegerRing.{one-*ℤ}, Laws.{coprime, den-pos}}
 use Rattle.mdp_math.proofs.Written.{written_add-by, common_den-pos, narrow-some, narrow_ℚ-kept, signed_self, narrow-kept, cmp_across, written_compare-by}
-use Rattle.mdp_num.proofs.Divisors.{gcd-drop, by_order}
-use Rattle.mdp_num.proofs.Values.{AreTerms, narrow-positive}
+use Rattle.mdp_num.proofs.{Divisors.{gcd-drop, by_order}, Values.{AreTerms, narrow-positive}}
 
 -- ---- quotients
 

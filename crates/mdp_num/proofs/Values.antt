@@ -1,20 +1,14 @@
 -- What the value of a fraction is.
-use Rattle.std.proofs.Common.{◌≡◌, ℕ, ◌/◌, ◌<◌, ◌≤◌, ◌^◌, ◌-◌, Bool, false, ◌⊎◌, inl, inr, sym, ◌∙◌, ap}
+use Rattle.std.proofs.Common.{◌≡◌, ℕ, ◌/◌, ◌<◌, ◌≤◌, ◌^◌, ◌-◌, Bool, false, ◌⊎◌, inl, inr, sym, ◌∙◌, ap, to_z, of_z, to_z-of_z}
 use Rattle.std.proofs.Common.{ap₂, subst, arith, ℤ, pos, ◌<ℤ◌, ◌*ℤ◌, int_div, unsigned_abs, List, [], ◌∷◌, Some, None}
-use Rattle.std.proofs.lemmas.Int.{ints, fits_signed_from_abs}
-use Rattle.std.proofs.Common.{to_z, of_z, to_z-of_z}
+use Rattle.std.proofs.{lemmas.Int.{ints, fits_signed_from_abs}, Common.{append_assoc, decimal, ◌++◌, eqb, eq-eqb, ne_eqb, if◌then◌else◌}}
 use mir.Syntax.{w128}
 use lib.Signed.{mag}
-use Rattle.mdp_math.specs.Gcd.{gcd, gcd-reduced, gcd-pos}
-use Rattle.mdp_math.specs.Rational.{ℚ, ratio, ◌*ℚ◌}
-use Rattle.mdp_math.specs.Written.{narrow, narrow_ℚ, signed, reduced_num, reduced_den}
+use Rattle.mdp_math.specs.{Gcd.{gcd, gcd-reduced, gcd-pos}, Rational.{ℚ, ratio, ◌*ℚ◌}, Written.{narrow, narrow_ℚ, signed, reduced_num, reduced_den}}
 use Rattle.mdp_math.proofs.Laws.{ratio_self, num-ratio, den-ratio, den-pos, coprime, same_terms}
 use Rattle.mdp_math.proofs.Written.{narrow-some, num-product, den-product, narrow_ℚ-kept, narrow_ℚ-past_num, narrow_ℚ-past_den, num-ratio_signed, den-ratio_signed, abs-signed}
-use Rattle.mdp_num.specs.declared.frac.Frac.TheInside.{Inside}
-use Rattle.mdp_num.specs.Inside.{value_of, IsFrac, abs-pos, pos-abs}
-use Rattle.mdp_num.specs.Value.{spelling, IsNarrow}
+use Rattle.mdp_num.specs.{declared.frac.Frac.TheInside.{Inside}, Inside.{value_of, IsFrac, abs-pos, pos-abs}, Value.{spelling, IsNarrow}}
 use Rattle.std.specs.Fmt.{signed_decimal}
-use Rattle.std.proofs.Common.{append_assoc, decimal, ◌++◌, eqb, eq-eqb, ne_eqb, if◌then◌else◌}
 
 pub num-value : (f : Inside) (i : IsFrac f) → ℚ.num (value_of f) ≡ f.num
 unfolding value_of

@@ -1,13 +1,10 @@
 -- Digits: the zeros at the end of two parts, and numbers up to a cap.
 use Rattle.std.proofs.Common.{◌≡◌, ℕ, suc, ◌+◌, ◌-◌, ◌*◌, ◌<◌, ◌≤◌, Bool, true, false, cond, eqb, List, []}
 use Rattle.std.proofs.Common.{◌∷◌, ◌++◌, length, take, reverse, get_or, min, refl, sym, ap, ◌∙◌, inl, inr, arith}
-use Rattle.std.specs.List.{prefix_len, suffix_len}
 use Rattle.std.proofs.lemmas.List.{reverse-append, length-reverse, length-append, append-nil, take-append-le, take_more}
-use Rattle.std.proofs.lemmas.List.Folds.{prefix_len-append}
-use Rattle.std.proofs.lemmas.Bool.{cases_lt}
-use Rattle.std.proofs.lemmas.Bool.Decides.{nat_tests}
-use Rattle.mdp_num.specs.Digits.{number_after}
-use Rattle.mdp_num.specs.Numeral.{zeros_behind, significant}
+use Rattle.std.proofs.{lemmas.List.Folds.{prefix_len-append}, lemmas.Bool.{cases_lt}, lemmas.Bool.Decides.{nat_tests}}
+use Rattle.std.specs.List.{prefix_len, suffix_len}
+use Rattle.mdp_num.specs.{Digits.{number_after}, Numeral.{zeros_behind, significant}}
 
 suffix_len-append : (p : ℕ → Bool) (xs ys : List ℕ) → suffix_len p (xs ++ ys) ≡ cond (eqb (suffix_len p ys) (length ys)) (length ys + suffix_len p xs) (suffix_len p ys)
 suffix_len-append p xs ys = ap (prefix_len p) (reverse-append xs ys) ∙ prefix_len-append p (reverse ys) (reverse xs)

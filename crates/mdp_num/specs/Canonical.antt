@@ -1,10 +1,7 @@
 -- The canonical spelling of fractions, as it is read.
 use Rattle.std.specs.Prelude.{◌≡◌, ℕ, ◌^◌, Bool, true, false, not, ◌&&◌, ◌||◌, List, [], ◌∷◌, Option, Some, None, nat_lt, ◌==◌, if◌then◌else◌}
-use Rattle.mdp_math.specs.Gcd.{gcd}
-use Rattle.mdp_math.specs.Rational.{ℚ, ratio}
-use Rattle.mdp_math.specs.Written.{signed}
-use Rattle.mdp_num.specs.Value.{spelling, IsNarrow}
-use Rattle.mdp_num.specs.Digits.{front_digits, behind_digits, number, is_plain}
+use Rattle.mdp_math.specs.{Gcd.{gcd}, Rational.{ℚ, ratio}, Written.{signed}}
+use Rattle.mdp_num.specs.{Value.{spelling, IsNarrow}, Digits.{front_digits, behind_digits, number, is_plain}}
 
 -- a term: digits without leading zeros, of a number in width
 abbrev pub term_of : List ℕ → Option ℕ

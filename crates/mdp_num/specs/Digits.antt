@@ -1,6 +1,5 @@
 -- Digits, and the whole numbers that they write.
-use Rattle.std.specs.Prelude.{ℕ, ◌+◌, ◌-◌, ◌*◌, Bool, false, not, ◌||◌, ◌&&◌, List, [], ◌∷◌, length, take, drop, nat_lt, ◌==◌}
-use Rattle.std.specs.Char.{is_ascii_digit}
+use Rattle.std.specs.{Prelude.{ℕ, ◌+◌, ◌-◌, ◌*◌, Bool, false, not, ◌||◌, ◌&&◌, List, [], ◌∷◌, length, take, drop, nat_lt, ◌==◌}, Char.{is_ascii_digit}}
 use Rattle.std.specs.List.{prefix_len}
 
 -- one or more digits and nothing else

@@ -1,6 +1,5 @@
 -- Equality of fractions, as a test of their terms.
-use Rattle.std.specs.Prelude.{Bool, ◌==◌, ◌&&◌}
-use Rattle.std.specs.Ordering.{int_eq}
+use Rattle.std.specs.{Prelude.{Bool, ◌==◌, ◌&&◌}, Ordering.{int_eq}}
 use Rattle.mdp_math.specs.Rational.{ℚ}
 
 abbrev pub eq_ℚ : ℚ → ℚ → Bool

@@ -1,7 +1,6 @@
 -- The grammar of numerals: digits [. digits] [(e or E) [+ or -] digits], or digits / digits.
 use Rattle.std.specs.Prelude.{◌≡◌, ◌⊎◌, ℕ, Bool, true, false, List, [], ◌∷◌, ◌++◌, Some}
-use Rattle.mdp_num.specs.Numeral.{Parts, Decimal, Quotient, parts_of}
-use Rattle.mdp_num.specs.Digits.{is_digits}
+use Rattle.mdp_num.specs.{Numeral.{Parts, Decimal, Quotient, parts_of}, Digits.{is_digits}}
 
 abbrev pub IsDigits : List ℕ → Type 0
 IsDigits text = is_digits text ≡ true

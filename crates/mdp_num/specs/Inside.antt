@@ -1,8 +1,6 @@
 -- The fields of a fraction, and what it is.
-use Rattle.std.proofs.Common.{◌≡◌, ◌<◌, ◌^◌, ℤ, pos, ◌<ℤ◌, unsigned_abs, ◌∙◌, ap, ap₂, arith}
-use Rattle.std.proofs.lemmas.Int.{ints}
-use Rattle.mdp_math.specs.Gcd.{gcd}
-use Rattle.mdp_math.specs.Rational.{ℚ, ratio}
+use Rattle.std.proofs.{Common.{◌≡◌, ◌<◌, ◌^◌, ℤ, pos, ◌<ℤ◌, unsigned_abs, ◌∙◌, ap, ap₂, arith}, lemmas.Int.{ints}}
+use Rattle.mdp_math.specs.{Gcd.{gcd}, Rational.{ℚ, ratio}}
 use Rattle.mdp_math.proofs.Laws.{num-ratio, den-ratio}
 use Rattle.mdp_num.specs.declared.frac.Frac.TheInside.{Inside}
 

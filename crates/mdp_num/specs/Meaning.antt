@@ -2,9 +2,7 @@
 use Rattle.std.specs.Prelude.{◌≡◌, ◌≢◌, ◌↔◌, ℕ, ◌+◌, ◌*◌, ◌%◌, ◌^◌, ◌<◌, ◌≤◌, Bool, true, false, List, ◌++◌, length, pos, unsigned_abs, Ok, Err}
 use Rattle.mdp_math.specs.Rational.{ℚ, ratio, ◌≤ℚ◌}
 use Rattle.mdp_math.proofs.Order.{0ℚ}
-use Rattle.mdp_num.specs.declared.errors.NumeralError.TheVariants.{Shape}
-use Rattle.mdp_num.specs.Digits.{number}
-use Rattle.mdp_num.specs.Grammar.{IsDigits, Spells}
+use Rattle.mdp_num.specs.{declared.errors.NumeralError.TheVariants.{Shape}, Digits.{number}, Grammar.{IsDigits, Spells}}
 use Rattle.mdp_num.specs.Numeral.{Parts, Decimal, Quotient, limit, numeral_of, significant, zeros_behind}
 
 -- all digits as one number, times 10 to the exponent, over 10 to the count of places

@@ -1,10 +1,8 @@
 -- Numerals, and their values.
 use Rattle.std.specs.Prelude.{ℕ, ◌+◌, ◌-◌, ◌*◌, ◌^◌, Bool, true, false, ◌||◌, List, [], ◌∷◌, ◌++◌}
-use Rattle.std.specs.Prelude.{length, take, Option, Some, None, Result, Ok, Err, nat_lt, ◌==◌, if◌then◌else◌, pos}
-use Rattle.std.specs.List.{suffix_len}
+use Rattle.std.specs.{Prelude.{length, take, Option, Some, None, Result, Ok, Err, nat_lt, ◌==◌, if◌then◌else◌, pos}, List.{suffix_len}}
 use Rattle.mdp_math.specs.Rational.{ℚ, ratio}
-use Rattle.mdp_num.specs.Digits.{is_digits, front_digits, behind_digits, number}
-use Rattle.mdp_num.specs.declared.errors.NumeralError.{NumeralError}
+use Rattle.mdp_num.specs.{Digits.{is_digits, front_digits, behind_digits, number}, declared.errors.NumeralError.{NumeralError}}
 use Rattle.mdp_num.specs.declared.errors.NumeralError.TheVariants.{Shape, ZeroDen, Large}
 
 -- 10 ^ 36: terms above this are too large

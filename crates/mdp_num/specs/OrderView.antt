@@ -1,14 +1,10 @@
 -- The order of fractions is total, and equal fractions are those that it doesn't tell apart.
 use Rattle.std.proofs.Common.{◌≡◌, refl, sym, ap, ap₂, subst, Bool, true, false, ◌&&◌, eqb, Ordering, Less, Equal, Greater}
-use mathlib.Core.Bool.{true≢false}
-use Rattle.std.specs.Bool.{Decides, one_answer}
-use Rattle.std.specs.Ordering.{MatchOrdering, is_eq, int_eq, as_partial_cmp}
-use Rattle.std.specs.Cmp.{IsTotalOrder, IsPartialOrder, strict, po}
 use Rattle.std.proofs.lemmas.Bool.Decides.{Decides-int_eq, Decides-eqb}
-use Rattle.mdp_math.proofs.Laws.{same_terms}
-use Rattle.mdp_math.specs.Rational.{ℚ, ◌<ℚ◌}
-use Rattle.mdp_math.specs.Written.{cmp_ℚ}
-use Rattle.mdp_math.proofs.Order.{lt_of_cmp, eq_of_cmp, gt_of_cmp, <ℚ_irrefl, <ℚ_trans}
+use mathlib.Core.Bool.{true≢false}
+use Rattle.std.specs.{Bool.{Decides, one_answer}, Ordering.{MatchOrdering, is_eq, int_eq, as_partial_cmp}, Cmp.{IsTotalOrder, IsPartialOrder, strict, po}}
+use Rattle.mdp_math.proofs.{Laws.{same_terms}, Order.{lt_of_cmp, eq_of_cmp, gt_of_cmp, <ℚ_irrefl, <ℚ_trans}}
+use Rattle.mdp_math.specs.{Rational.{ℚ, ◌<ℚ◌}, Written.{cmp_ℚ}}
 use Rattle.mdp_num.specs.Equal.{eq_ℚ}
 
 both : (a b : Bool) → (a && b) ≡ true → (a ≡ true) × (b ≡ true)

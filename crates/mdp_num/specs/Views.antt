@@ -1,9 +1,7 @@
 -- The parts in the code, without where they lie.
-use Rattle.std.specs.Prelude.{ℕ, Bool, List}
-use Rattle.std.specs.Borrow.{Bor}
+use Rattle.std.specs.{Prelude.{ℕ, Bool, List}, Borrow.{Bor}}
 use Rattle.mdp_num.specs.Numeral as spec
-use Rattle.mdp_num.specs.declared.parts.Parts.{Parts}
-use Rattle.mdp_num.specs.declared.parts.Parts.TheVariants.{Decimal, Quotient}
+use Rattle.mdp_num.specs.{declared.parts.Parts.{Parts}, declared.parts.Parts.TheVariants.{Decimal, Quotient}}
 
 abbrev pub view : Parts → spec.Parts
 view (Decimal whole places negative exponent) = spec.Decimal whole.now places.now negative exponent.now

@@ -1,8 +1,6 @@
-ghost use Rattle.std.specs.Prelude.{◌≡◌};
+ghost use Rattle.std.specs.{Prelude.{◌≡◌}, Option.{IfSome, IsNone}};
 ghost use Rattle.mdp_math.specs.Rational.{ℚ};
-ghost use Rattle.std.specs.Option.{IfSome, IsNone};
-ghost use Rattle.mdp_num.specs.Canonical.{term_of, den_behind, unsigned_of, canonical_of};
-ghost use Rattle.mdp_num.specs.Value.{spelling, IsNarrow};
+ghost use Rattle.mdp_num.specs.{Canonical.{term_of, den_behind, unsigned_of, canonical_of}, Value.{spelling, IsNarrow}};
 
 use crate::digits::{are_plain, capped_after, split_digits};
 use crate::frac::{Frac, WIDTH};

@@ -1,6 +1,4 @@
-ghost use Rattle.std.specs.Prelude.{◌≡◌, ◌≤◌, min};
-ghost use Rattle.std.specs.List.{prefix_len};
-ghost use Rattle.std.specs.Char.{is_ascii_digit};
+ghost use Rattle.std.specs.{Prelude.{◌≡◌, ◌≤◌, min}, List.{prefix_len}, Char.{is_ascii_digit}};
 ghost use Rattle.mdp_num.specs.Digits.{number_after, front_digits, behind_digits, is_digits, is_plain};
 
 /// 10 ^ 18. A number up to this has room in 64 bits for one more digit.

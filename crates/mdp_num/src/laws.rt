@@ -1,5 +1,4 @@
-ghost use Rattle.mdp_num.specs.Grammar.{IsSound, IsComplete};
-ghost use Rattle.mdp_num.specs.Meaning.{IsMeant, IsRefusedByShape, IsSplit, HasNoZero};
+ghost use Rattle.mdp_num.specs.{Grammar.{IsSound, IsComplete}, Meaning.{IsMeant, IsRefusedByShape, IsSplit, HasNoZero}};
 ghost use Rattle.mdp_num.specs.Canonical.{IsSpelled, IsReadBack, IsOneSpelling};
 
 /// The parts of a numeral are those that its grammar gives it.

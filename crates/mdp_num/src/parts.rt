@@ -1,6 +1,5 @@
 ghost use Rattle.std.specs.Prelude.{◌≡◌, option_map};
-ghost use Rattle.mdp_num.specs.Numeral.{exponent_of, signed_digits, parts_of};
-ghost use Rattle.mdp_num.specs.Views.{view, view_signed};
+ghost use Rattle.mdp_num.specs.{Numeral.{exponent_of, signed_digits, parts_of}, Views.{view, view_signed}};
 
 use crate::digits::{are_digits, split_digits};
 

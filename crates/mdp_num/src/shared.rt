@@ -1,7 +1,6 @@
 //! Fractions over a denominator that they share, in 64 bits: sums of such need no common divisor at each step.
 ghost use Rattle.std.specs.Prelude.{◌≡◌, ◌≤◌, ◌<◌, ◌^◌, ◌<ℤ◌, ℤ, pos, unsigned_abs, IfSome, IfNone};
-ghost use Rattle.mdp_math.specs.Gcd.{lcm};
-ghost use Rattle.mdp_math.specs.Rational.{ratio};
+ghost use Rattle.mdp_math.specs.{Gcd.{lcm}, Rational.{ratio}};
 ghost use Rattle.mdp_num.specs.Value.{IsOver};
 
 use crate::frac::Frac;

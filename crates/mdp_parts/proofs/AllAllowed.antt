@@ -1,12 +1,10 @@
 -- One `true` for each choice of each state.
 use Rattle.std.proofs.Common.{◌≡◌, ℕ, ◌<◌, ◌≤◌, Bool, true, false, List, [], length, get_or, map, replicate, ap, ◌∙◌, arith, take, refl, sym}
+use Rattle.std.proofs.{lemmas.List.{length-replicate, get_or-replicate}, lemmas.List.FromFn.{get_or-map-range_with_len, length-map-range_with_len}}
 use Rattle.std.specs.List.{range_with_len}
-use Rattle.std.proofs.lemmas.List.{length-replicate, get_or-replicate}
-use Rattle.std.proofs.lemmas.List.FromFn.{get_or-map-range_with_len, length-map-range_with_len}
 use Rattle.mdp_spec.specs.Mdp.{Mdp, states_of, choices_at}
 use Rattle.mdp_rows.specs.Pieces.{pieces}
-use Rattle.mdp_graph.proofs.FlatWaiting.{AreAll, all_there}
-use Rattle.mdp_graph.proofs.Releasing.{lists_by_counts}
+use Rattle.mdp_graph.proofs.{FlatWaiting.{AreAll, all_there}, Releasing.{lists_by_counts}}
 use Rattle.mdp_parts.specs.Allowed.{each_true, allowed_at, AreChoices}
 
 -- how many choices each state has

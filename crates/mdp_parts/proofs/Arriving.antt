@@ -1,21 +1,13 @@
 -- The laws of end components, and that a pass within one arrives with probability 1.
-use Rattle.std.proofs.Common.{◌≡◌, ℕ, ◌<◌, true, false, ◌&&◌, nat_lt, ltb-true, length, get_or, sym, ◌∙◌, subst, arith}
-use Rattle.std.proofs.lemmas.Bool.{and_parts}
+use Rattle.std.proofs.{Common.{◌≡◌, ℕ, ◌<◌, true, false, ◌&&◌, nat_lt, ltb-true, length, get_or, sym, ◌∙◌, subst, arith}, lemmas.Bool.{and_parts}}
 use Rattle.std.proofs.lemmas.List.Folds.{Any-from_list_any}
-use Rattle.mdp_spec.specs.Mdp.{Entry, states_of, choices_at, row_at}
-use Rattle.mdp_spec.specs.Tree.{unfolded}
-use Rattle.mdp_spec.proofs.Arrives.{arrives_by_ranks}
-use Rattle.mdp_spec.proofs.Keeping.{Follows, keeps_unfolded}
-use Rattle.mdp_graph.specs.Sets.{marked, can_enter, stays_in}
-use Rattle.mdp_graph.specs.Reach.{falls}
+use Rattle.mdp_spec.specs.{Mdp.{Entry, states_of, choices_at, row_at}, Tree.{unfolded}}
+use Rattle.mdp_spec.proofs.{Arrives.{arrives_by_ranks}, Keeping.{Follows, keeps_unfolded}}
+use Rattle.mdp_graph.specs.{Sets.{marked, can_enter, stays_in}, Reach.{falls}}
 use Rattle.mdp_graph.proofs.RowSets.{list_all-at, enters-at, enters-by}
 use Rattle.mdp_ends.specs.Ends.{in_part, is_inside, part_of}
-use Rattle.mdp_ends.proofs.Walking.{stays-at, stays-by, target-below}
-use Rattle.mdp_ends.proofs.RoundLaws.{number-has, inside-stays}
-use Rattle.mdp_ends.proofs.EndLaws.{maximal_share_none}
-use Rattle.mdp_ends.proofs.Existing.{within_part, maximal_is_part}
-use Rattle.mdp_ends.proofs.OneNumbering.{one_components, one_ends}
-use Rattle.mdp_ends.proofs.TowardLaws.{toward_marks}
+use Rattle.mdp_ends.proofs.{Walking.{stays-at, stays-by, target-below}, RoundLaws.{number-has, inside-stays}, EndLaws.{maximal_share_none}}
+use Rattle.mdp_ends.proofs.{Existing.{within_part, maximal_is_part}, OneNumbering.{one_components, one_ends}, TowardLaws.{toward_marks}}
 use Rattle.mdp_parts.specs.Laws.{MaximalShareNone, EachWithinOne, MaximalAreParts, ComponentsAreOne, EndsAreOne, TowardArrives}
 
 pub share_none : MaximalShareNone

@@ -1,19 +1,11 @@
 -- From a search in depth and the groups that are taken backwards to the strong components.
 use Rattle.std.proofs.Common.{◌≡◌, ℕ, suc, ◌<◌, Bool, ◌==◌, List, [], ◌∷◌, length, get_or, map, refl, sym, ap, ◌∙◌, subst, arith, Option, Some, None}
-use Rattle.std.proofs.lemmas.Bool.{eqb-true}
-use Rattle.std.proofs.lemmas.List.{get_or-map, length-map}
-use Rattle.mdp_spec.specs.Mdp.{Mdp, states_of}
-use Rattle.mdp_spec.specs.Row.{IsMdp}
-use Rattle.mdp_graph.specs.Edges.{AreEdges}
-use Rattle.mdp_graph.specs.Layers.{rank_at}
-use Rattle.mdp_graph.specs.Choices.{plain_rank}
-use Rattle.mdp_ends.specs.Walks.{AreComponents}
-use Rattle.mdp_ends.specs.Numbers.{is_numbered}
-use Rattle.mdp_ends.specs.DepthFirst.{StandsIn}
+use Rattle.std.proofs.{lemmas.Bool.{eqb-true}, lemmas.List.{get_or-map, length-map}}
+use Rattle.mdp_spec.specs.{Mdp.{Mdp, states_of}, Row.{IsMdp}}
+use Rattle.mdp_graph.specs.{Edges.{AreEdges}, Layers.{rank_at}, Choices.{plain_rank}}
+use Rattle.mdp_ends.specs.{Walks.{AreComponents}, Numbers.{is_numbered}, DepthFirst.{StandsIn}}
 use Rattle.mdp_ends.proofs.Walking.{step-has, target-below}
-use Rattle.mdp_parts.specs.Targets.{AreTargets, AreReversed}
-use Rattle.mdp_parts.specs.Searched.{IsOrder}
-use Rattle.mdp_parts.specs.Numbered.{AreSources, AreClasses, AreGrouped, IsRenumbered}
+use Rattle.mdp_parts.specs.{Targets.{AreTargets, AreReversed}, Searched.{IsOrder}, Numbered.{AreSources, AreClasses, AreGrouped, IsRenumbered}}
 use Rattle.mdp_graph.proofs.RankFacts.{some-same, none-some}
 
 all_some : (xs : List (Option ℕ)) → ((s : ℕ) → s < length xs → rank_at xs s ≡ None → ⊥) → map Some (map plain_rank xs) ≡ xs

@@ -1,25 +1,14 @@
 -- From the last round of the search to the maximal end components.
 use Rattle.std.proofs.Common.{◌≡◌, inl, inr, ℕ, ◌+◌, ◌<◌, ◌≤◌, Bool, true, false, nat_lt, cond, List, [], ◌∷◌, length, get_or, map, refl, sym, ap, ◌∙◌, arith, Option, Some, None}
-use Rattle.std.specs.List.{range_with_len}
-use Rattle.std.proofs.lemmas.Bool.{false≢true, cases_Bool}
-use Rattle.std.proofs.lemmas.List.FromFn.{get_or-map-range_with_len, length-map-range_with_len}
-use Rattle.mdp_spec.specs.Mdp.{Mdp, states_of, choices_at, row_at}
-use Rattle.mdp_spec.specs.Row.{IsMdp}
-use Rattle.mdp_graph.specs.Layers.{rank_at}
-use Rattle.mdp_graph.proofs.Among.{cases_rank}
-use Rattle.mdp_ends.specs.Walks.{AreComponents}
-use Rattle.mdp_ends.specs.Ends.{part_of, stays_with, is_inside, AreEnds}
-use Rattle.mdp_ends.specs.Rounds.{KeepsEnds, AreLeft}
-use Rattle.mdp_ends.proofs.Walking.{any-range, range-any}
-use Rattle.mdp_ends.specs.Numbers.{count_from}
-use Rattle.mdp_ends.proofs.Numbering.{numbered-below}
+use Rattle.std.proofs.{lemmas.Bool.{false≢true, cases_Bool}, lemmas.List.FromFn.{get_or-map-range_with_len, length-map-range_with_len}}
 use Rattle.std.proofs.lemmas.List.{get_or-map, length-map}
-use Rattle.mdp_ends.proofs.RoundLaws.{ends_found, allowed_inside, allowed_is_inside}
-use Rattle.mdp_parts.specs.Allowed.{allowed_at, AreChoices}
-use Rattle.mdp_parts.specs.FoundEnds.{AreEndsOf}
-use Rattle.mdp_parts.specs.Round.{some_allowed, key_of, IsRound}
-use Rattle.mdp_parts.specs.Numbered.{IsRenumbered}
-use Rattle.mdp_graph.proofs.RankFacts.{some-same, none-some}
+use Rattle.std.specs.List.{range_with_len}
+use Rattle.mdp_spec.specs.{Mdp.{Mdp, states_of, choices_at, row_at}, Row.{IsMdp}}
+use Rattle.mdp_graph.specs.Layers.{rank_at}
+use Rattle.mdp_graph.proofs.{Among.{cases_rank}, RankFacts.{some-same, none-some}}
+use Rattle.mdp_ends.specs.{Walks.{AreComponents}, Ends.{part_of, stays_with, is_inside, AreEnds}, Rounds.{KeepsEnds, AreLeft}, Numbers.{count_from}}
+use Rattle.mdp_ends.proofs.{Walking.{any-range, range-any}, Numbering.{numbered-below}, RoundLaws.{ends_found, allowed_inside, allowed_is_inside}}
+use Rattle.mdp_parts.specs.{Allowed.{allowed_at, AreChoices}, FoundEnds.{AreEndsOf}, Round.{some_allowed, key_of, IsRound}, Numbered.{IsRenumbered}}
 use Rattle.mdp_parts.proofs.Forbidding.{round_settled, round_same}
 
 module _ (m : Mdp) (ok : IsMdp m) (old new : List (List Bool)) (parts : List ℕ) (keys numbers : List (Option ℕ)) (r : IsRound m parts old new false) (comp : AreComponents m

@@ -5,14 +5,8 @@ use Rattle.mdp_math.specs.Rational.{of_int}
 use Rattle.mdp_spec.specs.Mdp.{Choice, Mdp}
 use Rattle.mdp_spec.proofs.Small.{state}
 use Rattle.mdp_graph.specs.Choices.{first_passing}
-use Rattle.mdp_ends.specs.Ends.{is_inside, count_of}
-use Rattle.mdp_ends.specs.Numbers.{is_numbered, count_from}
-use Rattle.mdp_ends.specs.Rounds.{keeps_part}
-use Rattle.mdp_ends.specs.Toward.{target_in}
-use Rattle.mdp_parts.specs.Allowed.{each_true}
-use Rattle.mdp_parts.specs.FoundEnds.{FoundEnds, inner_at}
-use Rattle.mdp_parts.specs.Inner.{may_fall_inside}
-use Rattle.mdp_parts.specs.Round.{key_of}
+use Rattle.mdp_ends.specs.{Ends.{is_inside, count_of}, Numbers.{is_numbered, count_from}, Rounds.{keeps_part}, Toward.{target_in}}
+use Rattle.mdp_parts.specs.{Allowed.{each_true}, FoundEnds.{FoundEnds, inner_at}, Inner.{may_fall_inside}, Round.{key_of}}
 
 abbrev sure_to : ℕ → Choice
 sure_to t = record { row = record { target = t; prob = of_int (pos 1) } ∷ []; rewards = [] }

@@ -1,9 +1,7 @@
 -- One choice of a state, whose truth value stands in one vector with those of all states.
-use Rattle.std.proofs.Common.{◌≡◌, ℕ, ◌+◌, ◌<◌, Bool, List, [], length, map, get_or, set, refl, sym, subst}
-use Rattle.std.proofs.lemmas.List.{length-set}
+use Rattle.std.proofs.{Common.{◌≡◌, ℕ, ◌+◌, ◌<◌, Bool, List, [], length, map, get_or, set, refl, sym, subst}, lemmas.List.{length-set}}
 use Rattle.mdp_rows.specs.Pieces.{pieces, ArePlaces}
-use Rattle.mdp_graph.specs.Waiting.{count_waiting}
-use Rattle.mdp_graph.specs.FlatWaiting.{AreCounted}
+use Rattle.mdp_graph.specs.{Waiting.{count_waiting}, FlatWaiting.{AreCounted}}
 use Rattle.mdp_graph.proofs.FlatWaiting.{choice_there, choice_read, choice_set}
 use Rattle.mdp_parts.specs.Allowed.{allowed_at}
 

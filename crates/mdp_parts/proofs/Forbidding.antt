@@ -1,19 +1,14 @@
 -- A round of the search for the maximal end components while it goes on.
 use Rattle.std.proofs.Common.{◌≡◌, ◌⊎◌, inl, inr, ℕ, ◌+◌, ◌<◌, ◌≤◌, Bool, true, false, ◌&&◌, ◌==◌, List, [], length, get_or, set, refl, sym, ap, ◌∙◌, subst, arith}
+use Rattle.std.proofs.{lemmas.Bool.{false≢true, cases_Bool, cases_eq, and_from}, lemmas.List.{length-set, get_or-set_other}, lemmas.Grind.{get_or-set_at}}
 use Rattle.std.specs.List.{list_all}
-use Rattle.std.proofs.lemmas.Bool.{false≢true, cases_Bool, cases_eq, and_from}
-use Rattle.std.proofs.lemmas.List.{length-set, get_or-set_other}
-use Rattle.std.proofs.lemmas.Grind.{get_or-set_at}
 use Rattle.mdp_math.specs.Rational.{ℚ}
 use Rattle.mdp_math.proofs.Booleans.{and-false}
-use Rattle.mdp_spec.specs.Mdp.{Mdp, states_of, choices_at, row_at}
-use Rattle.mdp_spec.specs.Row.{IsMdp, entries}
+use Rattle.mdp_spec.specs.{Mdp.{Mdp, states_of, choices_at, row_at}, Row.{IsMdp, entries}}
 use Rattle.mdp_graph.specs.Sets.{stays_in}
-use Rattle.mdp_ends.specs.Rounds.{keeps_part, still_allowed, KeepsEnds, IsSettled}
-use Rattle.mdp_ends.specs.Walks.{AreComponents}
+use Rattle.mdp_ends.specs.{Rounds.{keeps_part, still_allowed, KeepsEnds, IsSettled}, Walks.{AreComponents}}
 use Rattle.mdp_ends.proofs.RoundLaws.{round_kept}
-use Rattle.mdp_parts.specs.Allowed.{allowed_at, AreChoices}
-use Rattle.mdp_parts.specs.Round.{Leaves, IsForbidden, IsRound}
+use Rattle.mdp_parts.specs.{Allowed.{allowed_at, AreChoices}, Round.{Leaves, IsForbidden, IsRound}}
 use Rattle.mdp_graph.proofs.EdgeFacts.{all-as-stays}
 
 pub keeps_by : (m : Mdp) (parts : List ℕ) (s c part : ℕ) (ts : List ℕ) (ps : List ℚ) → length ts ≡ length ps → entries ts ps ≡ row_at m s c → part ≡ get_or parts s 0

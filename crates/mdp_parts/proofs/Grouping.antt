@@ -1,24 +1,16 @@
 -- Groups of states that are taken backwards, one after the other.
 use Rattle.std.proofs.Common.{◌≡◌, ◌⊎◌, inl, inr, ℕ, suc, zero, ◌+◌, ◌<◌, ◌≤◌, Bool, true, false, ◌||◌, ◌&&◌, ◌==◌, cond}
 use Rattle.std.proofs.Common.{List, [], ◌∷◌, length, get_or, replicate, refl, sym, ap, ◌∙◌, subst, arith, Option, Some, None, is_none, is_some}
-use Rattle.std.proofs.lemmas.Bool.{false≢true, cases_Bool, cases_eq, eqb-true, eq-eqb, or_cases}
-use Rattle.std.proofs.lemmas.List.{length-replicate, get_or-replicate}
-use Rattle.std.proofs.lemmas.List.Folds.{sum_by-replicate}
-use Rattle.std.proofs.lemmas.List.Sums.{sum_by-set}
-use Rattle.mdp_spec.specs.Mdp.{Mdp, states_of}
-use Rattle.mdp_spec.specs.Row.{IsMdp}
+use Rattle.std.proofs.{lemmas.Bool.{false≢true, cases_Bool, cases_eq, eqb-true, eq-eqb, or_cases}, lemmas.List.{length-replicate, get_or-replicate}}
+use Rattle.std.proofs.{lemmas.List.Folds.{sum_by-replicate}, lemmas.List.Sums.{sum_by-set}}
+use Rattle.mdp_spec.specs.{Mdp.{Mdp, states_of}, Row.{IsMdp}}
 use Rattle.mdp_rows.specs.Preds.{is_among}
-use Rattle.mdp_graph.specs.Edges.{has_edge, predecessors_of, AreEdges}
-use Rattle.mdp_graph.specs.Layers.{rank_at}
-use Rattle.mdp_graph.specs.Ranking.{given, unranked, IsGiven}
-use Rattle.mdp_graph.proofs.Among.{cases_rank}
-use Rattle.mdp_ends.specs.Walks.{Reaches, AreJoined}
-use Rattle.mdp_ends.specs.DepthFirst.{StandsIn, IsSearching}
-use Rattle.mdp_ends.proofs.Walking.{step-has, step-by, here, one_more, walk_to, and_then, joined_trans}
-use Rattle.mdp_ends.proofs.Closing.{reaches, reaches_by}
+use Rattle.mdp_graph.specs.{Edges.{has_edge, predecessors_of, AreEdges}, Layers.{rank_at}, Ranking.{given, unranked, IsGiven}}
+use Rattle.mdp_graph.proofs.{Among.{cases_rank}, RankFacts.{some-same, none-some, cond_some, entered, enters, none_among}}
+use Rattle.mdp_ends.specs.{Walks.{Reaches, AreJoined}, DepthFirst.{StandsIn, IsSearching}}
+use Rattle.mdp_ends.proofs.{Walking.{step-has, step-by, here, one_more, walk_to, and_then, joined_trans}, Closing.{reaches, reaches_by}}
 use Rattle.mdp_ends.proofs.DepthFirst.{component_by_order}
 use Rattle.mdp_parts.specs.Numbered.{IsTaken, AreSources, AreClasses, AreGrouped}
-use Rattle.mdp_graph.proofs.RankFacts.{some-same, none-some, cond_some, entered, enters, none_among}
 use Rattle.mdp_parts.proofs.TargetFacts.{listed_none}
 
 given_true : (k : ℕ) (o : Option ℕ) → given k true o ≡ None → ⊥

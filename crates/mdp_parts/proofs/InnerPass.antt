@@ -1,29 +1,17 @@
 -- A pass within a part, by inner choices.
 use Rattle.std.proofs.Common.{◌≡◌, ◌↔◌, ℕ, ◌<◌, Bool, true, ◌&&◌, ◌==◌, List, length, map, refl, sym, ap, ◌∙◌, subst, Option, is_some}
-use Rattle.std.specs.List.{list_any}
 use Rattle.std.proofs.lemmas.Bool.{eqb-true, eq-eqb}
+use Rattle.std.specs.List.{list_any}
 use Rattle.mdp_math.specs.Rational.{ℚ}
-use Rattle.mdp_spec.specs.Mdp.{Mdp, states_of, choices_at, row_at}
-use Rattle.mdp_spec.specs.Row.{IsMdp, entries}
-use Rattle.mdp_graph.specs.Sets.{marked, can_enter}
-use Rattle.mdp_graph.specs.Layers.{rank_at, AreRanks}
-use Rattle.mdp_graph.specs.Ranking.{AreRankedBy}
+use Rattle.mdp_spec.specs.{Mdp.{Mdp, states_of, choices_at, row_at}, Row.{IsMdp, entries}}
+use Rattle.mdp_graph.specs.{Sets.{marked, can_enter}, Layers.{rank_at, AreRanks}, Ranking.{AreRankedBy}}
 use Rattle.mdp_graph.specs.Choices.{plain_rank, is_before, first_passing, AreLeast}
-use Rattle.mdp_graph.proofs.RowSets.{enters-by}
-use Rattle.mdp_ends.specs.Ends.{is_inside}
-use Rattle.mdp_ends.specs.Toward.{inner_step, inner_falls}
+use Rattle.mdp_graph.proofs.{RowSets.{enters-by}, Passes.{reached_marks, least_ranks, least_choices, falls-is}, Reached.{LeadsAlong, Follows, ranked}}
+use Rattle.mdp_ends.specs.{Ends.{is_inside}, Toward.{inner_step, inner_falls}}
 use Rattle.mdp_ends.proofs.Walking.{step-has, step-by, target-below}
-use Rattle.mdp_parts.specs.Targets.{AreTargets, AreReversed}
-use Rattle.mdp_parts.specs.Numbered.{AreSources}
-use Rattle.mdp_parts.specs.Inner.{may_fall_inside}
-use Rattle.mdp_parts.specs.TowardTargets.{IsTowardTargets, HasTarget}
-use Rattle.mdp_parts.proofs.TowardParts.{marks_targets}
-use Rattle.mdp_parts.specs.Allowed.{allowed_at}
-use Rattle.mdp_parts.specs.FoundEnds.{FoundEnds, AreEndsOf}
-use Rattle.mdp_parts.proofs.ComponentsFound.{sources}
-use Rattle.mdp_parts.proofs.TargetFacts.{any-as-enters}
-use Rattle.mdp_graph.proofs.Passes.{reached_marks, least_ranks, least_choices, falls-is}
-use Rattle.mdp_graph.proofs.Reached.{LeadsAlong, Follows, ranked}
+use Rattle.mdp_parts.specs.{Targets.{AreTargets, AreReversed}, Numbered.{AreSources}, Inner.{may_fall_inside}, TowardTargets.{IsTowardTargets, HasTarget}}
+use Rattle.mdp_parts.specs.{Allowed.{allowed_at}, FoundEnds.{FoundEnds, AreEndsOf}}
+use Rattle.mdp_parts.proofs.{TowardParts.{marks_targets}, ComponentsFound.{sources}, TargetFacts.{any-as-enters}}
 
 -- ---- what the code tests
 

@@ -1,22 +1,16 @@
 -- The choices that lead to a state without an allowed choice are forbidden, one after the other.
 use Rattle.std.proofs.Common.{◌≡◌, ◌⊎◌, inl, inr, ℕ, ◌+◌, ◌<◌, ◌≤◌, Bool, true, false, ◌&&◌, ◌==◌, List, [], ◌∷◌, ◌++◌, length, map, get_or, set, refl, sym, ap, ◌∙◌, arith, subst}
-use Rattle.std.proofs.lemmas.List.{get_or_append_left, length-append}
-use Rattle.std.proofs.Math.Seq.{get_or-append_seam}
-use Rattle.std.specs.List.{range_with_len}
+use Rattle.std.proofs.{lemmas.List.{get_or_append_left, length-append}, Math.Seq.{get_or-append_seam}}
 use Rattle.std.proofs.lemmas.Bool.{false≢true, cases_Bool, cases_eq, eq-eqb, and_parts}
+use Rattle.std.specs.List.{range_with_len}
 use Rattle.mdp_math.proofs.Booleans.{and-both, and-false}
 use Rattle.mdp_spec.specs.Mdp.{Mdp, states_of, choices_at, row_at}
-use Rattle.mdp_rows.specs.declared.preds.Pred.{Pred}
-use Rattle.mdp_rows.specs.Preds.{leads_to, preds_to}
+use Rattle.mdp_rows.specs.{declared.preds.Pred.{Pred}, Preds.{leads_to, preds_to}}
 use Rattle.mdp_graph.specs.Waiting.{is_one_of}
-use Rattle.mdp_graph.proofs.PredLists.{led-in, list-is}
-use Rattle.mdp_graph.proofs.RowSets.{list_any-by}
+use Rattle.mdp_graph.proofs.{PredLists.{led-in, list-is}, RowSets.{list_any-by}}
 use Rattle.mdp_ends.specs.Rounds.{keeps_part}
-use Rattle.mdp_ends.proofs.Existing.{total_below, total-less}
-use Rattle.mdp_ends.proofs.Walking.{stays-at}
-use Rattle.mdp_parts.specs.Allowed.{allowed_at, AreChoices}
-use Rattle.mdp_parts.specs.Losing.{IsLost, IsPruned, AreLosing}
-use Rattle.mdp_parts.specs.Round.{IsRound}
+use Rattle.mdp_ends.proofs.{Existing.{total_below, total-less}, Walking.{stays-at}}
+use Rattle.mdp_parts.specs.{Allowed.{allowed_at, AreChoices}, Losing.{IsLost, IsPruned, AreLosing}, Round.{IsRound}}
 use Rattle.mdp_parts.proofs.Forbidding.{forbidden_here, forbidden_there, forbidden_else, forbidden_sizes}
 
 module _ (m : Mdp) where

@@ -2,14 +2,12 @@
 use Rattle.std.proofs.Common.{◌≡◌, ◌⊎◌, inl, inr, ℕ, ◌+◌, ◌<◌, ◌≤◌, true, false, nat_lt, cond, List, [], ◌∷◌}
 use Rattle.std.proofs.Common.{◌++◌, length, set, replicate, refl, sym, ap, ◌∙◌, subst, arith, lt-ltb, le-ltb, Option, Some, None, is_none}
 use Rattle.std.proofs.lemmas.Bool.{false≢true, cases_Bool, cases_eq, cases_lt}
-use Rattle.std.proofs.lemmas.List.{length-replicate, get_or-replicate, length-set, get_or-set_other, get_or_past}
-use Rattle.std.proofs.lemmas.Grind.{get_or-set_at}
+use Rattle.std.proofs.{lemmas.List.{length-replicate, get_or-replicate, length-set, get_or-set_other, get_or_past}, lemmas.Grind.{get_or-set_at}}
 use Rattle.mdp_graph.specs.Layers.{rank_at}
-use Rattle.mdp_graph.proofs.Among.{cases_rank}
+use Rattle.mdp_graph.proofs.{Among.{cases_rank}, RankFacts.{some-same, none-some}}
 use Rattle.mdp_ends.specs.Numbers.{is_numbered, count_from}
 use Rattle.mdp_ends.proofs.NumberingFound.{numbered-none, numbered-some, length-more, at_before, at_last}
 use Rattle.mdp_parts.specs.Numbered.{IsRenumbered}
-use Rattle.mdp_graph.proofs.RankFacts.{some-same, none-some}
 
 -- one more state is counted from where the ones before it end
 count-more : (next : ℕ) (xs : List (Option ℕ)) (o : Option ℕ) → count_from next (xs ++ o ∷ []) ≡ count_from (count_from next xs) (o ∷ [])

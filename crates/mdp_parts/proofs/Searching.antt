@@ -1,23 +1,18 @@
 -- What a search in depth keeps.
 use Rattle.std.proofs.Common.{◌≡◌, ◌⊎◌, inl, inr, ℕ, zero, suc, ◌+◌, ◌-◌, ◌<◌, ◌≤◌, Bool, true, false, not, ◌==◌}
 use Rattle.std.proofs.Common.{cond, List, [], ◌∷◌, ◌++◌, length, get_or, set, take, replicate, refl, sym, ap, ◌∙◌, subst, arith}
-use Rattle.std.specs.List.{count_by, All}
 use Rattle.std.proofs.lemmas.Bool.{false≢true, cases_eq, cases_lt, eqb-true, eq-eqb}
-use Rattle.std.proofs.lemmas.List.{length-replicate, get_or-replicate, length-set, get_or-set_other, take_more, take_all}
-use Rattle.std.proofs.lemmas.List.Sums.{sum_by-set}
+use Rattle.std.proofs.{lemmas.List.{length-replicate, get_or-replicate, length-set, get_or-set_other, take_more, take_all}, lemmas.List.Sums.{sum_by-set}}
 use Rattle.std.proofs.lemmas.Grind.{get_or-set_at}
-use Rattle.mdp_spec.specs.Mdp.{Mdp, states_of}
-use Rattle.mdp_spec.specs.Row.{IsMdp}
-use Rattle.mdp_graph.specs.Sets.{marked}
-use Rattle.mdp_graph.specs.Edges.{AreEdges}
+use Rattle.std.specs.List.{count_by, All}
+use Rattle.mdp_spec.specs.{Mdp.{Mdp, states_of}, Row.{IsMdp}}
+use Rattle.mdp_graph.specs.{Sets.{marked}, Edges.{AreEdges}}
 use Rattle.mdp_graph.proofs.Among.{below-all}
-use Rattle.mdp_ends.specs.Walks.{Reaches}
-use Rattle.mdp_ends.specs.DepthFirst.{StandsIn, IsSearching}
+use Rattle.mdp_ends.specs.{Walks.{Reaches}, DepthFirst.{StandsIn, IsSearching}}
 use Rattle.mdp_ends.proofs.Walking.{any-some, some-any, step-has, step-by, here, one_more, and_then, target-below}
 use Rattle.mdp_ends.proofs.NumberingFound.{length-more, at_before, at_last}
 use Rattle.mdp_ends.proofs.DepthFirst.{begins, place_cases, last_place, stands-more, stands-last, stands-cases, pushed, popped}
-use Rattle.mdp_parts.specs.Targets.{AreTargets}
-use Rattle.mdp_parts.specs.Searched.{target_at, IsSearch, work_left, IsOrder}
+use Rattle.mdp_parts.specs.{Targets.{AreTargets}, Searched.{target_at, IsSearch, work_left, IsOrder}}
 
 -- ---- marks
 

@@ -1,24 +1,18 @@
 -- The targets of allowed choices while they are gathered.
 use Rattle.std.proofs.Common.{◌≡◌, inl, inr, ℕ, ◌+◌, ◌<◌, Bool, true, false, ◌||◌, ◌&&◌, ◌==◌, List, [], ◌∷◌, ◌++◌}
-use Rattle.std.proofs.Common.{length, get_or, refl, sym, ap, ap₂, ◌∙◌, arith, append_assoc, length-append}
-use Rattle.std.specs.List.{list_any, range_with_len}
-use Rattle.std.proofs.lemmas.Bool.{cases_eq}
-use Rattle.std.proofs.lemmas.List.{append-nil}
+use Rattle.std.proofs.{Common.{length, get_or, refl, sym, ap, ap₂, ◌∙◌, arith, append_assoc, length-append}, lemmas.Bool.{cases_eq}, lemmas.List.{append-nil}}
 use Rattle.std.proofs.lemmas.List.Folds.{list_any-append}
+use Rattle.std.specs.List.{list_any, range_with_len}
 use Rattle.mdp_math.specs.Rational.{ℚ}
-use Rattle.mdp_math.proofs.Booleans.{or-false}
-use Rattle.mdp_math.proofs.Lists.{range_more}
-use Rattle.mdp_spec.specs.Mdp.{Mdp, states_of, choices_at, row_at}
-use Rattle.mdp_spec.specs.Row.{entries}
-use Rattle.mdp_rows.specs.Preds.{is_among}
-use Rattle.mdp_rows.specs.Pieces.{pieces, ArePlaces}
+use Rattle.mdp_math.proofs.{Booleans.{or-false}, Lists.{range_more}}
+use Rattle.mdp_spec.specs.{Mdp.{Mdp, states_of, choices_at, row_at}, Row.{entries}}
+use Rattle.mdp_rows.specs.{Preds.{is_among}, Pieces.{pieces, ArePlaces}}
 use Rattle.mdp_rows.proofs.Flat.Growth.{one_place, places-more, pieces-more}
 use Rattle.mdp_graph.specs.Sets.{can_enter}
 use Rattle.mdp_graph.proofs.Among.{among-append}
 use Rattle.mdp_ends.specs.Walks.{chosen_step}
 use Rattle.mdp_ends.proofs.NumberingFound.{length-more, at_before, at_last}
-use Rattle.mdp_parts.specs.Allowed.{allowed_at}
-use Rattle.mdp_parts.specs.Targets.{AreTargets, HasTargets}
+use Rattle.mdp_parts.specs.{Allowed.{allowed_at}, Targets.{AreTargets, HasTargets}}
 use Rattle.mdp_parts.proofs.TargetFacts.{leads-as-among}
 
 -- choice c of state s is allowed and leads to t

@@ -1,22 +1,16 @@
 -- The pass toward targets in all end components at once: which states it marks, and what it is where all targets are in one component.
 use Rattle.std.proofs.Common.{◌≡◌, ◌↔◌, inl, inr, ℕ, suc, zero, ◌<◌, Bool, true, false, ◌&&◌, ◌==◌, List, map, get_or, sym, ap, ◌∙◌, arith, Option, None}
-use Rattle.std.specs.List.{range_with_len}
-use Rattle.std.proofs.lemmas.Bool.{false≢true, cases_Bool, cases_lt, or_cases, and_from, eqb-true}
-use Rattle.std.proofs.lemmas.List.{get_or_past}
+use Rattle.std.proofs.{lemmas.Bool.{false≢true, cases_Bool, cases_lt, or_cases, and_from, eqb-true}, lemmas.List.{get_or_past}}
 use Rattle.std.proofs.lemmas.List.FromFn.{get_or-map-range_with_len, length-map-range_with_len}
+use Rattle.std.specs.List.{range_with_len}
 use Rattle.mdp_math.proofs.Booleans.{and-false}
-use Rattle.mdp_spec.specs.Mdp.{Mdp, states_of, row_at}
-use Rattle.mdp_spec.specs.Row.{IsMdp}
+use Rattle.mdp_spec.specs.{Mdp.{Mdp, states_of, row_at}, Row.{IsMdp}}
 use Rattle.mdp_rows.specs.Preds.{leads_to}
-use Rattle.mdp_graph.specs.Sets.{marked}
-use Rattle.mdp_graph.specs.Layers.{reached, AreReached}
-use Rattle.mdp_ends.specs.Ends.{part_of, in_part, has_number, is_inside, stays_with, count_of, AreEnds}
-use Rattle.mdp_ends.specs.Quotient.{ShareAPart}
+use Rattle.mdp_graph.specs.{Sets.{marked}, Layers.{reached, AreReached}}
+use Rattle.mdp_ends.specs.{Ends.{part_of, in_part, has_number, is_inside, stays_with, count_of, AreEnds}, Quotient.{ShareAPart}}
 use Rattle.mdp_ends.specs.Toward.{inner_step, target_in, IsToward}
-use Rattle.mdp_ends.proofs.Walking.{stays-at, step-has, target-below}
-use Rattle.mdp_ends.proofs.Numbering.{case-number, numbered-below}
-use Rattle.mdp_ends.proofs.RoundLaws.{has-number, number-has, inside-stays}
-use Rattle.mdp_ends.proofs.TowardLaws.{wider, steps_rise, toward_marks}
+use Rattle.mdp_ends.proofs.{Walking.{stays-at, step-has, target-below}, Numbering.{case-number, numbered-below}}
+use Rattle.mdp_ends.proofs.{RoundLaws.{has-number, number-has, inside-stays}, TowardLaws.{wider, steps_rise, toward_marks}}
 use Rattle.mdp_parts.specs.TowardTargets.{IsTowardTargets, HasTarget}
 
 module _ (m : Mdp) (ok : IsMdp m) (ends : List (Option ℕ)) (are : AreEnds m ends) where

@@ -1,9 +1,7 @@
 -- Inner choices that lead to smaller ranks, as the code tests them.
 use Rattle.std.specs.Prelude.{ℕ, Bool, ◌&&◌, List, Option}
 use Rattle.mdp_spec.specs.Mdp.{Mdp, row_at}
-use Rattle.mdp_graph.specs.Sets.{can_enter}
-use Rattle.mdp_graph.specs.Layers.{rank_at}
-use Rattle.mdp_graph.specs.Choices.{plain_rank, is_before}
+use Rattle.mdp_graph.specs.{Sets.{can_enter}, Layers.{rank_at}, Choices.{plain_rank, is_before}}
 use Rattle.mdp_ends.specs.Ends.{is_inside}
 
 -- choice c of state s is inside and has a successor of a rank below that of s

@@ -1,15 +1,9 @@
 -- What holds of strong components and end components of any model.
 use Rattle.std.specs.Prelude.{◌≡◌, ℕ, ◌<◌, ◌≤◌, Bool, true, pos, List, Option}
 use Rattle.mdp_math.specs.Rational.{of_int, ◌+ℚ◌, ◌≤ℚ◌}
-use Rattle.mdp_spec.specs.Mdp.{Mdp, states_of}
-use Rattle.mdp_spec.specs.Row.{IsMdp}
-use Rattle.mdp_spec.specs.Bounds.{part}
-use Rattle.mdp_spec.specs.Hit.{hit}
-use Rattle.mdp_spec.specs.Tree.{unfolded}
+use Rattle.mdp_spec.specs.{Mdp.{Mdp, states_of}, Row.{IsMdp}, Bounds.{part}, Hit.{hit}, Tree.{unfolded}}
 use Rattle.mdp_graph.specs.Sets.{marked}
-use Rattle.mdp_ends.specs.Walks.{AreComponents}
-use Rattle.mdp_ends.specs.Ends.{IsEnd, IsWithin, IsMaximal, in_part, is_inside, count_of, AreEnds}
-use Rattle.mdp_ends.specs.Toward.{IsToward}
+use Rattle.mdp_ends.specs.{Walks.{AreComponents}, Ends.{IsEnd, IsWithin, IsMaximal, in_part, is_inside, count_of, AreEnds}, Toward.{IsToward}}
 
 -- two maximal end components that share a state have the same states and choices
 abbrev pub MaximalShareNone : Type 0

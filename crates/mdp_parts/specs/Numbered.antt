@@ -1,13 +1,8 @@
 -- Numbers that tell groups of states apart.
 use Rattle.std.specs.Prelude.{◌≡◌, ℕ, ◌<◌, ◌↔◌, Bool, true, ◌==◌, List, [], length, Option, Some, None}
-use Rattle.mdp_spec.specs.Mdp.{Mdp, states_of}
-use Rattle.mdp_spec.specs.Row.{IsMdp}
-use Rattle.mdp_graph.specs.Edges.{has_edge}
-use Rattle.mdp_graph.specs.Layers.{rank_at}
-use Rattle.mdp_graph.specs.Ranking.{unranked}
-use Rattle.mdp_ends.specs.Walks.{chosen_step, AreJoined}
-use Rattle.mdp_ends.specs.Numbers.{is_numbered}
-use Rattle.mdp_ends.specs.DepthFirst.{IsSearching}
+use Rattle.mdp_spec.specs.{Mdp.{Mdp, states_of}, Row.{IsMdp}}
+use Rattle.mdp_graph.specs.{Edges.{has_edge}, Layers.{rank_at}, Ranking.{unranked}}
+use Rattle.mdp_ends.specs.{Walks.{chosen_step, AreJoined}, Numbers.{is_numbered}, DepthFirst.{IsSearching}}
 
 -- the states that take a number: a root and, of those without a number, the ones that lead to one of them
 pub record IsTaken (back : List (List ℕ)) (root number : ℕ) (old new : List (Option ℕ)) : Type 0 where

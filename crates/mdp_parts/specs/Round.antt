@@ -1,9 +1,7 @@
 -- One round of the search for the maximal end components: each allowed choice that leaves its part is forbidden.
-use Rattle.std.specs.Prelude.{◌≡◌, ℕ, ◌<◌, Bool, true, false, cond, List, length, Option, Some, None, slice_index}
-use Rattle.std.specs.List.{list_any, range_with_len}
+use Rattle.std.specs.{Prelude.{◌≡◌, ℕ, ◌<◌, Bool, true, false, cond, List, length, Option, Some, None, slice_index}, List.{list_any, range_with_len}}
 use Rattle.mdp_spec.specs.Mdp.{Mdp, states_of, choices_at}
-use Rattle.mdp_ends.specs.Walks.{AreComponents}
-use Rattle.mdp_ends.specs.Rounds.{keeps_part, still_allowed, KeepsEnds}
+use Rattle.mdp_ends.specs.{Walks.{AreComponents}, Rounds.{keeps_part, still_allowed, KeepsEnds}}
 use Rattle.mdp_parts.specs.Allowed.{allowed_at, AreChoices}
 
 -- some choice of state s is allowed

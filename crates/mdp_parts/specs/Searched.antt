@@ -1,8 +1,6 @@
 -- What a search in depth knows, and the order that it finds.
-use Rattle.std.specs.Prelude.{◌≡◌, ℕ, ◌<◌, ◌≤◌, ◌⊎◌, ◌+◌, ◌*◌, Bool, true, false, not, List, [], length, slice_index, slice_index_or}
-use Rattle.std.specs.List.{count_by}
-use Rattle.mdp_spec.specs.Mdp.{Mdp}
-use Rattle.mdp_spec.specs.Row.{IsMdp}
+use Rattle.std.specs.{Prelude.{◌≡◌, ℕ, ◌<◌, ◌≤◌, ◌⊎◌, ◌+◌, ◌*◌, Bool, true, false, not, List, [], length, slice_index, slice_index_or}, List.{count_by}}
+use Rattle.mdp_spec.specs.{Mdp.{Mdp}, Row.{IsMdp}}
 use Rattle.mdp_graph.specs.Sets.{marked}
 use Rattle.mdp_ends.specs.DepthFirst.{StandsIn, IsSearching}
 use Rattle.mdp_parts.specs.Targets.{AreTargets}

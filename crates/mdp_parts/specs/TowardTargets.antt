@@ -1,11 +1,8 @@
 -- Ranks and choices toward targets by inner choices, in all end components at once.
 use Rattle.std.specs.Prelude.{◌≡◌, ℕ, ◌<◌, ◌⊎◌, Bool, true, List, Option}
 use Rattle.mdp_spec.specs.Mdp.{Mdp, states_of}
-use Rattle.mdp_graph.specs.Sets.{marked}
-use Rattle.mdp_graph.specs.Layers.{AreReached, AreLeastRanks}
-use Rattle.mdp_graph.specs.Choices.{AreLeast}
-use Rattle.mdp_ends.specs.Quotient.{ShareAPart}
-use Rattle.mdp_ends.specs.Toward.{inner_step, inner_falls}
+use Rattle.mdp_graph.specs.{Sets.{marked}, Layers.{AreReached, AreLeastRanks}, Choices.{AreLeast}}
+use Rattle.mdp_ends.specs.{Quotient.{ShareAPart}, Toward.{inner_step, inner_falls}}
 
 -- what is reached by inner choices, the least ranks, and the least choices that fall
 pub record IsTowardTargets (m : Mdp) (ends : List (Option ℕ)) (target marks : List Bool) (ranks choices : List ℕ) : Type 0 where

@@ -1,5 +1,4 @@
-ghost use Rattle.std.specs.Prelude.{◌≡◌, ◌<◌, ℕ, [], true, length, map, slice_index_or, slice_set, IfOk};
-ghost use Rattle.std.specs.List.{range_with_len};
+ghost use Rattle.std.specs.{Prelude.{◌≡◌, ◌<◌, ℕ, [], true, length, map, slice_index_or, slice_set, IfOk}, List.{range_with_len}};
 ghost use Rattle.mdp_spec.specs.Mdp.{states_of, choices_at};
 ghost use Rattle.mdp_parts.specs.Allowed.{each_true, allowed_at, AreChoices};
 

@@ -1,7 +1,6 @@
 ghost use Rattle.std.specs.Prelude.{◌≡◌, ◌≤◌, ◌<◌, ◌++◌, ◌∷◌, ◌-◌, ℕ, [], true, false, length, slice_index, slice_set, replicate, IfOk, OnOk, MatchOption};
 ghost use Rattle.std.specs.List.{All};
-ghost use Rattle.mdp_graph.specs.Sets.{marked};
-ghost use Rattle.mdp_graph.specs.Edges.{AreEdges};
+ghost use Rattle.mdp_graph.specs.{Sets.{marked}, Edges.{AreEdges}};
 ghost use Rattle.mdp_parts.specs.Searched.{AreMet, IsFirstUnmet, IsSearch, IsOrder, work_left};
 
 use mdp_graph::Predecessors;

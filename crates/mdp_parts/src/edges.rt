@@ -1,8 +1,7 @@
 ghost use Rattle.std.specs.Prelude.{◌≡◌, ◌<◌, length, IfOk, OnOk};
 ghost use Rattle.mdp_spec.specs.Mdp.{states_of};
 ghost use Rattle.mdp_graph.specs.Edges.{AreEdges};
-ghost use Rattle.mdp_parts.specs.Allowed.{allowed_at, AreChoices};
-ghost use Rattle.mdp_parts.specs.Targets.{AreTargets, AreReversed, HasTargets};
+ghost use Rattle.mdp_parts.specs.{Allowed.{allowed_at, AreChoices}, Targets.{AreTargets, AreReversed, HasTargets}};
 
 use crate::allowed::Allowed;
 use mdp_graph::{Edges, Predecessors};

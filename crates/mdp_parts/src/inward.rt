@@ -1,14 +1,8 @@
-ghost use Rattle.std.specs.Prelude.{◌≡◌, ◌<◌, ◌↔◌, ◌&&◌, ℕ, true, length, map, IfOk};
-ghost use Rattle.std.specs.List.{range_with_len};
+ghost use Rattle.std.specs.{Prelude.{◌≡◌, ◌<◌, ◌↔◌, ◌&&◌, ℕ, true, length, map, IfOk}, List.{range_with_len}};
 ghost use Rattle.mdp_spec.specs.Mdp.{states_of, choices_at};
-ghost use Rattle.mdp_graph.specs.Sets.{marked};
-ghost use Rattle.mdp_graph.specs.Layers.{AreRanks};
-ghost use Rattle.mdp_graph.specs.Choices.{first_below, first_passing};
-ghost use Rattle.mdp_ends.specs.Ends.{in_part, count_of};
-ghost use Rattle.mdp_ends.specs.Toward.{target_in, inner_step, IsToward};
-ghost use Rattle.mdp_parts.specs.FoundEnds.{AreEndsOf};
-ghost use Rattle.mdp_parts.specs.Inner.{may_fall_inside};
-ghost use Rattle.mdp_parts.specs.TowardTargets.{IsTowardTargets, HasTarget};
+ghost use Rattle.mdp_graph.specs.{Sets.{marked}, Layers.{AreRanks}, Choices.{first_below, first_passing}};
+ghost use Rattle.mdp_ends.specs.{Ends.{in_part, count_of}, Toward.{target_in, inner_step, IsToward}};
+ghost use Rattle.mdp_parts.specs.{FoundEnds.{AreEndsOf}, Inner.{may_fall_inside}, TowardTargets.{IsTowardTargets, HasTarget}};
 
 use crate::edges::{edges_of, reversed};
 use crate::ends::Ends;

@@ -1,10 +1,8 @@
-ghost use Rattle.std.specs.Prelude.{◌≡◌, ◌<◌, ◌≤◌, ◌+◌, ℕ, false, map, length, IfOk, OnOk};
-ghost use Rattle.std.specs.List.{range_with_len};
+ghost use Rattle.std.specs.{Prelude.{◌≡◌, ◌<◌, ◌≤◌, ◌+◌, ℕ, false, map, length, IfOk, OnOk}, List.{range_with_len}};
 ghost use Rattle.mdp_spec.specs.Mdp.{states_of};
 ghost use Rattle.mdp_rows.specs.Preds.{preds_to};
 ghost use Rattle.mdp_ends.proofs.Existing.{total_below};
-ghost use Rattle.mdp_parts.specs.Allowed.{allowed_at, AreChoices};
-ghost use Rattle.mdp_parts.specs.Losing.{IsLost, IsPruned, AreLosing};
+ghost use Rattle.mdp_parts.specs.{Allowed.{allowed_at, AreChoices}, Losing.{IsLost, IsPruned, AreLosing}};
 
 use crate::allowed::Allowed;
 use mdp_rows::{Model, Preds};

@@ -1,8 +1,6 @@
 ghost use Rattle.std.specs.Prelude.{◌≡◌, ◌<◌, ◌^◌, ℕ, None, Some, length, slice_index, IfOk, OnOk};
-ghost use Rattle.mdp_graph.specs.Edges.{AreEdges};
-ghost use Rattle.mdp_graph.specs.Layers.{rank_at};
-ghost use Rattle.mdp_ends.specs.Numbers.{count_from};
-ghost use Rattle.mdp_ends.specs.DepthFirst.{StandsIn};
+ghost use Rattle.mdp_graph.specs.{Edges.{AreEdges}, Layers.{rank_at}};
+ghost use Rattle.mdp_ends.specs.{Numbers.{count_from}, DepthFirst.{StandsIn}};
 ghost use Rattle.mdp_parts.specs.Numbered.{IsTaken, AreGrouped, IsRenumbered};
 
 use mdp_graph::{Predecessors, give_rank, next_layer, no_ranks};

@@ -1,10 +1,7 @@
-ghost use Rattle.std.specs.Prelude.{◌≡◌, ◌<◌, ◌==◌, map, length, slice_index, IfOk};
-ghost use Rattle.std.specs.List.{All, list_all, range_with_len};
+ghost use Rattle.std.specs.{Prelude.{◌≡◌, ◌<◌, ◌==◌, map, length, slice_index, IfOk}, List.{All, list_all, range_with_len}};
 ghost use Rattle.mdp_spec.specs.Mdp.{states_of, choices_at};
 ghost use Rattle.mdp_ends.specs.Rounds.{keeps_part};
-ghost use Rattle.mdp_parts.specs.Allowed.{AreChoices};
-ghost use Rattle.mdp_parts.specs.FoundEnds.{AreEndsOf};
-ghost use Rattle.mdp_parts.specs.Round.{AreLastParts, some_allowed, key_of, IsRound, IsForbidden};
+ghost use Rattle.mdp_parts.specs.{Allowed.{AreChoices}, FoundEnds.{AreEndsOf}, Round.{AreLastParts, some_allowed, key_of, IsRound, IsForbidden}};
 
 use crate::allowed::Allowed;
 use crate::ends::Ends;

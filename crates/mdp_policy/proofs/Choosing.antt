@@ -1,31 +1,17 @@
 -- What the choice that is taken at a state says in exact numbers, and what it says where none is taken.
 use Rattle.std.proofs.Common.{◌≡◌, ℕ, suc, ◌<◌, inl, inr, Bool, true, false, if◌then◌else◌, List, length, Option, Some, None, Result, Ok, refl, ◌∙◌, sym, ap, subst, arith}
 use Rattle.std.specs.Option.{is_some}
-use Rattle.mdp_math.specs.Rational.{ℚ}
-use Rattle.mdp_math.specs.Result.{◌>>=◌}
-use Rattle.mdp_math.specs.Written.{written_compare, cmp_ℚ}
-use Rattle.mdp_math.proofs.Laws.{zero-+ℚ}
-use Rattle.mdp_math.proofs.Numbers.{last_or}
-use Rattle.mdp_math.proofs.Options.{Some_same, step_told}
-use Rattle.mdp_math.proofs.Order.{0ℚ, ≤ℚ_trans, ≤ℚ_of_lt, ≤ℚ_of_eq, ≤ℚ-<ℚ_trans}
+use Rattle.mdp_math.specs.{Rational.{ℚ}, Result.{◌>>=◌}, Written.{written_compare, cmp_ℚ}}
+use Rattle.mdp_math.proofs.{Laws.{zero-+ℚ}, Numbers.{last_or}, Options.{Some_same, step_told}, Order.{0ℚ, ≤ℚ_trans, ≤ℚ_of_lt, ≤ℚ_of_eq, ≤ℚ-<ℚ_trans}}
 use Rattle.mdp_math.proofs.Written.{written_compare-some}
-use Rattle.mdp_spec.specs.Mdp.{Mdp, states_of, choices_at, row_at, value_at}
-use Rattle.mdp_spec.specs.Row.{row_sum}
-use Rattle.mdp_spec.specs.Tree.{is_marked}
-use Rattle.mdp_rows.specs.declared.dir.Dir.{Dir}
-use Rattle.mdp_rows.specs.declared.dir.Dir.TheVariants.{Max, Min}
-use Rattle.mdp_rows.specs.Better.{is_better, IsBetter}
-use Rattle.mdp_policy_iteration.specs.Candidates.{Best, judged}
-use Rattle.mdp_policy_iteration.specs.Path.{comparing}
-use Rattle.mdp_policy_iteration.specs.Places.{Place}
-use Rattle.mdp_policy_iteration.proofs.Turned.{better_by, worse_by}
-use Rattle.mdp_policy_iteration.proofs.Results.{ok_same, ok_part, place_part}
+use Rattle.mdp_spec.specs.{Mdp.{Mdp, states_of, choices_at, row_at, value_at}, Row.{row_sum}, Tree.{is_marked}}
+use Rattle.mdp_rows.specs.{declared.dir.Dir.{Dir}, declared.dir.Dir.TheVariants.{Max, Min}, Better.{is_better, IsBetter}}
+use Rattle.mdp_policy_iteration.specs.{Candidates.{Best, judged}, Path.{comparing}, Places.{Place}}
+use Rattle.mdp_policy_iteration.proofs.{Turned.{better_by, worse_by}, Results.{ok_same, ok_part, place_part}}
 use Rattle.mdp_spec.proofs.Summed.{written_sum-some}
-use Rattle.mdp_policy.specs.Choices.{sum_of_choice, compared}
-use Rattle.mdp_policy.specs.Written.{next_choice, own, best_of, taken_at, change_at, next_state, first_change}
+use Rattle.mdp_policy.specs.{Choices.{sum_of_choice, compared}, Written.{next_choice, own, best_of, taken_at, change_at, next_state, first_change}}
 use Rattle.mdp_policy.specs.declared.value.Change.{Change}
-use Rattle.mdp_policy.proofs.Turns.{in_turn-keeps, in_turn-kept, in_turn-more}
-use Rattle.mdp_policy.proofs.Values.{NoBetter, IsBetterChoice}
+use Rattle.mdp_policy.proofs.{Turns.{in_turn-keeps, in_turn-kept, in_turn-more}, Values.{NoBetter, IsBetterChoice}}
 
 -- ---- better and no better
 

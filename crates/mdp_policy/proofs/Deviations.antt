@@ -1,18 +1,11 @@
 -- The tree that takes one choice at its first step, and then goes on by a tree of each state.
 use Rattle.std.proofs.Common.{◌≡◌, ℕ, suc, ◌<◌, ◌≤◌, Bool, false, cond, eqb, List, length, refl, sym, ◌∙◌, ap, subst, arith}
-use Rattle.mdp_math.specs.Rational.{ℚ, ◌*ℚ◌, ◌≤ℚ◌, ◌<ℚ◌}
-use Rattle.mdp_math.specs.Sum.{sum_at, EachAt}
-use Rattle.mdp_math.proofs.Laws.{one-*ℚ}
-use Rattle.mdp_math.proofs.Order.{0ℚ, ≤ℚ_of_eq, ≤ℚ_antisymm}
+use Rattle.mdp_math.specs.{Rational.{ℚ, ◌*ℚ◌, ◌≤ℚ◌, ◌<ℚ◌}, Sum.{sum_at, EachAt}}
+use Rattle.mdp_math.proofs.{Laws.{one-*ℚ}, Order.{0ℚ, ≤ℚ_of_eq, ≤ℚ_antisymm}}
 use Rattle.mdp_math.proofs.SumsAt.{sum_at-same, sum_at-sum_of, sum_at-weighted_ge, EachAt_all, EachAt_mono, EachAt_both}
-use Rattle.mdp_spec.specs.Mdp.{Entry, Mdp, states_of, choices_at, row_at}
-use Rattle.mdp_spec.specs.Row.{IsRow, IsMdp}
-use Rattle.mdp_spec.specs.Unit.{count_at}
-use Rattle.mdp_spec.specs.Tree.{Tree, Fits, target_at, is_marked}
-use Rattle.mdp_spec.specs.Tree.Tree.{node}
-use Rattle.mdp_spec.specs.Hit.{hit}
-use Rattle.mdp_spec.proofs.Hits.{share, mixed, hit-node}
-use Rattle.mdp_spec.proofs.Keeping.{count_at-one, chosen, target_placed, share-nonneg, share-pos, shares-total, mixed-le}
+use Rattle.mdp_spec.specs.{Mdp.{Entry, Mdp, states_of, choices_at, row_at}, Row.{IsRow, IsMdp}, Unit.{count_at}, Tree.{Tree, Fits, target_at, is_marked}}
+use Rattle.mdp_spec.specs.{Tree.Tree.{node}, Hit.{hit}}
+use Rattle.mdp_spec.proofs.{Hits.{share, mixed, hit-node}, Keeping.{count_at-one, chosen, target_placed, share-nonneg, share-pos, shares-total, mixed-le}}
 use Rattle.mdp_spec.proofs.Rows.{rows_known, placed, targets_at, row_weigh}
 
 -- choice p at s, and then at each target t the tree `after t`

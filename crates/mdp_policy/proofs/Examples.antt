@@ -1,25 +1,17 @@
 -- A small model, computed.
 use Rattle.std.proofs.Common.{◌≡◌, ℕ, Bool, true, false, List, [], ◌∷◌, ◌++◌, ◌^◌, Option, Some, None, Ok, Err, refl, pos}
-use Rattle.std.specs.Prelude.{codes}
-use Rattle.std.specs.Fmt.{digits}
-use Rattle.mdp_math.specs.Gcd.{gcd, gcd_with_fuel}
-use Rattle.mdp_math.specs.Rational.{ℚ, of_int, ratio, ◌+ℚ◌, ◌*ℚ◌, neg_ℚ, inv_ℚ}
+use Rattle.std.specs.{Prelude.{codes}, Fmt.{digits}}
+use Rattle.mdp_math.specs.{Gcd.{gcd, gcd_with_fuel}, Rational.{ℚ, of_int, ratio, ◌+ℚ◌, ◌*ℚ◌, neg_ℚ, inv_ℚ}}
 use Rattle.mdp_math.specs.Written.{written_add, written_mul, written_compare, narrow, narrow_ℚ}
 use Rattle.mdp_math.proofs.Tables.{AreEqual}
-use Rattle.mdp_num.specs.Value.{spelling}
-use Rattle.mdp_num.specs.Canonical.{canonical_of}
+use Rattle.mdp_num.specs.{Value.{spelling}, Canonical.{canonical_of}}
 use Rattle.mdp_spec.specs.Mdp.{State, Mdp}
 use Rattle.mdp_spec.proofs.Small.{choice, entry, labelled, number}
-use Rattle.mdp_elim.specs.Elimination.{divided_rest, plus_equation, eliminated, evaluated}
-use Rattle.mdp_elim.specs.System.{equation_of}
+use Rattle.mdp_elim.specs.{Elimination.{divided_rest, plus_equation, eliminated, evaluated}, System.{equation_of}}
 use Rattle.mdp_wide.specs.declared.too_wide.Kind.TheVariants.{Evaluate, Compare}
-use Rattle.mdp_text.specs.declared.error.CertKind.TheVariants.{Version, Shape, Number, Count, End}
-use Rattle.mdp_text.specs.Lines.{refused, next_line, nothing_behind}
-use Rattle.mdp_text.specs.Words.{words_behind, whole_of, whole_at}
-use Rattle.mdp_text.specs.Heads.{states_at}
-use Rattle.mdp_policy.specs.Written.{Answer, written_value}
-use Rattle.mdp_policy.specs.Spelling.{changes_text, value_text}
-use Rattle.mdp_policy.specs.Text.{policy_text, choose_at, choices_from, policy_outcome}
+use Rattle.mdp_text.specs.{declared.error.CertKind.TheVariants.{Version, Shape, Number, Count, End}, Lines.{refused, next_line, nothing_behind}}
+use Rattle.mdp_text.specs.{Words.{words_behind, whole_of, whole_at}, Heads.{states_at}}
+use Rattle.mdp_policy.specs.{Written.{Answer, written_value}, Spelling.{changes_text, value_text}, Text.{policy_text, choose_at, choices_from, policy_outcome}}
 use Rattle.mdp_policy.specs.declared.value.Change.{Change}
 
 abbrev model_of : List State → Mdp

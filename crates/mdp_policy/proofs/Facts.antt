@@ -1,23 +1,17 @@
 -- What the answer of the written computation means.
 use Rattle.std.proofs.Common.{◌≡◌, ℕ, Bool, List, length, Option, Some, None, Result, Ok, subst}
-use Rattle.mdp_math.specs.Rational.{ℚ}
-use Rattle.mdp_math.specs.Result.{◌>>=◌}
-use Rattle.mdp_spec.specs.Mdp.{Mdp, states_of}
-use Rattle.mdp_spec.specs.Row.{IsMdp}
-use Rattle.mdp_spec.specs.Bounds.{ReachMax}
-use Rattle.mdp_spec.specs.Tree.{IsPolicy}
+use Rattle.mdp_math.specs.{Rational.{ℚ}, Result.{◌>>=◌}}
+use Rattle.mdp_spec.specs.{Mdp.{Mdp, states_of}, Row.{IsMdp}, Bounds.{ReachMax}, Tree.{IsPolicy}}
 use Rattle.mdp_rows.specs.declared.dir.Dir.TheVariants.{Max, Min}
 use Rattle.mdp_elim.specs.Laws.{GivesSolutions}
 use Rattle.mdp_graph.specs.Laws.{RowsFall, RowsStay}
 use Rattle.mdp_policy_iteration.specs.Places.{Place}
 use Rattle.mdp_policy_iteration.proofs.Results.{ok_same, ok_part}
 use Rattle.mdp_reach.specs.Query.{AreMaxRanks}
-use Rattle.mdp_policy.specs.Bounds.{PolicyBound, SomeTreePasses, DeepTreesStayBelow}
-use Rattle.mdp_policy.specs.Written.{Answer, evaluated, first_change, with_changes, written_value}
+use Rattle.mdp_policy.specs.{Bounds.{PolicyBound, SomeTreePasses, DeepTreesStayBelow}, Written.{Answer, evaluated, first_change, with_changes, written_value}}
 use Rattle.mdp_policy.specs.declared.value.Change.{Change}
 use Rattle.mdp_policy.proofs.Values.{MeetsPolicyValue, policy_bound_of_rules, reach_max_of_policy, passes_of_better, stays_below_of_better}
-use Rattle.mdp_policy.proofs.Choosing.{IsFound, first_change-is}
-use Rattle.mdp_policy.proofs.Solving.{evaluated_meets}
+use Rattle.mdp_policy.proofs.{Choosing.{IsFound, first_change-is}, Solving.{evaluated_meets}}
 
 pub record IsValued (m : Mdp) (goals : List Bool) (policy : List ℕ) (a : Answer) : Type 0 where
   pub each : length a.values ≡ states_of m

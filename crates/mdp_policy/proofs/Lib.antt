@@ -6,3 +6,9 @@ pub mod Choosing
 pub mod Facts
 pub mod Reading
 mod Examples
+pub mod Chains
+pub mod Handed
+pub mod Trees
+pub mod Owned
+pub mod Rewards
+mod ChainExamples

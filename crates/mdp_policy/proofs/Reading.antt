@@ -1,23 +1,15 @@
 -- The text of a policy is read exactly where it is the text of what is read.
 use Rattle.std.proofs.Common.{◌≡◌, ℕ, zero, suc, ◌+◌, ◌-◌, ◌<◌, ◌≤◌, ◌^◌, not, eqb, ltb, false, List, []}
 use Rattle.std.proofs.Common.{◌∷◌, ◌++◌, length, drop, decimal, Result, Ok, Err, refl, sym, ap, ap₂, subst, ◌∙◌, append_assoc, arith}
-use Rattle.std.specs.Prelude.{codes}
-use Rattle.std.specs.List.{All, join_with_byte}
-use Rattle.std.proofs.lemmas.Bool.{both_ways, lt-ltb, not-false}
-use Rattle.std.proofs.lemmas.List.{append-nil}
-use Rattle.std.proofs.lemmas.List.Elements.{All-nil, All-cons}
+use Rattle.std.proofs.{lemmas.Bool.{both_ways, lt-ltb, not-false}, lemmas.List.{append-nil}, lemmas.List.Elements.{All-nil, All-cons}}
+use Rattle.std.specs.{Prelude.{codes}, List.{All, join_with_byte}}
 use Rattle.mdp_math.proofs.Kernel.{All-head, All-tail}
-use Rattle.mdp_text.specs.declared.error.CertKind.TheVariants.{Version, Shape, Count, End}
-use Rattle.mdp_text.specs.declared.error.Refusal.{Refusal}
-use Rattle.mdp_text.specs.Lines.{◌>>=◌, refuse_if, is_line, Place, place, next_line, line_by, nothing_behind}
-use Rattle.mdp_text.specs.Words.{first_of, words_behind, whole_at}
-use Rattle.mdp_text.specs.Spelling.{line, ◌␣◌, states_text, end_text}
-use Rattle.mdp_text.specs.Heads.{states_at}
-use Rattle.mdp_text.proofs.Pieces.{Free}
-use Rattle.mdp_text.proofs.Cuts.{number-same, same-number}
+use Rattle.mdp_text.specs.{declared.error.CertKind.TheVariants.{Version, Shape, Count, End}, declared.error.Refusal.{Refusal}}
+use Rattle.mdp_text.specs.{Lines.{◌>>=◌, refuse_if, is_line, Place, place, next_line, line_by, nothing_behind}, Words.{first_of, words_behind, whole_at}}
+use Rattle.mdp_text.specs.{Spelling.{line, ◌␣◌, states_text, end_text}, Heads.{states_at}}
+use Rattle.mdp_text.proofs.{Pieces.{Free}, Cuts.{number-same, same-number}}
 use Rattle.mdp_text.proofs.Feeds.{bind_ok, ok-is, refuse_ok, judged-found, judged-again, due-line, due-again, whole-found, whole-again}
-use Rattle.mdp_text.proofs.Joined.{free-join, free-whole, behind-again, behind-text}
-use Rattle.mdp_text.proofs.States.{states-found, states-again, free-states}
+use Rattle.mdp_text.proofs.{Joined.{free-join, free-whole, behind-again, behind-text}, States.{states-found, states-again, free-states}}
 use Rattle.mdp_policy.specs.Text.{policy_version, choose_text, choose_lines, policy_text, FitsText, choose_at, before_others, choices_from, policy_outcome, IsReadFromText, IsReadBack}
 
 -- ---- one more line: the choices read so far, and what the other lines give

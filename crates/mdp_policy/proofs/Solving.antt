@@ -1,34 +1,16 @@
 -- The values of a policy that written evaluation gives meet the rules for them.
 use Rattle.std.proofs.Common.{◌≡◌, ℕ, ◌<◌, ◌≤◌, ◌⊎◌, inl, inr, Bool, true, false, not, if◌then◌else◌, List, [], ◌∷◌}
-use Rattle.std.proofs.Common.{length, get_or, Some, Result, Ok, Err, refl, sym, ◌∙◌, ap, ap₂, subst, arith, pos, zero-add}
-use Rattle.std.specs.List.{Any}
-use Rattle.std.specs.Prelude.{slice_index, slice_index_or, ◌&&◌}
-use Rattle.std.proofs.Math.ListN.{get_or-eq_default}
-use Rattle.std.proofs.lemmas.List.FromFn.{get_or-map-range_with_len, length-map-range_with_len}
-use Rattle.std.proofs.lemmas.List.{get_or_default}
+use Rattle.std.proofs.{Common.{length, get_or, Some, Result, Ok, Err, refl, sym, ◌∙◌, ap, ap₂, subst, arith, pos, zero-add}, Math.ListN.{get_or-eq_default}}
+use Rattle.std.proofs.{lemmas.List.FromFn.{get_or-map-range_with_len, length-map-range_with_len}, lemmas.List.{get_or_default}}
+use Rattle.std.specs.{List.{Any}, Prelude.{slice_index, slice_index_or, ◌&&◌}}
 use Rattle.mdp_math.specs.Rational.{ℚ, ◌+ℚ◌}
-use Rattle.mdp_math.proofs.Booleans.{false_of_not}
-use Rattle.mdp_math.proofs.Numbers.{le_or}
-use Rattle.mdp_math.proofs.Ring.{◌⊕◌, lit, ring}
-use Rattle.mdp_math.proofs.Laws.{rat_ring}
-use Rattle.mdp_math.proofs.Order.{0ℚ, 1ℚ}
-use Rattle.mdp_math.proofs.Kernel.{weigh-same, weigh-add}
-use Rattle.mdp_spec.specs.Mdp.{Entry, Mdp, states_of, row_at, value_at}
-use Rattle.mdp_spec.specs.Row.{IsMdp, IsRow, AreRows, row_sum}
-use Rattle.mdp_spec.specs.Written.{written_sum}
+use Rattle.mdp_math.proofs.{Booleans.{false_of_not}, Numbers.{le_or}, Ring.{◌⊕◌, lit, ring}, Laws.{rat_ring}, Order.{0ℚ, 1ℚ}, Kernel.{weigh-same, weigh-add}}
+use Rattle.mdp_spec.specs.{Mdp.{Entry, Mdp, states_of, row_at, value_at}, Row.{IsMdp, IsRow, AreRows, row_sum}, Written.{written_sum}}
 use Rattle.mdp_spec.specs.Tree.{IsPolicy, is_marked}
-use Rattle.mdp_elim.specs.System.{is_active, row_of, Leaves, IsSolution}
-use Rattle.mdp_elim.specs.Solve.{written_solution}
-use Rattle.mdp_elim.specs.Laws.{LeavingChain, GivesSolutions}
-use Rattle.mdp_graph.specs.Sets.{marked}
-use Rattle.mdp_graph.specs.Layers.{AreReached, AreLeastRanks}
-use Rattle.mdp_graph.specs.Reach.{row_step}
-use Rattle.mdp_graph.specs.Laws.{RowsFall, RowsStay}
-use Rattle.mdp_policy_iteration.specs.Path.{outer, evaluating, placed}
-use Rattle.mdp_policy_iteration.specs.Places.{Place, up_to}
-use Rattle.mdp_policy_iteration.proofs.Compares.{written_sum-is}
-use Rattle.mdp_policy_iteration.proofs.Exact.{outer-same}
-use Rattle.mdp_policy_iteration.proofs.Results.{ok_same, ok_part, place_part, IsUpTo, up_to-is}
+use Rattle.mdp_elim.specs.{System.{is_active, row_of, Leaves, IsSolution}, Solve.{written_solution}, Laws.{LeavingChain, GivesSolutions}}
+use Rattle.mdp_graph.specs.{Sets.{marked}, Layers.{AreReached, AreLeastRanks}, Reach.{row_step}, Laws.{RowsFall, RowsStay}}
+use Rattle.mdp_policy_iteration.specs.{Path.{outer, evaluating, placed}, Places.{Place, up_to}}
+use Rattle.mdp_policy_iteration.proofs.{Compares.{written_sum-is}, Exact.{outer-same}, Results.{ok_same, ok_part, place_part, IsUpTo, up_to-is}}
 use Rattle.mdp_reach.specs.Query.{policy_rows, AreMaxRanks}
 use Rattle.mdp_reach.proofs.Rows.{row-known, goal-along, row-falls, row-stays}
 use Rattle.mdp_policy.specs.Written.{is_under_way, under_way, goal_value, goal_values, constant_of, constant, value_by, values_by, eliminated, solved, evaluated}

@@ -2,11 +2,9 @@
 use Rattle.std.proofs.Common.{◌≡◌, ℕ, zero, suc, ◌<◌, ◌≤◌, inl, inr, Result, Ok, Err, sym, ◌∙◌, ap, subst, arith}
 use Rattle.mdp_math.specs.Result.{◌>>=◌}
 use Rattle.mdp_math.proofs.Numbers.{last_or}
-use Rattle.mdp_policy_iteration.specs.Places.{Place}
+use Rattle.mdp_policy_iteration.specs.{Places.{Place}, Faults.{Answers}, Errors.{RoundError}}
 use Rattle.mdp_policy_iteration.proofs.Results.{ok_same, ok_part}
 use Rattle.mdp_policy.specs.Written.{in_turn}
-use Rattle.mdp_policy_iteration.specs.Faults.{Answers}
-use Rattle.mdp_policy_iteration.specs.Errors.{RoundError}
 
 module _ {A R : Type 0} (f : ℕ → A → Result A R) (start : A) where
   -- one more

@@ -1,37 +1,19 @@
 -- What rules for a policy's values say of trees, and what follows from a choice that is better and from none.
 use Rattle.std.proofs.Common.{◌≡◌, ℕ, zero, suc, ◌<◌, ◌≤◌, ⊎_elim, Bool, true, false, cond, ltb, lt-ltb, ltb-true, List, [], ◌∷◌, length, get_or, refl, sym, ◌∙◌, ap, subst, arith, pos}
+use Rattle.std.proofs.{lemmas.Bool.{cases_Bool, cases_lt}, lemmas.List.{get_or_past}}
 use Rattle.std.specs.List.{All, Any}
-use Rattle.std.proofs.lemmas.Bool.{cases_Bool, cases_lt}
-use Rattle.std.proofs.lemmas.List.{get_or_past}
 use Rattle.mdp_math.specs.Rational.{ℚ, ratio, of_int, ◌+ℚ◌, ◌*ℚ◌, ◌-ℚ◌, ◌≤ℚ◌, ◌<ℚ◌}
-use Rattle.mdp_math.proofs.Ring.{◌⊕◌, ◌⊗◌, ⊖, lit}
-use Rattle.mdp_math.proofs.Laws.{den-pos}
-use Rattle.mdp_math.proofs.Linear.{linear, linear_lt, equal, known}
-use Rattle.mdp_math.proofs.Order.{0ℚ, 1ℚ, ≤ℚ_of_eq, ≤ℚ_of_lt, ≤ℚ_antisymm, sub-pos, mul-pos_ℚ}
-use Rattle.mdp_math.proofs.Whole.{one-pos}
-use Rattle.mdp_math.proofs.Division.{half, half_twice, half_pos, le_of_bounds}
-use Rattle.mdp_math.proofs.Powers.{unit_fraction-le}
-use Rattle.mdp_math.proofs.Kernel.{weigh-same, weigh-sub, weigh-le_at, weigh-nonneg}
-use Rattle.mdp_math.proofs.Solutions.{nonneg_of_rows}
-use Rattle.mdp_spec.specs.Mdp.{Entry, Mdp, states_of, choices_at, row_at, value_at}
-use Rattle.mdp_spec.specs.Row.{IsRow, IsMdp, row_sum}
-use Rattle.mdp_spec.specs.Rules.{AreProbabilities}
-use Rattle.mdp_spec.specs.Bounds.{ReachMax, part}
-use Rattle.mdp_spec.specs.Tree.{Tree, IsPolicy, IsStrategy, unfolded, is_marked}
-use Rattle.mdp_spec.specs.Tree.Tree.{leaf}
-use Rattle.mdp_spec.specs.Hit.{hit}
-use Rattle.mdp_spec.proofs.Rows.{probs_nonneg, row_weigh, row_weigh-const, row_weigh-from}
-use Rattle.mdp_spec.proofs.Hits.{hit-end}
-use Rattle.mdp_spec.proofs.Keeping.{Follows, keeps_unfolded, unfolded_fits}
-use Rattle.mdp_spec.proofs.Above.{hit-le_by}
-use Rattle.mdp_spec.proofs.Close.{RowsShrink, deficit-le, deficit-fades}
-use Rattle.mdp_spec.proofs.Ranks.{shrinks_of_ranks}
+use Rattle.mdp_math.proofs.{Ring.{◌⊕◌, ◌⊗◌, ⊖, lit}, Laws.{den-pos}, Linear.{linear, linear_lt, equal, known}}
+use Rattle.mdp_math.proofs.{Order.{0ℚ, 1ℚ, ≤ℚ_of_eq, ≤ℚ_of_lt, ≤ℚ_antisymm, sub-pos, mul-pos_ℚ}, Whole.{one-pos}}
+use Rattle.mdp_math.proofs.{Division.{half, half_twice, half_pos, le_of_bounds}, Powers.{unit_fraction-le}}
+use Rattle.mdp_math.proofs.{Kernel.{weigh-same, weigh-sub, weigh-le_at, weigh-nonneg}, Solutions.{nonneg_of_rows}}
+use Rattle.mdp_spec.specs.{Mdp.{Entry, Mdp, states_of, choices_at, row_at, value_at}, Row.{IsRow, IsMdp, row_sum}, Rules.{AreProbabilities}}
+use Rattle.mdp_spec.specs.{Bounds.{ReachMax, part}, Tree.{Tree, IsPolicy, IsStrategy, unfolded, is_marked}, Tree.Tree.{leaf}, Hit.{hit}}
+use Rattle.mdp_spec.proofs.{Rows.{probs_nonneg, row_weigh, row_weigh-const, row_weigh-from}, Hits.{hit-end}, Keeping.{Follows, keeps_unfolded, unfolded_fits}}
+use Rattle.mdp_spec.proofs.{Above.{hit-le_by}, Close.{RowsShrink, deficit-le, deficit-fades}, Ranks.{shrinks_of_ranks}}
 use Rattle.mdp_spec.proofs.Reach.{above_of_rules, all_three, third}
-use Rattle.mdp_rows.specs.Better.{IsBetter, IsAsGood}
-use Rattle.mdp_rows.specs.declared.dir.Dir.{Dir}
-use Rattle.mdp_rows.specs.declared.dir.Dir.TheVariants.{Max, Min}
-use Rattle.mdp_policy.specs.Bounds.{PolicyBound, SomeTreePasses, DeepTreesStayBelow}
-use Rattle.mdp_policy.specs.Laws.{HasOneValue}
+use Rattle.mdp_rows.specs.{Better.{IsBetter, IsAsGood}, declared.dir.Dir.{Dir}, declared.dir.Dir.TheVariants.{Max, Min}}
+use Rattle.mdp_policy.specs.{Bounds.{PolicyBound, SomeTreePasses, DeepTreesStayBelow}, Laws.{HasOneValue}}
 use Rattle.mdp_policy.proofs.Deviations.{first_choice, first_choice_fits, first_choice-is}
 
 -- ---- rules for the values

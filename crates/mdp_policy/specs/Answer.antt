@@ -1,18 +1,12 @@
 -- What the code answers, beside the definitions.
 use Rattle.std.specs.Prelude.{◌≡◌, ℕ, Bool, List, Some, Result, Ok, Err}
-use Rattle.mdp_spec.specs.Mdp.{Mdp, states_of}
-use Rattle.mdp_spec.specs.Tree.{is_marked}
-use Rattle.mdp_wide.specs.declared.too_wide.Part.TheVariants.{Whole}
-use Rattle.mdp_wide.specs.declared.too_wide.TooWide.{TooWide}
-use Rattle.mdp_wide.specs.Errors.{SolveError}
+use Rattle.mdp_spec.specs.{Mdp.{Mdp, states_of}, Tree.{is_marked}}
+use Rattle.mdp_wide.specs.{declared.too_wide.Part.TheVariants.{Whole}, declared.too_wide.TooWide.{TooWide}, Errors.{SolveError}}
 use Rattle.mdp_wide.specs.declared.unfinished.Unfinished.TheVariants as error
-use Rattle.mdp_graph.specs.Layers.{AreReached}
-use Rattle.mdp_graph.specs.Reach.{row_step}
-use Rattle.mdp_policy_iteration.specs.Places.{Place}
+use Rattle.mdp_graph.specs.{Layers.{AreReached}, Reach.{row_step}}
+use Rattle.mdp_policy_iteration.specs.{Places.{Place}, Errors.{RoundError}}
 use Rattle.mdp_reach.specs.Query.{policy_rows}
-use Rattle.mdp_policy.specs.Written.{Answer, written_value}
-use Rattle.mdp_policy_iteration.specs.Errors.{RoundError}
-use Rattle.mdp_policy.specs.declared.value.PolicyValue.{PolicyValue}
+use Rattle.mdp_policy.specs.{Written.{Answer, written_value}, declared.value.PolicyValue.{PolicyValue}}
 
 abbrev pub plain : PolicyValue → Answer
 plain v = record { values = v.values.items; up = v.up; down = v.down }

@@ -2,10 +2,7 @@
 -- section 7.2). `k` and `q` stand for whole numbers of at least 1.
 use Rattle.std.specs.Prelude.{ℕ, ◌<◌, ◌≤◌, Bool, List}
 use Rattle.mdp_math.specs.Rational.{ℚ, ◌+ℚ◌, ◌≤ℚ◌, ◌<ℚ◌}
-use Rattle.mdp_spec.specs.Mdp.{Mdp, states_of, value_at}
-use Rattle.mdp_spec.specs.Tree.{Tree, IsStrategy, IsPolicy, unfolded}
-use Rattle.mdp_spec.specs.Hit.{hit}
-use Rattle.mdp_spec.specs.Bounds.{part}
+use Rattle.mdp_spec.specs.{Mdp.{Mdp, states_of, value_at}, Tree.{Tree, IsStrategy, IsPolicy, unfolded}, Hit.{hit}, Bounds.{part}}
 
 -- the probabilities with which the policy, which is one, reaches a goal: it doesn't pass the values, and comes close to them
 pub record PolicyBound (m : Mdp) (goals : List Bool) (z : List ℚ) (policy : List ℕ) : Type 0 where

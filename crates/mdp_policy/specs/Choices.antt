@@ -1,9 +1,7 @@
 -- The sum of a choice, made and compared by written arithmetic.
 use Rattle.std.specs.Prelude.{ℕ, List, Option, pos}
-use Rattle.mdp_math.specs.Rational.{ℚ, of_int}
-use Rattle.mdp_math.specs.Written.{◌>>=◌}
-use Rattle.mdp_spec.specs.Mdp.{Mdp, row_at}
-use Rattle.mdp_spec.specs.Written.{written_sum}
+use Rattle.mdp_math.specs.{Rational.{ℚ, of_int}, Written.{◌>>=◌}}
+use Rattle.mdp_spec.specs.{Mdp.{Mdp, row_at}, Written.{written_sum}}
 use Rattle.mdp_rows.specs.declared.dir.Dir.{Dir}
 use Rattle.mdp_policy_iteration.specs.Candidates.{Best, judged}
 

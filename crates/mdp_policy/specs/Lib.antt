@@ -5,3 +5,6 @@ pub mod Answer
 pub mod Laws
 pub mod Spelling
 pub mod Text
+pub mod Chain
+pub mod Own
+pub mod ChainLaws

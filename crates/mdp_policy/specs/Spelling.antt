@@ -1,13 +1,9 @@
 -- The text of a policy's value.
 use Rattle.std.specs.Prelude.{ℕ, List, ◌++◌, Option, Some, None, decimal, codes}
-use Rattle.mdp_spec.specs.Mdp.{Mdp, states_of, value_at}
-use Rattle.mdp_spec.specs.Labels.{initial_of}
-use Rattle.mdp_rows.specs.declared.dir.Dir.{Dir}
-use Rattle.mdp_rows.specs.declared.dir.Dir.TheVariants.{Max, Min}
-use Rattle.mdp_text.specs.Heads.{init_by}
-use Rattle.mdp_text.specs.Spelling.{line, ◌␣◌, quoted, dir_text, states_text, init_text, value_lines, end_text}
-use Rattle.mdp_policy.specs.Written.{Answer}
-use Rattle.mdp_policy.specs.declared.value.Change.{Change}
+use Rattle.mdp_spec.specs.{Mdp.{Mdp, states_of, value_at}, Labels.{initial_of}}
+use Rattle.mdp_rows.specs.{declared.dir.Dir.{Dir}, declared.dir.Dir.TheVariants.{Max, Min}}
+use Rattle.mdp_text.specs.{Heads.{init_by}, Spelling.{line, ◌␣◌, quoted, dir_text, states_text, init_text, value_lines, end_text}}
+use Rattle.mdp_policy.specs.{Written.{Answer}, declared.value.Change.{Change}}
 
 abbrev pub version_text : List ℕ
 version_text = codes "mdp-value 1"

@@ -1,13 +1,9 @@
 -- The text of a policy, and reading it line by line: the choices, or the first line that breaks a rule. Each line is judged by its shape first,
 -- then by its numbers from left to right, then by what they count.
-use Rattle.std.specs.Prelude.{◌≡◌, ◌↔◌, ℕ, zero, suc, ◌<◌, ◌≤◌, ◌^◌, not, List, [], ◌∷◌, ◌++◌, length, drop, decimal, codes, Result, Ok, ◌==◌}
-use Rattle.std.specs.List.{All}
+use Rattle.std.specs.{Prelude.{◌≡◌, ◌↔◌, ℕ, zero, suc, ◌<◌, ◌≤◌, ◌^◌, not, List, [], ◌∷◌, ◌++◌, length, drop, decimal, codes, Result, Ok, ◌==◌}, List.{All}}
 use Rattle.mdp_text.specs.declared.error.CertKind.TheVariants as kind
-use Rattle.mdp_text.specs.declared.error.Refusal.{Refusal}
-use Rattle.mdp_text.specs.Lines.{◌>>=◌, refuse_if, is_line, Place, place, line_by, nothing_behind}
-use Rattle.mdp_text.specs.Words.{first_of, words_behind, whole_at}
-use Rattle.mdp_text.specs.Spelling.{line, ◌␣◌, states_text, end_text}
-use Rattle.mdp_text.specs.Heads.{states_at}
+use Rattle.mdp_text.specs.{declared.error.Refusal.{Refusal}, Lines.{◌>>=◌, refuse_if, is_line, Place, place, line_by, nothing_behind}}
+use Rattle.mdp_text.specs.{Words.{first_of, words_behind, whole_at}, Spelling.{line, ◌␣◌, states_text, end_text}, Heads.{states_at}}
 
 -- ---- the text
 

@@ -2,20 +2,13 @@
 -- first state at which a choice is strictly better than the value, where there is one. It gives these, or says where the first term past width is.
 use Rattle.std.specs.Prelude.{ℕ, zero, suc, Bool, not, ◌&&◌, List, [], ◌∷◌, length, map, slice_index, slice_index_or, Option, Some, None, Result, Ok, if◌then◌else◌, pos}
 use Rattle.std.specs.List.{range_with_len}
-use Rattle.mdp_math.specs.Rational.{ℚ, of_int}
-use Rattle.mdp_math.specs.Result.{◌>>=◌}
-use Rattle.mdp_spec.specs.Mdp.{Mdp, states_of, choices_at, row_at, value_at}
-use Rattle.mdp_spec.specs.Tree.{is_marked}
-use Rattle.mdp_spec.specs.Written.{written_sum}
-use Rattle.mdp_rows.specs.declared.dir.Dir.{Dir}
-use Rattle.mdp_rows.specs.declared.dir.Dir.TheVariants.{Max, Min}
+use Rattle.mdp_math.specs.{Rational.{ℚ, of_int}, Result.{◌>>=◌}}
+use Rattle.mdp_spec.specs.{Mdp.{Mdp, states_of, choices_at, row_at, value_at}, Tree.{is_marked}, Written.{written_sum}}
+use Rattle.mdp_rows.specs.{declared.dir.Dir.{Dir}, declared.dir.Dir.TheVariants.{Max, Min}}
 use Rattle.mdp_elim.specs.Solve.{written_solution}
-use Rattle.mdp_policy_iteration.specs.Places.{Place, at_place, up_to}
-use Rattle.mdp_policy_iteration.specs.Candidates.{Best}
-use Rattle.mdp_policy_iteration.specs.Path.{outer, evaluating, comparing, placed}
+use Rattle.mdp_policy_iteration.specs.{Places.{Place, at_place, up_to}, Candidates.{Best}, Path.{outer, evaluating, comparing, placed}}
 use Rattle.mdp_reach.specs.Query.{policy_rows}
-use Rattle.mdp_policy.specs.Choices.{compared}
-use Rattle.mdp_policy.specs.declared.value.Change.{Change}
+use Rattle.mdp_policy.specs.{Choices.{compared}, declared.value.Change.{Change}}
 
 -- ---- evaluation. The marks are those of the states from which the policy can reach a goal
 

@@ -1,9 +1,7 @@
 ghost use Rattle.std.specs.Prelude.{◌≡◌, ◌<◌, length, Some, None, IfOk, IfErr};
 ghost use Rattle.mdp_spec.specs.Mdp.{states_of, choices_at};
-ghost use Rattle.mdp_policy.specs.Choices.{sum_of_choice, compared};
-ghost use Rattle.mdp_policy.specs.Written.{taken_at, change_at, best_of, first_change};
-ghost use Rattle.mdp_policy_iteration.specs.Faults.{Answers};
-ghost use Rattle.mdp_policy_iteration.specs.Code.{shown};
+ghost use Rattle.mdp_policy.specs.{Choices.{sum_of_choice, compared}, Written.{taken_at, change_at, best_of, first_change}};
+ghost use Rattle.mdp_policy_iteration.specs.{Faults.{Answers}, Code.{shown}};
 
 use crate::value::Change;
 use mdp_num::{Frac, Wide};

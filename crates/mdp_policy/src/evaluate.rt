@@ -1,7 +1,5 @@
-ghost use Rattle.std.specs.Prelude.{ℕ, List, [], ◌∷◌, ◌≡◌, ◌<◌, length, Ok, IfOk};
-ghost use Rattle.std.specs.Result.{result_ok};
-ghost use Rattle.mdp_spec.specs.Mdp.{states_of};
-ghost use Rattle.mdp_spec.specs.Tree.{IsPolicy};
+ghost use Rattle.std.specs.{Prelude.{ℕ, List, [], ◌∷◌, ◌≡◌, ◌<◌, length, Ok, IfOk}, Result.{result_ok}};
+ghost use Rattle.mdp_spec.specs.{Mdp.{states_of}, Tree.{IsPolicy}};
 ghost use Rattle.mdp_elim.specs.System.{Leaves};
 ghost use Rattle.mdp_wide.specs.declared.too_wide.Kind.TheVariants.{Evaluate};
 ghost use Rattle.mdp_reach.specs.Query.{policy_rows};

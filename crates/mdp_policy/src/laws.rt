@@ -1,5 +1,4 @@
-ghost use Rattle.mdp_policy.specs.Laws.{HasOneValue};
-ghost use Rattle.mdp_policy.specs.Text.{IsReadFromText, IsReadBack};
+ghost use Rattle.mdp_policy.specs.{Laws.{HasOneValue}, Text.{IsReadFromText, IsReadBack}};
 
 /// A policy has one list of values at most.
 pub fn value_law()

@@ -1,6 +1,5 @@
 ghost use Rattle.std.specs.Prelude.{◌≡◌, ◌<◌, ◌++◌, codes, OnOk};
-ghost use Rattle.mdp_text.specs.Answer.{Keeps};
-ghost use Rattle.mdp_text.specs.Spelling.{line, dir_text};
+ghost use Rattle.mdp_text.specs.{Answer.{Keeps}, Spelling.{line, dir_text}};
 ghost use Rattle.mdp_policy.specs.Spelling.{version_text, query_text, change_text, improve_text};
 
 use crate::value::Change;

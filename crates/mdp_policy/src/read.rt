@@ -1,7 +1,5 @@
 ghost use Rattle.std.specs.Prelude.{◌≡◌, ◌+◌, ◌<◌, ◌≤◌, ◌^◌, Ok, IfOk, IfErr, MatchResult};
-ghost use Rattle.mdp_text.specs.Answer.{Refuses};
-ghost use Rattle.mdp_text.specs.Lines.{place, nothing_behind};
-ghost use Rattle.mdp_text.specs.Heads.{states_at};
+ghost use Rattle.mdp_text.specs.{Answer.{Refuses}, Lines.{place, nothing_behind}, Heads.{states_at}};
 ghost use Rattle.mdp_policy.specs.Text.{choose_at, choices_from, policy_outcome};
 
 use mdp_text::{

@@ -1,13 +1,9 @@
 ghost use Rattle.std.specs.Prelude.{◌≡◌, ℕ, List, length, IfOk, Some, None};
-ghost use Rattle.mdp_spec.specs.Mdp.{states_of};
-ghost use Rattle.mdp_spec.specs.Tree.{IsPolicy};
-ghost use Rattle.mdp_spec.specs.Bounds.{ReachMax};
+ghost use Rattle.mdp_spec.specs.{Mdp.{states_of}, Tree.{IsPolicy}, Bounds.{ReachMax}};
 ghost use Rattle.mdp_elim.specs.System.{Leaves};
 ghost use Rattle.mdp_reach.specs.Query.{policy_rows};
-ghost use Rattle.mdp_policy.specs.Bounds.{PolicyBound, SomeTreePasses, DeepTreesStayBelow};
-ghost use Rattle.mdp_policy.specs.Written.{under_way, written_value};
+ghost use Rattle.mdp_policy.specs.{Bounds.{PolicyBound, SomeTreePasses, DeepTreesStayBelow}, Written.{under_way, written_value}, Answer.{Gives, plain, Named}};
 ghost use Rattle.mdp_policy_iteration.specs.Faults.{Answers};
-ghost use Rattle.mdp_policy.specs.Answer.{Gives, plain, Named};
 
 use crate::compare::Comparison;
 use crate::evaluate::Evaluation;

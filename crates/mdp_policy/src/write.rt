@@ -1,8 +1,7 @@
 ghost use Rattle.std.specs.Prelude.{◌≡◌, ◌++◌, length, OnOk, OnErr};
 ghost use Rattle.mdp_spec.specs.Mdp.{states_of};
 ghost use Rattle.mdp_text.specs.Answer.{Keeps};
-ghost use Rattle.mdp_policy.specs.Spelling.{head_text, changes_text, value_text};
-ghost use Rattle.mdp_policy.specs.Answer.{plain};
+ghost use Rattle.mdp_policy.specs.{Spelling.{head_text, changes_text, value_text}, Answer.{plain}};
 
 use crate::push::{push_improve, push_query, push_version};
 use crate::value::PolicyValue;

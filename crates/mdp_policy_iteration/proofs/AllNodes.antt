@@ -1,9 +1,7 @@
 -- The list of all nodes.
 use Rattle.std.proofs.Common.{◌≡◌, ℕ, ◌<◌, true, List, get_or, sym, ◌∙◌, ap, subst, zero-add, arith}
-use Rattle.std.specs.List.{All, range_with_len}
-use Rattle.std.specs.Prelude.{◌==◌}
-use Rattle.std.proofs.lemmas.List.FromFn.{get_or-range_with_len, length-range_with_len}
-use Rattle.std.proofs.lemmas.List.Folds.{list_any_at}
+use Rattle.std.proofs.{lemmas.List.FromFn.{get_or-range_with_len, length-range_with_len}, lemmas.List.Folds.{list_any_at}}
+use Rattle.std.specs.{List.{All, range_with_len}, Prelude.{◌==◌}}
 use Rattle.mdp_math.proofs.Numbers.{eqb-same}
 use Rattle.mdp_rows.specs.Preds.{is_among}
 use Rattle.mdp_policy_iteration.specs.Changes.{Ascend}

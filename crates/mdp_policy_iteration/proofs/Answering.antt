@@ -2,17 +2,13 @@
 use Rattle.std.proofs.Common.{◌≡◌, ℕ, zero, suc, ◌<◌, ◌≤◌, ◌⊎◌, inl, inr, List, [], ◌∷◌, ◌++◌}
 use Rattle.std.proofs.Common.{length, Option, Some, None, Result, Ok, Err, refl, sym, ◌∙◌, ap, subst, arith}
 use Rattle.std.specs.Result.{result_ok}
-use Rattle.mdp_math.specs.Rational.{ℚ}
-use Rattle.mdp_math.specs.Result.{◌>>=◌}
-use Rattle.mdp_policy_iteration.specs.Problem.{Problem, choices_at, choice_at, active_of, taken}
-use Rattle.mdp_policy_iteration.specs.Candidates.{Best, compared}
+use Rattle.mdp_math.specs.{Rational.{ℚ}, Result.{◌>>=◌}}
+use Rattle.mdp_policy_iteration.specs.{Problem.{Problem, choices_at, choice_at, active_of, taken}, Candidates.{Best, compared}}
 use Rattle.mdp_policy_iteration.specs.Path.{boundary, constant_by, evaluating, constant, comparing, then_compared, best_of, improvement}
+use Rattle.mdp_policy_iteration.specs.{Places.{Place, at_place, up_to}, Faults.{placed_at, Says, Answers}, Errors.{RoundError}}
 use Rattle.mdp_math.proofs.Numbers.{last_or}
 use Rattle.mdp_num.specs.declared.errors.Wide.{Wide}
 use Rattle.mdp_wide.specs.declared.too_wide.Kind.{Kind}
-use Rattle.mdp_policy_iteration.specs.Places.{Place, at_place, up_to}
-use Rattle.mdp_policy_iteration.specs.Faults.{placed_at, Says, Answers}
-use Rattle.mdp_policy_iteration.specs.Errors.{RoundError}
 use Rattle.mdp_wide.specs.declared.unfinished.Unfinished.TheVariants as fault
 
 module _ {A R : Type 0} (f : ℕ → Result A R) where

@@ -1,30 +1,16 @@
 -- The chain of a policy: its rows and its active nodes, node by node, and a weight that shrinks where the policy leaves them.
 use Rattle.std.proofs.Common.{◌≡◌, ℕ, suc, ◌<◌, ◌≤◌, ◌⊎◌, inl, inr, Bool, true, false, List, [], ◌∷◌, length, refl, sym, ◌∙◌, ap, subst, arith, pos, zero-add, rules}
-use Rattle.std.specs.List.{All, Any}
-use Rattle.std.specs.Prelude.{slice_index, slice_index_or}
-use Rattle.std.proofs.Math.ListN.{get_or-eq_default}
-use Rattle.std.proofs.lemmas.List.FromFn.{get_or-map-range_with_len, length-map-range_with_len}
-use Rattle.std.proofs.lemmas.List.Elements.{All-nil, All-cons}
-use Rattle.std.proofs.lemmas.List.{get_or_default}
-use Rattle.mdp_math.specs.Rational.{ℚ, of_int, ◌+ℚ◌, ◌≤ℚ◌, ◌<ℚ◌}
-use Rattle.mdp_math.specs.Sum.{sum_of}
-use Rattle.mdp_math.specs.Kernel.{weigh}
-use Rattle.mdp_math.proofs.Ring.{◌⊕◌, lit, ring}
-use Rattle.mdp_math.proofs.Laws.{rat_ring}
-use Rattle.mdp_math.proofs.Numbers.{le_or}
-use Rattle.mdp_math.proofs.Whole.{one-pos}
-use Rattle.mdp_math.proofs.Order.{0ℚ, 1ℚ, ≤ℚ_trans, ≤ℚ_of_lt, ≤ℚ_of_eq}
-use Rattle.mdp_math.proofs.Floors.{ForSmall, small_for_below, positive_floor, greatest_rank}
-use Rattle.mdp_math.proofs.Kernel.{Any-and}
-use Rattle.mdp_math.proofs.Weight.{Shrinks, shrinks_by_ranks}
-use Rattle.mdp_spec.specs.Mdp.{Entry, value_at}
-use Rattle.mdp_spec.specs.Row.{IsRow, AreRows, row_sum}
-use Rattle.mdp_elim.specs.System.{is_active, row_of}
-use Rattle.mdp_elim.specs.Laws.{LeavingChain}
+use Rattle.std.proofs.{Math.ListN.{get_or-eq_default}, lemmas.List.FromFn.{get_or-map-range_with_len, length-map-range_with_len}}
+use Rattle.std.proofs.{lemmas.List.Elements.{All-nil, All-cons}, lemmas.List.{get_or_default}}
+use Rattle.std.specs.{List.{All, Any}, Prelude.{slice_index, slice_index_or}}
+use Rattle.mdp_math.specs.{Rational.{ℚ, of_int, ◌+ℚ◌, ◌≤ℚ◌, ◌<ℚ◌}, Sum.{sum_of}, Kernel.{weigh}}
+use Rattle.mdp_math.proofs.{Ring.{◌⊕◌, lit, ring}, Laws.{rat_ring}, Numbers.{le_or}, Whole.{one-pos}, Order.{0ℚ, 1ℚ, ≤ℚ_trans, ≤ℚ_of_lt, ≤ℚ_of_eq}}
+use Rattle.mdp_math.proofs.{Floors.{ForSmall, small_for_below, positive_floor, greatest_rank}, Kernel.{Any-and}, Weight.{Shrinks, shrinks_by_ranks}}
+use Rattle.mdp_spec.specs.{Mdp.{Entry, value_at}, Row.{IsRow, AreRows, row_sum}}
+use Rattle.mdp_elim.specs.{System.{is_active, row_of}, Laws.{LeavingChain}}
 use Rattle.mdp_policy_iteration.specs.Problem.{Problem, Node, given, decision, Move, stop, go, no_choice, count, node_at, choices_at, choices_of}
 use Rattle.mdp_policy_iteration.specs.Problem.{goes_on, amount, row_from, move_by, taken, active_of, rows_of, LeadsWithin, IsProblem, IsCandidate, IsPolicy, worth}
-use Rattle.mdp_policy_iteration.specs.Values.{CanLeave}
-use Rattle.mdp_policy_iteration.specs.Code.{CanTake}
+use Rattle.mdp_policy_iteration.specs.{Values.{CanLeave}, Code.{CanTake}}
 use Rattle.mdp_policy_iteration.proofs.Turned.{turn, turn-add, turn-row}
 
 -- the target and the probability of an entry

@@ -1,12 +1,9 @@
 -- The choice that improves a node is one of its choices.
 use Rattle.std.proofs.Common.{◌≡◌, ℕ, zero, suc, ◌<◌, Bool, true, false, if◌then◌else◌, List, length, Option, Some, None, Ok, subst, arith}
-use Rattle.mdp_math.specs.Rational.{ℚ}
-use Rattle.mdp_math.specs.Written.{written_compare, ◌>>=◌}
-use Rattle.mdp_policy_iteration.specs.Problem.{Problem, choices_at, choice_at}
-use Rattle.mdp_policy_iteration.specs.Candidates.{Best, judged, compared}
+use Rattle.mdp_math.specs.{Rational.{ℚ}, Written.{written_compare, ◌>>=◌}}
+use Rattle.mdp_policy_iteration.specs.{Problem.{Problem, choices_at, choice_at}, Candidates.{Best, judged, compared}}
 use Rattle.mdp_policy_iteration.specs.Path.{comparing, then_compared, best_of, improvement}
-use Rattle.mdp_policy_iteration.proofs.Results.{ok_same, ok_part, place_part}
-use Rattle.mdp_policy_iteration.proofs.Compares.{some_part}
+use Rattle.mdp_policy_iteration.proofs.{Results.{ok_same, ok_part, place_part}, Compares.{some_part}}
 use Rattle.mdp_rows.specs.Better.{is_better}
 
 -- a choice below n, where there is one

@@ -1,19 +1,14 @@
 -- Changes of a policy that are collected one node after another.
 use Rattle.std.proofs.Common.{◌≡◌, ◌≢◌, inl, inr, ℕ, zero, suc, ◌+◌, ◌<◌, ◌≤◌, ◌==◌, false, List, [], ◌∷◌, ◌++◌, length, map}
 use Rattle.std.proofs.Common.{slice_index, get_or, Option, Some, None, Result, Ok, Err, if◌then◌else◌, refl, sym, ◌∙◌, ap, subst, arith, eq-eqb, length-append}
+use Rattle.std.proofs.{lemmas.Bool.{cases_eq, ne_eqb}, lemmas.List.{get_or-map, get_or_append_left}, lemmas.List.Elements.{All-append, All-cons}}
+use Rattle.std.proofs.{lemmas.List.FromFn.{map-range_with_len_more}, Math.Seq.{get_or-append_seam}}
 use Rattle.std.specs.List.{All, range_with_len}
-use Rattle.std.proofs.lemmas.Bool.{cases_eq, ne_eqb}
-use Rattle.std.proofs.lemmas.List.{get_or-map, get_or_append_left}
-use Rattle.std.proofs.lemmas.List.Elements.{All-append, All-cons}
 use Rattle.mdp_rows.proofs.Flat.RowsGrown.{all_one}
-use Rattle.std.proofs.lemmas.List.FromFn.{map-range_with_len_more}
-use Rattle.std.proofs.Math.Seq.{get_or-append_seam}
-use Rattle.mdp_rows.specs.Preds.{is_among}
+use Rattle.mdp_rows.specs.{Preds.{is_among}, declared.preds.Pred.{Pred}}
 use Rattle.mdp_elim.proofs.Others.{not-among}
-use Rattle.mdp_rows.specs.declared.preds.Pred.{Pred}
 use Rattle.mdp_math.proofs.Numbers.{last_or}
-use Rattle.mdp_policy_iteration.specs.Places.{Place, up_to}
-use Rattle.mdp_policy_iteration.specs.Changes.{change_at, spread, Ascend, nodes_of}
+use Rattle.mdp_policy_iteration.specs.{Places.{Place, up_to}, Changes.{change_at, spread, Ascend, nodes_of}}
 use Rattle.mdp_policy_iteration.proofs.Answering.{up_to-more, up_to-refused}
 
 -- ---- the choice of a node among changes

@@ -2,23 +2,14 @@
 -- candidate is better than it; where none improves a node, no candidate is better than its value.
 use Rattle.std.proofs.Common.{◌≡◌, ℕ, zero, suc, ◌<◌, ◌≤◌, inl, inr, Bool, true, false, if◌then◌else◌, List, []}
 use Rattle.std.proofs.Common.{◌∷◌, length, get_or, Option, Some, None, Ok, refl, sym, ◌∙◌, ap, subst, arith, pos}
-use Rattle.mdp_math.specs.Rational.{ℚ, ◌+ℚ◌, ◌≤ℚ◌, ◌<ℚ◌}
-use Rattle.mdp_math.specs.Written.{written_add, written_mul, written_compare, cmp_ℚ, ◌>>=◌}
-use Rattle.mdp_math.proofs.Written.{written_add-some, written_mul-some, written_compare-some}
-use Rattle.mdp_math.proofs.Ring.{◌⊕◌, ◌⊗◌, lit, ring}
-use Rattle.mdp_math.proofs.Laws.{rat_ring}
-use Rattle.mdp_math.proofs.Linear.{combine, equal}
-use Rattle.mdp_math.proofs.Order.{≤ℚ_trans, ≤ℚ_of_lt, ≤ℚ_of_eq, ≤ℚ-<ℚ_trans}
-use Rattle.mdp_math.proofs.Numbers.{last_or}
-use Rattle.mdp_spec.specs.Mdp.{Entry, value_at}
-use Rattle.mdp_spec.specs.Row.{row_sum}
-use Rattle.mdp_spec.specs.Written.{written_sum}
+use Rattle.mdp_math.specs.{Rational.{ℚ, ◌+ℚ◌, ◌≤ℚ◌, ◌<ℚ◌}, Written.{written_add, written_mul, written_compare, cmp_ℚ, ◌>>=◌}}
+use Rattle.mdp_math.proofs.{Written.{written_add-some, written_mul-some, written_compare-some}, Ring.{◌⊕◌, ◌⊗◌, lit, ring}, Laws.{rat_ring}}
+use Rattle.mdp_math.proofs.{Linear.{combine, equal}, Order.{≤ℚ_trans, ≤ℚ_of_lt, ≤ℚ_of_eq, ≤ℚ-<ℚ_trans}, Numbers.{last_or}}
+use Rattle.mdp_spec.specs.{Mdp.{Entry, value_at}, Row.{row_sum}, Written.{written_sum}}
 use Rattle.mdp_policy_iteration.specs.Problem.{Problem, Move, stop, go, Choice, count, choices_at, choice_at, worth, written_worth, IsProblem}
+use Rattle.mdp_policy_iteration.specs.{Candidates.{Best, judged, compared}, Path.{comparing, then_compared, best_of, improvement, improvements}}
 use Rattle.mdp_rows.specs.Better.{is_better}
-use Rattle.mdp_policy_iteration.specs.Candidates.{Best, judged, compared}
-use Rattle.mdp_policy_iteration.specs.Path.{comparing, then_compared, best_of, improvement, improvements}
-use Rattle.mdp_policy_iteration.proofs.Turned.{turn, better_of_test, worse_of_test}
-use Rattle.mdp_policy_iteration.proofs.Results.{ok_same, ok_part, place_part, IsUpTo, up_to-is}
+use Rattle.mdp_policy_iteration.proofs.{Turned.{turn, better_of_test, worse_of_test}, Results.{ok_same, ok_part, place_part, IsUpTo, up_to-is}}
 
 -- ---- a sum that is told is exact
 

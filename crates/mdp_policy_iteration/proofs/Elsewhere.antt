@@ -1,24 +1,18 @@
 -- Two policies that differ at some nodes alone, to which no other node leads: the other nodes keep their rows, their constants and their equations.
 use Rattle.std.proofs.Common.{◌≡◌, ℕ, ◌<◌, inl, inr, Bool, true, false, not, if◌then◌else◌, List, [], ◌∷◌, length, get_or}
-use Rattle.std.proofs.Common.{Option, Some, None, refl, sym, ◌∙◌, ap, ap₂, subst, arith, zero-add, pos}
-use Rattle.std.specs.List.{All}
-use Rattle.std.proofs.lemmas.List.{get_or_past}
+use Rattle.std.proofs.{Common.{Option, Some, None, refl, sym, ◌∙◌, ap, ap₂, subst, arith, zero-add, pos}, lemmas.List.{get_or_past}}
 use Rattle.std.proofs.lemmas.List.Elements.{All-nil, All-head, All-tail, All-weaker, All-filter}
 use Rattle.std.proofs.lemmas.List.FromFn.{get_or-map-range_with_len, length-map-range_with_len}
-use Rattle.mdp_math.specs.Rational.{ℚ, of_int}
-use Rattle.mdp_math.specs.Written.{written_add, written_mul, ◌>>=◌}
+use Rattle.std.specs.List.{All}
+use Rattle.mdp_math.specs.{Rational.{ℚ, of_int}, Written.{written_add, written_mul, ◌>>=◌}}
 use Rattle.mdp_math.proofs.Numbers.{le_or}
 use Rattle.mdp_wide.specs.declared.too_wide.Kind.TheVariants.{Evaluate}
-use Rattle.mdp_spec.specs.Mdp.{Entry, value_at}
-use Rattle.mdp_spec.specs.Written.{written_sum}
+use Rattle.mdp_spec.specs.{Mdp.{Entry, value_at}, Written.{written_sum}}
 use Rattle.mdp_rows.specs.Preds.{is_among}
-use Rattle.mdp_elim.specs.Equation.{Equation, no_equation}
-use Rattle.mdp_elim.specs.Predecessors.{at}
-use Rattle.mdp_elim.specs.System.{is_active, row_of, inner, equation_of}
+use Rattle.mdp_elim.specs.{Equation.{Equation, no_equation}, Predecessors.{at}, System.{is_active, row_of, inner, equation_of}}
 use Rattle.mdp_elim.specs.Kept as elimination
 use Rattle.mdp_policy_iteration.specs.Problem.{Problem, Move, stop, go, count, node_at, goes_on, row_from, move_by, fits_by, taken, active_of, rows_of}
-use Rattle.mdp_policy_iteration.specs.Places.{Place, at_place}
-use Rattle.mdp_policy_iteration.specs.Path.{fits, stop_value, boundary, outer, constant_by, constant}
+use Rattle.mdp_policy_iteration.specs.{Places.{Place, at_place}, Path.{fits, stop_value, boundary, outer, constant_by, constant}}
 use Rattle.mdp_policy_iteration.specs.Evaluated.{equations_of, DifferAt}
 use Rattle.mdp_policy_iteration.proofs.Chain.{row-at, active-at, rows-len, active-len}
 

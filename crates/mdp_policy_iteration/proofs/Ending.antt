@@ -1,25 +1,19 @@
 -- Policy iteration ends, and ends at a best policy. With each next policy the number of policies that are better than the present one falls: those
 -- whose values by exact elimination are at least as good everywhere, and better somewhere.
 use Rattle.std.proofs.Common.{◌≡◌, ℕ, suc, ◌+◌, ◌<◌, inl, inr, true, List, length, get_or, Option, None, refl, sym, ◌∙◌, ap, subst, arith}
-use Rattle.std.specs.Option.{is_some}
-use Rattle.std.specs.Prelude.{slice_index}
-use Rattle.std.proofs.lemmas.List.Folds.{Any-from_list_any}
-use Rattle.std.proofs.lemmas.List.{get_or_default}
+use Rattle.std.proofs.{lemmas.List.Folds.{Any-from_list_any}, lemmas.List.{get_or_default}}
+use Rattle.std.specs.{Option.{is_some}, Prelude.{slice_index}}
 use Rattle.mdp_math.specs.Rational.{ℚ, ◌≤ℚ◌, ◌<ℚ◌}
 use Rattle.mdp_math.proofs.Order.{≤ℚ_trans, ≤ℚ_of_eq}
 use Rattle.mdp_spec.specs.Mdp.{value_at}
 use Rattle.mdp_elim.specs.Laws.{GivesSolutions}
 use Rattle.mdp_policy_iteration.specs.Iteration.{next, done}
 use Rattle.mdp_policy_iteration.specs.Problem.{Problem, Node, given, decision, count, node_at, choice_at, worth, IsProblem, IsCandidate, IsPolicy}
-use Rattle.mdp_policy_iteration.specs.Values.{IsValue, CanLeave, KeepsLeaving}
-use Rattle.mdp_policy_iteration.specs.Path.{Round, Found, improved, path_step}
+use Rattle.mdp_policy_iteration.specs.{Values.{IsValue, CanLeave, KeepsLeaving}, Path.{Round, Found, improved, path_step}}
 use Rattle.mdp_policy_iteration.specs.Laws.{IsSolvable, Improves, IsBestFrom, first, HasOneValue, EvaluatesExactly, StepsImprove, HasOneEnd, EndsAtBest}
-use Rattle.mdp_policy_iteration.proofs.Iterations.{one_end, has_end, holds_at_end}
-use Rattle.mdp_policy_iteration.proofs.Products.{number, number-lt, within_from}
-use Rattle.mdp_policy_iteration.proofs.Ordered.{less_all, less_all-after, less_all-own, less_all-from}
-use Rattle.mdp_policy_iteration.proofs.Turned.{turn, as_good_turned, better_turned}
-use Rattle.mdp_policy_iteration.proofs.Compares.{IsImprovement, AreImprovements, improvements-are}
-use Rattle.mdp_policy_iteration.proofs.Exact.{exact, exact-is, one_value, written-exact}
+use Rattle.mdp_policy_iteration.proofs.{Iterations.{one_end, has_end, holds_at_end}, Products.{number, number-lt, within_from}}
+use Rattle.mdp_policy_iteration.proofs.{Ordered.{less_all, less_all-after, less_all-own, less_all-from}, Turned.{turn, as_good_turned, better_turned}}
+use Rattle.mdp_policy_iteration.proofs.{Compares.{IsImprovement, AreImprovements, improvements-are}, Exact.{exact, exact-is, one_value, written-exact}}
 use Rattle.mdp_policy_iteration.proofs.Improving.{after-is, given-kept, leaves_again, not_worse, better_at}
 use Rattle.mdp_policy_iteration.proofs.Stepping.{GoesOn, goes_on, is_done, some_at, none_taken}
 

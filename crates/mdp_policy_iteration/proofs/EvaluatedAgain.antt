@@ -1,21 +1,18 @@
 -- What is kept of the evaluation of a policy, at the nodes that are not evaluated again.
 use Rattle.std.proofs.Common.{◌≡◌, ℕ, ◌<◌, inl, inr, Bool, true, false, List, ◌++◌, length, take, drop, Result, Ok, Err, refl, sym, ◌∙◌, ap, subst, arith, pos, zero-add}
-use Rattle.std.specs.Result.{IfErr}
-use Rattle.std.proofs.lemmas.Bool.{true≢false}
-use Rattle.std.proofs.lemmas.List.{get_or_past, drop_all, append-nil, take_all}
+use Rattle.std.proofs.{lemmas.Bool.{true≢false}, lemmas.List.{get_or_past, drop_all, append-nil, take_all}}
 use Rattle.std.proofs.lemmas.List.FromFn.{get_or-map-range_with_len, length-map-range_with_len}
+use Rattle.std.specs.Result.{IfErr}
 use Rattle.mdp_math.specs.Rational.{ℚ, of_int}
 use Rattle.mdp_math.proofs.Numbers.{le_or}
 use Rattle.mdp_spec.specs.Mdp.{value_at}
 use Rattle.mdp_rows.specs.Preds.{is_among}
 use Rattle.mdp_elim.specs.System.{is_active}
 use Rattle.mdp_elim.specs.Kept as elimination
-use Rattle.mdp_policy_iteration.specs.Problem.{Problem, Move, stop, go, count, goes_on, taken}
-use Rattle.mdp_policy_iteration.specs.Places.{up_to}
+use Rattle.mdp_policy_iteration.specs.{Problem.{Problem, Move, stop, go, count, goes_on, taken}, Places.{up_to}}
 use Rattle.mdp_policy_iteration.specs.Path.{fits, stop_value, constant, filled_by, filled}
 use Rattle.mdp_policy_iteration.specs.Evaluated.{Evaluation, equations_of, IsEvaluated, DifferAt, CanServe}
-use Rattle.mdp_policy_iteration.proofs.Chain.{active-at}
-use Rattle.mdp_policy_iteration.proofs.Results.{ok_same, IsUpTo, up_to-is}
+use Rattle.mdp_policy_iteration.proofs.{Chain.{active-at}, Results.{ok_same, IsUpTo, up_to-is}}
 use Rattle.mdp_policy_iteration.proofs.Elsewhere.{taken-same, fits-same, constant-same, equations-len, equations-differ}
 
 -- a slice that was written back

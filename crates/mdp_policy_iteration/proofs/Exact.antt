@@ -1,32 +1,17 @@
 -- The exact values of a policy: where it leaves its active nodes they exist, there is only one list of them, and written evaluation gives it.
 use Rattle.std.proofs.Common.{◌≡◌, ℕ, ◌<◌, ◌≤◌, ◌⊎◌, inl, inr, Bool, true, false, not, if◌then◌else◌, List, [], ◌∷◌}
 use Rattle.std.proofs.Common.{length, map, Some, Result, Ok, Err, refl, sym, ◌∙◌, ap, ap₂, subst, arith, pos, negsuc, zero-add}
-use Rattle.std.specs.List.{range_with_len}
-use Rattle.std.specs.Prelude.{slice_index_or}
-use Rattle.std.proofs.Math.ListN.{get_or-eq_default}
-use Rattle.std.proofs.lemmas.List.FromFn.{get_or-map-range_with_len, length-map-range_with_len, fill_by_all}
-use Rattle.mdp_math.specs.Rational.{ℚ, ◌+ℚ◌, ◌*ℚ◌, ◌≤ℚ◌}
-use Rattle.mdp_math.specs.Kernel.{weigh}
-use Rattle.mdp_math.specs.Pivot.{active_below, entry_at, solution}
-use Rattle.mdp_math.proofs.Ring.{◌⊕◌, ◌⊗◌, ⊖, lit, ring}
-use Rattle.mdp_math.proofs.Laws.{rat_ring}
-use Rattle.mdp_math.proofs.Linear.{combine, equal}
-use Rattle.mdp_math.proofs.Numbers.{le_or}
-use Rattle.mdp_math.proofs.Order.{0ℚ, ≤ℚ_of_eq, ≤ℚ_antisymm}
-use Rattle.mdp_math.proofs.Kernel.{weigh-same, weigh-add}
-use Rattle.mdp_math.proofs.Solutions.{Solves, le_of_rows}
-use Rattle.mdp_math.proofs.Elimination.{kernel_solution}
-use Rattle.mdp_spec.specs.Mdp.{Entry, value_at}
-use Rattle.mdp_spec.specs.Row.{row_sum}
-use Rattle.mdp_elim.specs.System.{is_active, row_of, IsSolution, SolveEach}
-use Rattle.mdp_elim.specs.Solve.{written_solution}
-use Rattle.mdp_elim.specs.Laws.{GivesSolutions}
+use Rattle.std.proofs.{Math.ListN.{get_or-eq_default}, lemmas.List.FromFn.{get_or-map-range_with_len, length-map-range_with_len, fill_by_all}}
+use Rattle.std.specs.{List.{range_with_len}, Prelude.{slice_index_or}}
+use Rattle.mdp_math.specs.{Rational.{ℚ, ◌+ℚ◌, ◌*ℚ◌, ◌≤ℚ◌}, Kernel.{weigh}, Pivot.{active_below, entry_at, solution}}
+use Rattle.mdp_math.proofs.{Ring.{◌⊕◌, ◌⊗◌, ⊖, lit, ring}, Laws.{rat_ring}, Linear.{combine, equal}, Numbers.{le_or}, Order.{0ℚ, ≤ℚ_of_eq, ≤ℚ_antisymm}}
+use Rattle.mdp_math.proofs.{Kernel.{weigh-same, weigh-add}, Solutions.{Solves, le_of_rows}, Elimination.{kernel_solution}}
+use Rattle.mdp_spec.specs.{Mdp.{Entry, value_at}, Row.{row_sum}}
+use Rattle.mdp_elim.specs.{System.{is_active, row_of, IsSolution, SolveEach}, Solve.{written_solution}, Laws.{GivesSolutions}}
 use Rattle.mdp_policy_iteration.specs.Problem.{Problem, Move, stop, go, count, goes_on, amount, row_from, taken, active_of, rows_of, IsProblem, IsPolicy, worth}
-use Rattle.mdp_policy_iteration.specs.Values.{IsValue, CanLeave}
-use Rattle.mdp_policy_iteration.specs.Places.{up_to, all_pass}
+use Rattle.mdp_policy_iteration.specs.{Values.{IsValue, CanLeave}, Places.{up_to, all_pass}}
 use Rattle.mdp_policy_iteration.specs.Path.{fits, solved, values_of_rows, stop_value, boundary, outer, constant_by, evaluating, constant, placed, filled_by, filled, written_values}
-use Rattle.mdp_policy_iteration.proofs.Results.{ok_same, ok_part, place_part, IsUpTo, up_to-is}
-use Rattle.mdp_policy_iteration.proofs.Compares.{written_sum-is}
+use Rattle.mdp_policy_iteration.proofs.{Results.{ok_same, ok_part, place_part, IsUpTo, up_to-is}, Compares.{written_sum-is}}
 use Rattle.mdp_policy_iteration.proofs.Chain.{target, prob, row-at, active-at, active-below, goes_by, stops_by, row_active, chain-shrinks, leaving_chain}
 
 -- the entries to nodes that aren't active weigh as much as all, where the values are 0 at active nodes

@@ -1,19 +1,13 @@
 -- Paths, computed.
 use Rattle.std.proofs.Common.{◌≡◌, ◌^◌, List, [], ◌∷◌, true, Some, None, Result, Ok, Err, refl, pos}
-use Rattle.mdp_math.specs.Gcd.{gcd, gcd_with_fuel}
-use Rattle.mdp_math.specs.Rational.{of_int, ratio, ◌+ℚ◌, ◌*ℚ◌, neg_ℚ, inv_ℚ}
+use Rattle.mdp_math.specs.{Gcd.{gcd, gcd_with_fuel}, Rational.{of_int, ratio, ◌+ℚ◌, ◌*ℚ◌, neg_ℚ, inv_ℚ}}
 use Rattle.mdp_math.specs.Written.{written_add, written_mul, written_compare, narrow, narrow_ℚ}
 use Rattle.mdp_spec.proofs.Small.{entry, number}
-use Rattle.mdp_elim.specs.Elimination.{divided_rest, plus_equation, eliminated, evaluated}
-use Rattle.mdp_elim.specs.System.{equation_of}
+use Rattle.mdp_elim.specs.{Elimination.{divided_rest, plus_equation, eliminated, evaluated}, System.{equation_of}}
 use Rattle.mdp_wide.specs.declared.too_wide.Kind.TheVariants.{Evaluate}
-use Rattle.mdp_rows.specs.declared.dir.Dir.TheVariants.{Max, Min}
-use Rattle.mdp_rows.specs.declared.preds.Pred.{Pred}
-use Rattle.mdp_policy_iteration.specs.Iteration.{Step, iterated, next, done}
-use Rattle.mdp_policy_iteration.specs.Problem.{Problem, given, decision, Move, stop, go, Choice, plain}
-use Rattle.mdp_policy_iteration.specs.Path.{Round, Found, Refusal, path_step}
-use Rattle.mdp_policy_iteration.specs.Changes.{change_at, spread, nodes_of, step_by}
-use Rattle.mdp_policy_iteration.specs.Laws.{first}
+use Rattle.mdp_rows.specs.{declared.dir.Dir.TheVariants.{Max, Min}, declared.preds.Pred.{Pred}}
+use Rattle.mdp_policy_iteration.specs.{Iteration.{Step, iterated, next, done}, Problem.{Problem, given, decision, Move, stop, go, Choice, plain}}
+use Rattle.mdp_policy_iteration.specs.{Path.{Round, Found, Refusal, path_step}, Changes.{change_at, spread, nodes_of, step_by}, Laws.{first}}
 
 abbrev pub may : Move → Choice
 may m = plain true m

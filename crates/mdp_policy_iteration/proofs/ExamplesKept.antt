@@ -1,32 +1,19 @@
 -- Three nodes, computed: what a choice reads, what is kept of a policy's evaluation, and the scope of a change.
-use Rattle.std.proofs.Common.{◌≡◌, ◌⊎◌, inl, inr, ℕ, zero, suc, ◌<◌, List, [], ◌∷◌, true, false, Some, None, Ok, refl, arith}
-use Rattle.std.specs.List.{All}
-use Rattle.std.specs.Prelude.{slice_index}
-use Rattle.std.proofs.lemmas.Bool.{false≢true}
+use Rattle.std.proofs.{Common.{◌≡◌, ◌⊎◌, inl, inr, ℕ, zero, suc, ◌<◌, List, [], ◌∷◌, true, false, Some, None, Ok, refl, arith}, lemmas.Bool.{false≢true}}
 use Rattle.std.proofs.lemmas.List.Elements.{All-from_recursion}
-use Rattle.mdp_math.specs.Gcd.{gcd, gcd_with_fuel}
-use Rattle.mdp_math.specs.Rational.{of_int, ratio, ◌+ℚ◌, ◌*ℚ◌, neg_ℚ, inv_ℚ}
+use Rattle.std.specs.{List.{All}, Prelude.{slice_index}}
+use Rattle.mdp_math.specs.{Gcd.{gcd, gcd_with_fuel}, Rational.{of_int, ratio, ◌+ℚ◌, ◌*ℚ◌, neg_ℚ, inv_ℚ}}
 use Rattle.mdp_math.specs.Written.{written_add, written_mul, written_compare, narrow, narrow_ℚ}
 use Rattle.mdp_spec.specs.Mdp.{Entry, value_at}
 use Rattle.mdp_spec.proofs.Small.{entry, half, number}
-use Rattle.mdp_rows.specs.Preds.{is_among, pair}
-use Rattle.mdp_rows.specs.declared.dir.Dir.TheVariants.{Max}
-use Rattle.mdp_elim.specs.Equation.{Equation, no_equation}
-use Rattle.mdp_elim.specs.Elimination.{divided_rest, plus_equation, eliminated, evaluated}
-use Rattle.mdp_elim.specs.Entries.{Between}
-use Rattle.mdp_elim.specs.Predecessors.{at}
-use Rattle.mdp_elim.specs.System.{equation_of}
-use Rattle.mdp_elim.specs.Kept.{HasValue, solved_at}
+use Rattle.mdp_rows.specs.{Preds.{is_among, pair}, declared.dir.Dir.TheVariants.{Max}}
+use Rattle.mdp_elim.specs.{Equation.{Equation, no_equation}, Elimination.{divided_rest, plus_equation, eliminated, evaluated}, Entries.{Between}}
+use Rattle.mdp_elim.specs.{Predecessors.{at}, System.{equation_of}, Kept.{HasValue, solved_at}}
 use Rattle.mdp_elim.proofs.Others.{written_sum-agree}
-use Rattle.mdp_policy_iteration.specs.Problem.{Problem, given, decision, stop, go, choice_at, row_from, taken}
-use Rattle.mdp_policy_iteration.specs.Path.{fits, improvement}
-use Rattle.mdp_policy_iteration.specs.Reads.{IsGiven, Reads}
-use Rattle.mdp_policy_iteration.specs.ReadersOf.{AreReaders}
-use Rattle.mdp_policy_iteration.specs.Evaluated.{Evaluation, IsEvaluated, DifferAt, equations_of}
+use Rattle.mdp_policy_iteration.specs.{Problem.{Problem, given, decision, stop, go, choice_at, row_from, taken}, Path.{fits, improvement}}
+use Rattle.mdp_policy_iteration.specs.{Reads.{IsGiven, Reads}, ReadersOf.{AreReaders}, Evaluated.{Evaluation, IsEvaluated, DifferAt, equations_of}}
 use Rattle.mdp_policy_iteration.specs.Scope.{IsScope}
-use Rattle.mdp_policy_iteration.proofs.Reading.{reads-by}
-use Rattle.mdp_policy_iteration.proofs.AllNodes.{all-below, all-ascend}
-use Rattle.mdp_policy_iteration.proofs.Examples.{may}
+use Rattle.mdp_policy_iteration.proofs.{Reading.{reads-by}, AllNodes.{all-below, all-ascend}, Examples.{may}}
 
 -- node 0 goes to 1 and 2 with 1/2 each, or to 2; node 1 stops with 1/2, or goes to 2; node 2 is worth 1
 abbrev three : Problem

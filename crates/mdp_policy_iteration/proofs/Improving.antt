@@ -1,26 +1,17 @@
 -- One step of policy iteration in exact numbers: the improved policy takes candidates, it leaves its active nodes again, and its values are at
 -- least as good at each node and better at each node that was changed.
 use Rattle.std.proofs.Common.{◌≡◌, ℕ, suc, ◌<◌, ◌≤◌, ◌⊎◌, inl, inr, Bool, true, false, List, length, get_or, map, Option, Some, None, refl, sym, ◌∙◌, ap, subst, arith, zero-add}
-use Rattle.std.specs.List.{Any, range_with_len}
-use Rattle.std.specs.Prelude.{slice_index, slice_index_or}
-use Rattle.std.proofs.lemmas.List.FromFn.{get_or-map-range_with_len, length-map-range_with_len}
-use Rattle.std.proofs.Math.ListN.{get_or-eq_default}
-use Rattle.mdp_math.specs.Rational.{ℚ, ◌+ℚ◌, ◌≤ℚ◌, ◌<ℚ◌}
-use Rattle.mdp_math.specs.Kernel.{weigh}
-use Rattle.mdp_math.proofs.Order.{0ℚ, ≤ℚ_refl, ≤ℚ_trans, ≤ℚ_of_lt, ≤ℚ_of_eq, <ℚ-≤ℚ_trans, add-le-add_ℚ}
-use Rattle.mdp_math.proofs.Kernel.{Any-and, weigh-le}
-use Rattle.mdp_math.proofs.Floors.{greatest_rank}
-use Rattle.mdp_math.proofs.Numbers.{le_or}
-use Rattle.mdp_math.proofs.Solutions.{le_of_rows}
-use Rattle.mdp_spec.specs.Mdp.{Entry, value_at}
-use Rattle.mdp_spec.specs.Row.{IsRow, row_sum}
+use Rattle.std.proofs.{lemmas.List.FromFn.{get_or-map-range_with_len, length-map-range_with_len}, Math.ListN.{get_or-eq_default}}
+use Rattle.std.specs.{List.{Any, range_with_len}, Prelude.{slice_index, slice_index_or}}
+use Rattle.mdp_math.specs.{Rational.{ℚ, ◌+ℚ◌, ◌≤ℚ◌, ◌<ℚ◌}, Kernel.{weigh}}
+use Rattle.mdp_math.proofs.{Order.{0ℚ, ≤ℚ_refl, ≤ℚ_trans, ≤ℚ_of_lt, ≤ℚ_of_eq, <ℚ-≤ℚ_trans, add-le-add_ℚ}, Kernel.{Any-and, weigh-le}, Floors.{greatest_rank}}
+use Rattle.mdp_math.proofs.{Numbers.{le_or}, Solutions.{le_of_rows}}
+use Rattle.mdp_spec.specs.{Mdp.{Entry, value_at}, Row.{IsRow, row_sum}}
 use Rattle.mdp_elim.specs.System.{is_active, row_of}
 use Rattle.mdp_policy_iteration.specs.Problem.{Problem, Node, given, decision, Move, go, no_choice, count, node_at, choices_of, choices_at}
 use Rattle.mdp_policy_iteration.specs.Problem.{choice_at, goes_on, amount, row_from, move_by, taken, active_of, rows_of, IsProblem, IsCandidate, IsPolicy, worth}
-use Rattle.mdp_policy_iteration.specs.Values.{IsValue, CanLeave, EarnsNoGood, NoneHelps}
-use Rattle.mdp_policy_iteration.specs.Path.{or_kept, improved}
-use Rattle.mdp_policy_iteration.proofs.Turned.{turn, turn-zero, turn-add, turn-row, turn_as_good}
-use Rattle.mdp_policy_iteration.proofs.LeavesAgain.{next_rank, falls_again}
+use Rattle.mdp_policy_iteration.specs.{Values.{IsValue, CanLeave, EarnsNoGood, NoneHelps}, Path.{or_kept, improved}}
+use Rattle.mdp_policy_iteration.proofs.{Turned.{turn, turn-zero, turn-add, turn-row, turn_as_good}, LeavesAgain.{next_rank, falls_again}}
 use Rattle.mdp_policy_iteration.proofs.Compares.{IsImprovement, AreImprovements}
 use Rattle.mdp_policy_iteration.proofs.Chain.{target, prob, row-at, active-at, rows-len, active-below, goes_by, stops_by, row_active, chain-shrinks, sum-at}
 

@@ -4,16 +4,11 @@
 -- equals by rk. On a row of the next policy some entry leads to a smaller node: either to one of greater value; or, where there is none, what is
 -- weighed is at most v(s), so the node wasn't changed, all its entries lead to nodes of value v(s), and the old rank falls.
 use Rattle.std.proofs.Common.{◌≡◌, ℕ, suc, ◌+◌, ◌*◌, ◌<◌, ◌≤◌, ◌⊎◌, inl, inr, Bool, true, false, T, List, [], ◌∷◌, get_or, refl, sym, ap, subst, arith, pos}
-use Rattle.std.specs.List.{All, Any}
 use Rattle.std.proofs.lemmas.List.Elements.{All-nil, All-cons}
-use Rattle.mdp_math.proofs.Booleans.{true_of_T}
-use Rattle.mdp_math.specs.Rational.{ℚ, lt_ℚ, ◌+ℚ◌, ◌*ℚ◌, ◌≤ℚ◌, ◌<ℚ◌}
-use Rattle.mdp_math.specs.Sum.{sum_of}
-use Rattle.mdp_math.specs.Kernel.{weigh}
-use Rattle.mdp_math.proofs.Ring.{◌⊕◌, ◌⊗◌, lit}
-use Rattle.mdp_math.proofs.Linear.{linear, equal, known}
-use Rattle.mdp_math.proofs.Order.{0ℚ, 1ℚ, ≤ℚ_of_lt, ≤ℚ_or_gt, <ℚ_trans, <ℚ_irrefl, clash_ℚ}
-use Rattle.mdp_math.proofs.Kernel.{Any-and, weigh-le_const, weigh-reaches_greatest}
+use Rattle.std.specs.List.{All, Any}
+use Rattle.mdp_math.proofs.{Booleans.{true_of_T}, Ring.{◌⊕◌, ◌⊗◌, lit}, Linear.{linear, equal, known}}
+use Rattle.mdp_math.proofs.{Order.{0ℚ, 1ℚ, ≤ℚ_of_lt, ≤ℚ_or_gt, <ℚ_trans, <ℚ_irrefl, clash_ℚ}, Kernel.{Any-and, weigh-le_const, weigh-reaches_greatest}}
+use Rattle.mdp_math.specs.{Rational.{ℚ, lt_ℚ, ◌+ℚ◌, ◌*ℚ◌, ◌≤ℚ◌, ◌<ℚ◌}, Sum.{sum_of}, Kernel.{weigh}}
 use Rattle.mdp_policy_iteration.proofs.Counting.{count_below, count-lt, pair_lt}
 
 -- ---- the test of the strict order

@@ -1,19 +1,13 @@
 -- The choices of a problem, listed one after another by what they read.
 use Rattle.std.proofs.Common.{◌≡◌, inl, inr, ◌⊎◌, ℕ, ◌+◌, ◌<◌, ◌==◌, ◌&&◌, ◌||◌, true, List, [], length, refl, sym, ◌∙◌, ap, subst, arith, eq-eqb, true≢false}
+use Rattle.std.proofs.{lemmas.Bool.{cases_eq, eqb-true, or_cases}, lemmas.List.{get_or_past}}
 use Rattle.std.specs.List.{list_any}
-use Rattle.std.proofs.lemmas.Bool.{cases_eq, eqb-true, or_cases}
-use Rattle.std.proofs.lemmas.List.{get_or_past}
-use Rattle.mdp_math.proofs.Numbers.{le_or}
-use Rattle.mdp_math.proofs.Booleans.{and-left, and-right, and-both, or-true}
-use Rattle.mdp_rows.specs.Preds.{is_among}
-use Rattle.mdp_rows.specs.declared.preds.Pred.{Pred}
+use Rattle.mdp_math.proofs.{Numbers.{le_or}, Booleans.{and-left, and-right, and-both, or-true}}
+use Rattle.mdp_rows.specs.{Preds.{is_among}, declared.preds.Pred.{Pred}}
 use Rattle.mdp_readers.specs.Readers.{reads, is_choice}
-use Rattle.mdp_policy_iteration.specs.Problem.{Problem, count, choices_at}
-use Rattle.mdp_policy_iteration.specs.Reads.{Reads}
-use Rattle.mdp_policy_iteration.specs.ReadersOf.{AreReadersTo, IsBefore}
+use Rattle.mdp_policy_iteration.specs.{Problem.{Problem, count, choices_at}, Reads.{Reads}, ReadersOf.{AreReadersTo, IsBefore}}
 use Rattle.mdp_policy_iteration.proofs.Collected.{change}
-use Rattle.mdp_readers.proofs.Pushing.{IsPushed}
-use Rattle.mdp_readers.proofs.Tests.{all-among}
+use Rattle.mdp_readers.proofs.{Pushing.{IsPushed}, Tests.{all-among}}
 
 -- no choice reads a node past the end
 in_range : (readers : List (List Pred)) (s c v : ℕ) → reads readers s c v ≡ true → v < length readers

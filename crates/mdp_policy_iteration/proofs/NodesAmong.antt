@@ -1,8 +1,6 @@
 -- Nodes that are visited in turn: which nodes a list holds, and what holds so far of the nodes that were visited and of those that are not to be visited.
 use Rattle.std.proofs.Common.{◌≡◌, ◌⊎◌, inl, inr, ℕ, suc, ◌+◌, ◌<◌, ◌≤◌, ◌==◌, true, false, ◌||◌, List, [], ◌∷◌, length, take, get_or, sym, ◌∙◌, ap, subst}
-use Rattle.std.proofs.Common.{arith}
-use Rattle.std.proofs.Math.ListN.{set}
-use Rattle.std.proofs.lemmas.Bool.{eqb-true, false≢true, cases_Bool, cases_eq, ne_eqb}
+use Rattle.std.proofs.{Common.{arith}, Math.ListN.{set}, lemmas.Bool.{eqb-true, false≢true, cases_Bool, cases_eq, ne_eqb}}
 use Rattle.std.proofs.lemmas.List.{take_more, take_all, get_or-take, length-take-le, get_or-set_same, get_or-set_other, length-set}
 use Rattle.std.proofs.lemmas.List.Folds.{list_any-append}
 use Rattle.mdp_math.proofs.Booleans.{or-false}

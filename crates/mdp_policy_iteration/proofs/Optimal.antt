@@ -1,19 +1,14 @@
 -- A policy of which no candidate is better is as good as any that leaves its active nodes.
-use Rattle.std.proofs.Common.{◌≡◌, ℕ, ◌<◌, ◌≤◌, ◌⊎◌, inl, inr, false, List, length, refl, sym, ◌∙◌, ap, subst, arith}
+use Rattle.std.proofs.{Common.{◌≡◌, ℕ, ◌<◌, ◌≤◌, ◌⊎◌, inl, inr, false, List, length, refl, sym, ◌∙◌, ap, subst, arith}, Math.ListN.{get_or-eq_default}}
 use Rattle.std.specs.Prelude.{slice_index, slice_index_or}
-use Rattle.std.proofs.Math.ListN.{get_or-eq_default}
 use Rattle.mdp_math.specs.Rational.{ℚ, ◌≤ℚ◌}
-use Rattle.mdp_math.proofs.Order.{0ℚ, ≤ℚ_trans, ≤ℚ_of_eq}
-use Rattle.mdp_math.proofs.Numbers.{le_or}
-use Rattle.mdp_math.proofs.Solutions.{le_of_rows}
+use Rattle.mdp_math.proofs.{Order.{0ℚ, ≤ℚ_trans, ≤ℚ_of_eq}, Numbers.{le_or}, Solutions.{le_of_rows}}
 use Rattle.mdp_spec.specs.Mdp.{value_at}
 use Rattle.mdp_elim.specs.System.{is_active, row_of}
 use Rattle.mdp_policy_iteration.specs.Problem.{Problem, Node, given, decision, no_choice, count, node_at, choices_of, choices_at}
 use Rattle.mdp_policy_iteration.specs.Problem.{choice_at, amount, move_by, taken, active_of, rows_of, IsProblem, IsCandidate, IsPolicy, worth}
-use Rattle.mdp_policy_iteration.specs.Values.{IsValue, CanLeave}
-use Rattle.mdp_policy_iteration.specs.Laws.{IsBest, BestOfAll}
-use Rattle.mdp_policy_iteration.proofs.Turned.{turn, turn_as_good, as_good_turned}
-use Rattle.mdp_policy_iteration.proofs.Chain.{active-at, active-below, stops_by, chain-shrinks, sum-at}
+use Rattle.mdp_policy_iteration.specs.{Values.{IsValue, CanLeave}, Laws.{IsBest, BestOfAll}}
+use Rattle.mdp_policy_iteration.proofs.{Turned.{turn, turn_as_good, as_good_turned}, Chain.{active-at, active-below, stops_by, chain-shrinks, sum-at}}
 
 module _ (p : Problem) (policy other : List ℕ) (x y : List ℚ) (known : IsProblem p) (best : IsBest p policy x) (is : IsPolicy p other) (leaves : CanLeave p other) (value : IsValue p other y) where
   abbrev good : ℕ → ℚ

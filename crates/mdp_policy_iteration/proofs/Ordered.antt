@@ -1,10 +1,8 @@
 -- Whether one list of values is at most another at each of the first n nodes.
 use Rattle.std.proofs.Common.{◌≡◌, ℕ, zero, suc, ◌<◌, inl, inr, Bool, true, false, true≢false, not, ◌&&◌, refl, sym, ◌∙◌, ap, subst, arith}
-use Rattle.mdp_math.proofs.Booleans.{and-left, and-right, and-both, not_true, false_of_not}
+use Rattle.mdp_math.proofs.{Booleans.{and-left, and-right, and-both, not_true, false_of_not}, Order.{≤ℚ_refl, ≤ℚ_trans, clash_ℚ}}
+use Rattle.mdp_math.proofs.{Extremes.{le_of_test, test_of_le}, Numbers.{last_or}}
 use Rattle.mdp_math.specs.Rational.{ℚ, le_ℚ, ◌≤ℚ◌, ◌<ℚ◌}
-use Rattle.mdp_math.proofs.Order.{≤ℚ_refl, ≤ℚ_trans, clash_ℚ}
-use Rattle.mdp_math.proofs.Extremes.{le_of_test, test_of_le}
-use Rattle.mdp_math.proofs.Numbers.{last_or}
 
 abbrev pub le_all : (ℕ → ℚ) → (ℕ → ℚ) → ℕ → Bool
 le_all x y zero = true

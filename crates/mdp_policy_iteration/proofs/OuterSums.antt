@@ -1,14 +1,10 @@
 -- The written sum over the entries to nodes that aren't active, entry by entry.
 use Rattle.std.proofs.Common.{◌≡◌, ℕ, suc, ◌+◌, ◌<◌, Bool, true, false, not, if◌then◌else◌, List, ◌∷◌, length, drop, get_or, Option, Some, None, refl, sym, ◌∙◌, ap, ap₂, arith}
 use Rattle.std.proofs.Math.Seq.{drop-cons}
-use Rattle.mdp_math.specs.Rational.{ℚ}
-use Rattle.mdp_math.specs.Written.{written_add, written_mul, ◌>>=◌}
-use Rattle.mdp_spec.specs.Mdp.{Entry, value_at}
-use Rattle.mdp_spec.specs.Row.{entries}
-use Rattle.mdp_spec.specs.Written.{written_sum}
+use Rattle.mdp_math.specs.{Rational.{ℚ}, Written.{written_add, written_mul, ◌>>=◌}}
+use Rattle.mdp_spec.specs.{Mdp.{Entry, value_at}, Row.{entries}, Written.{written_sum}}
 use Rattle.mdp_elim.specs.System.{is_active}
-use Rattle.mdp_policy_iteration.specs.Path.{outer}
-use Rattle.mdp_policy_iteration.specs.Code.{plus_outer}
+use Rattle.mdp_policy_iteration.specs.{Path.{outer}, Code.{plus_outer}}
 
 pub entries_next : (ts : List ℕ) (ps : List ℚ) (i t : ℕ) (p : ℚ) → i < length ts → length ts ≡ length ps → t ≡ get_or ts i t → p ≡ get_or ps i p
     → entries (drop i ts) (drop i ps) ≡ (let x : Entry = record { target = t; prob = p } in x) ∷ entries (drop (i + 1) ts) (drop (i + 1) ps)

@@ -1,15 +1,13 @@
 -- What the worth of a choice depends on: a row that is lent leads to its targets, and a written sum depends on the values there.
 use Rattle.std.proofs.Common.{◌≡◌, ℕ, ◌<◌, inl, Bool, true, ◌||◌, ◌==◌, List, [], ◌∷◌, refl, sym, ◌∙◌, ap, subst, arith, eq-eqb}
-use Rattle.std.specs.List.{All, AllByRecursion}
 use Rattle.std.proofs.lemmas.List.Elements.{All-from_recursion}
+use Rattle.std.specs.List.{All, AllByRecursion}
 use Rattle.mdp_math.specs.Rational.{ℚ}
 use Rattle.mdp_math.proofs.Booleans.{or-true}
-use Rattle.mdp_spec.specs.Mdp.{Entry}
-use Rattle.mdp_spec.specs.Row.{entries}
+use Rattle.mdp_spec.specs.{Mdp.{Entry}, Row.{entries}}
 use Rattle.mdp_rows.specs.Preds.{is_among}
 use Rattle.mdp_elim.proofs.Others.{written_sum-agree}
-use Rattle.mdp_policy_iteration.specs.Problem.{Problem, Choice, stop, go, plain, count, choice_at}
-use Rattle.mdp_policy_iteration.specs.Reads.{AgreeAt, LeadsTo, Reads}
+use Rattle.mdp_policy_iteration.specs.{Problem.{Problem, Choice, stop, go, plain, count, choice_at}, Reads.{AgreeAt, LeadsTo, Reads}}
 
 -- ---- a row that is lent
 

@@ -1,24 +1,16 @@
 -- One round, from what its parts answered.
 use Rattle.std.proofs.Common.{◌≡◌, ℕ, ◌+◌, ◌<◌, Bool, true, false, List, [], ◌∷◌, length, Option, Some}
 use Rattle.std.proofs.Common.{None, Result, Ok, Err, Vec, Global, refl, sym, ◌∙◌, ap, if◌then◌else◌, zero-add, arith}
-use Rattle.std.specs.List.{All, list_any}
-use Rattle.std.specs.Option.{is_some}
-use Rattle.std.specs.Prelude.{slice_index_or, ◌==◌, IfOk}
-use Rattle.std.proofs.lemmas.List.FromFn.{length-map-range_with_len, get_or-map-range_with_len}
-use Rattle.std.proofs.lemmas.List.Folds.{list_any_at, list_any_none}
+use Rattle.std.proofs.{lemmas.List.FromFn.{length-map-range_with_len, get_or-map-range_with_len}, lemmas.List.Folds.{list_any_at, list_any_none}}
+use Rattle.std.specs.{List.{All, list_any}, Option.{is_some}, Prelude.{slice_index_or, ◌==◌, IfOk}}
 use Rattle.mdp_math.specs.Rational.{ℚ}
 use Rattle.mdp_math.proofs.Numbers.{eqb-same}
 use Rattle.mdp_rows.specs.declared.preds.Pred.{Pred}
 use Rattle.mdp_elim.specs.Solve.{written_solution}
-use Rattle.mdp_policy_iteration.specs.Iteration.{Step, next, done}
-use Rattle.mdp_policy_iteration.specs.Problem.{Problem, count, taken, rows_of, active_of}
-use Rattle.mdp_policy_iteration.specs.Places.{up_to, all_pass}
+use Rattle.mdp_policy_iteration.specs.{Iteration.{Step, next, done}, Problem.{Problem, count, taken, rows_of, active_of}, Places.{up_to, all_pass}}
 use Rattle.mdp_policy_iteration.specs.Path.{Round, Found, Refusal, evaluating, fits, solved, values_of_rows, constant}
 use Rattle.mdp_policy_iteration.specs.Path.{placed, filled_by, filled, written_values, improvements, improved, after_comparison, after_evaluation, path_step}
-use Rattle.mdp_policy_iteration.specs.Changes.{IsChangeOf, change_at, spread, step_by}
-use Rattle.mdp_policy_iteration.specs.Faults.{Says, Answers}
-use Rattle.mdp_policy_iteration.specs.Ends.{Makes}
-use Rattle.mdp_policy_iteration.specs.Errors.{RoundError}
+use Rattle.mdp_policy_iteration.specs.{Changes.{IsChangeOf, change_at, spread, step_by}, Faults.{Says, Answers}, Ends.{Makes}, Errors.{RoundError}}
 use Rattle.mdp_wide.specs.declared.unfinished.Unfinished.TheVariants as fault
 use Rattle.mdp_policy_iteration.proofs.Results.{ok_same, ok_part}
 

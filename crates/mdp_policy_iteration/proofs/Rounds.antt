@@ -1,30 +1,18 @@
 -- The loop of policy iteration: where it stands before a round, and what the next one needs.
 use Rattle.std.proofs.Common.{◌≡◌, ◌≢◌, ℕ, suc, ◌+◌, ◌<◌, Bool, true, false, if◌then◌else◌, List, [], ◌∷◌, length}
 use Rattle.std.proofs.Common.{get_or, Option, Some, None, Result, Ok, refl, sym, ◌∙◌, ap, subst, zero-add, inr, true≢false, arith}
-use Rattle.std.specs.List.{All}
-use Rattle.std.specs.Prelude.{slice_index, slice_index_or, ◌==◌}
-use Rattle.std.proofs.lemmas.List.FromFn.{get_or-map-range_with_len, length-map-range_with_len}
+use Rattle.std.proofs.{lemmas.List.FromFn.{get_or-map-range_with_len, length-map-range_with_len}, lemmas.Bool.{eqb-true}}
+use Rattle.std.specs.{List.{All}, Prelude.{slice_index, slice_index_or, ◌==◌}}
 use Rattle.mdp_math.specs.Rational.{ℚ}
-use Rattle.std.proofs.lemmas.Bool.{eqb-true}
 use Rattle.mdp_spec.specs.Mdp.{value_at}
-use Rattle.mdp_rows.specs.Preds.{is_among}
-use Rattle.mdp_rows.specs.declared.preds.Pred.{Pred}
-use Rattle.mdp_elim.specs.Laws.{GivesSolutions}
-use Rattle.mdp_elim.specs.System.{equation_of}
-use Rattle.mdp_policy_iteration.specs.Iteration.{Step, next, EndsWith}
-use Rattle.mdp_policy_iteration.specs.Problem.{Problem, IsProblem, count, active_of, rows_of}
-use Rattle.mdp_policy_iteration.specs.Values.{KeepsLeaving}
-use Rattle.mdp_policy_iteration.specs.Path.{Round, Found, Refusal, constant, or_kept, improved, improvement, improvements, path_step}
-use Rattle.mdp_policy_iteration.specs.Laws.{first}
-use Rattle.mdp_policy_iteration.specs.Changes.{Ascend, IsChangeOf, change_at, spread, nodes_of}
-use Rattle.mdp_policy_iteration.specs.Evaluated.{Evaluation, IsEvaluated, HasRoom, CanServe}
+use Rattle.mdp_rows.specs.{Preds.{is_among}, declared.preds.Pred.{Pred}}
+use Rattle.mdp_elim.specs.{Laws.{GivesSolutions}, System.{equation_of}}
+use Rattle.mdp_policy_iteration.specs.{Iteration.{Step, next, EndsWith}, Problem.{Problem, IsProblem, count, active_of, rows_of}, Values.{KeepsLeaving}}
+use Rattle.mdp_policy_iteration.specs.{Path.{Round, Found, Refusal, constant, or_kept, improved, improvement, improvements, path_step}, Laws.{first}}
+use Rattle.mdp_policy_iteration.specs.{Changes.{Ascend, IsChangeOf, change_at, spread, nodes_of}, Evaluated.{Evaluation, IsEvaluated, HasRoom, CanServe}}
 use Rattle.mdp_policy_iteration.specs.Scope.{Scope, IsScope}
-use Rattle.mdp_policy_iteration.proofs.Ending.{Keeps, better_left, next-keeps}
-use Rattle.mdp_policy_iteration.proofs.Results.{up_to-is, IsUpTo}
-use Rattle.mdp_policy_iteration.proofs.Chain.{rows-len, active-len}
-use Rattle.mdp_policy_iteration.proofs.Iterations.{ends-next}
-use Rattle.mdp_policy_iteration.proofs.RoundFacts.{values-len, step-changes}
-use Rattle.mdp_policy_iteration.proofs.Walking.{next_by}
+use Rattle.mdp_policy_iteration.proofs.{Ending.{Keeps, better_left, next-keeps}, Results.{up_to-is, IsUpTo}, Chain.{rows-len, active-len}}
+use Rattle.mdp_policy_iteration.proofs.{Iterations.{ends-next}, RoundFacts.{values-len, step-changes}, Walking.{next_by}}
 
 -- ---- a node without a change
 

@@ -1,25 +1,16 @@
 -- The scope of a changed policy, from what the readers find.
 use Rattle.std.proofs.Common.{◌≡◌, ℕ, ◌<◌, inl, inr, Bool, true, false, ◌&&◌, List, [], length, get_or, refl, sym, ◌∙◌, ap, ap₂, subst, arith}
-use Rattle.std.specs.List.{All}
-use Rattle.std.specs.Prelude.{slice_index, slice_index_or}
-use Rattle.std.proofs.lemmas.List.Elements.{All-nil, All-cons}
-use Rattle.std.proofs.lemmas.List.Folds.{list_any_at}
-use Rattle.std.proofs.lemmas.List.{get_or_default}
+use Rattle.std.proofs.{lemmas.List.Elements.{All-nil, All-cons}, lemmas.List.Folds.{list_any_at}, lemmas.List.{get_or_default}}
+use Rattle.std.specs.{List.{All}, Prelude.{slice_index, slice_index_or}}
 use Rattle.mdp_math.specs.Rational.{ℚ}
 use Rattle.mdp_math.proofs.Numbers.{eqb-same}
 use Rattle.mdp_spec.specs.Mdp.{Entry}
-use Rattle.mdp_rows.specs.Preds.{is_among}
-use Rattle.mdp_rows.specs.declared.preds.Pred.{Pred}
+use Rattle.mdp_rows.specs.{Preds.{is_among}, declared.preds.Pred.{Pred}}
 use Rattle.mdp_readers.specs.Readers.{is_choice, reads, AreComingTo, AreWithReaders}
-use Rattle.mdp_readers.proofs.Tests.{all-among}
-use Rattle.mdp_readers.proofs.Searching.{coming-changed, coming-closed, coming-reads}
+use Rattle.mdp_readers.proofs.{Tests.{all-among}, Searching.{coming-changed, coming-closed, coming-reads}}
 use Rattle.mdp_policy_iteration.specs.Problem.{Problem, Node, given, decision, Move, stop, go, IsPolicy, IsCandidate, count, node_at, choices_of, choices_at, choice_at, no_choice, move_by, taken, row_from}
-use Rattle.mdp_policy_iteration.specs.Reads.{IsGiven, LeadsTo}
-use Rattle.mdp_policy_iteration.specs.ReadersOf.{AreReaders}
-use Rattle.mdp_policy_iteration.specs.Changes.{Ascend, IsChangeOf, nodes_of}
-use Rattle.mdp_policy_iteration.specs.Scope.{IsScope}
-use Rattle.mdp_policy_iteration.proofs.Collected.{nodes_of-at, length-nodes_of}
-use Rattle.mdp_policy_iteration.proofs.Unchanged.{unchanged-elsewhere}
+use Rattle.mdp_policy_iteration.specs.{Reads.{IsGiven, LeadsTo}, ReadersOf.{AreReaders}, Changes.{Ascend, IsChangeOf, nodes_of}, Scope.{IsScope}}
+use Rattle.mdp_policy_iteration.proofs.{Collected.{nodes_of-at, length-nodes_of}, Unchanged.{unchanged-elsewhere}}
 
 module _ (p : Problem) (readers : List (List Pred)) (are : AreReaders p readers) where
   -- each reader is a choice of a node

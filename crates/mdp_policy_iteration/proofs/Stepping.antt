@@ -1,12 +1,9 @@
 -- What a step of the path says: it goes on with the improved policy where some choice is taken, and is done where none is.
 use Rattle.std.proofs.Common.{◌≡◌, ℕ, ◌+◌, ◌<◌, Bool, true, false, if◌then◌else◌, List, length, get_or, Option, Some, None, Result, Ok, Err, refl, sym, ap}
-use Rattle.std.specs.List.{list_any}
-use Rattle.std.specs.Option.{is_some}
 use Rattle.std.proofs.lemmas.List.Folds.{list_any_at}
+use Rattle.std.specs.{List.{list_any}, Option.{is_some}}
 use Rattle.mdp_math.specs.Rational.{ℚ}
-use Rattle.mdp_policy_iteration.specs.Iteration.{Step, next, done}
-use Rattle.mdp_policy_iteration.specs.Problem.{Problem}
-use Rattle.mdp_policy_iteration.specs.Places.{Place}
+use Rattle.mdp_policy_iteration.specs.{Iteration.{Step, next, done}, Problem.{Problem}, Places.{Place}}
 use Rattle.mdp_policy_iteration.specs.Path.{Round, Found, Refusal, written_values, improvements, improved, after_comparison, after_evaluation, path_step}
 
 module _ (p : Problem) where

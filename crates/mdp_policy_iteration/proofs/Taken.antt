@@ -1,13 +1,10 @@
 -- Changes that a policy takes one after another.
 use Rattle.std.proofs.Common.{◌≡◌, ◌≢◌, inl, inr, ℕ, ◌+◌, ◌<◌, List, [], ◌∷◌, ◌++◌, length, take, slice_index, get_or, Option, None, refl, sym, ◌∙◌, ap, subst, arith}
-use Rattle.std.specs.List.{All}
-use Rattle.std.specs.Prelude.{slice_set, slice_index_or}
-use Rattle.std.proofs.lemmas.Bool.{cases_eq}
-use Rattle.std.proofs.lemmas.List.{take_more, get_or-take, length-take-le, ext_get_or, get_or-set_same, get_or-set_other, length-set}
+use Rattle.std.proofs.{lemmas.Bool.{cases_eq}, lemmas.List.{take_more, get_or-take, length-take-le, ext_get_or, get_or-set_same, get_or-set_other, length-set}}
 use Rattle.std.proofs.lemmas.List.FromFn.{get_or-map-range_with_len, length-map-range_with_len}
+use Rattle.std.specs.{List.{All}, Prelude.{slice_set, slice_index_or}}
 use Rattle.mdp_rows.specs.declared.preds.Pred.{Pred}
-use Rattle.mdp_policy_iteration.specs.Path.{or_kept, improved}
-use Rattle.mdp_policy_iteration.specs.Changes.{change_at, spread, Ascend, nodes_of}
+use Rattle.mdp_policy_iteration.specs.{Path.{or_kept, improved}, Changes.{change_at, spread, Ascend, nodes_of}}
 use Rattle.mdp_policy_iteration.proofs.Collected.{change_at-other, change_at-last, nodes_of-at, length-nodes_of}
 
 module _ (before : List ℕ) where

@@ -1,20 +1,11 @@
 -- Both directions at once: for the least values all numbers are negated, and then greater is better.
 use Rattle.std.proofs.Common.{◌≡◌, true, false, List, [], ◌∷◌, refl, sym, pos, Ordering}
 use Rattle.std.specs.declared.cmp.Ordering.TheVariants.{Less, Equal, Greater}
-use Rattle.mdp_math.specs.Rational.{ℚ, ◌+ℚ◌, neg_ℚ, ◌≤ℚ◌, ◌<ℚ◌}
-use Rattle.mdp_math.specs.Written.{cmp_ℚ}
-use Rattle.mdp_math.specs.Kernel.{weigh}
-use Rattle.mdp_math.proofs.Ring.{◌⊕◌, ⊖, lit, ring}
-use Rattle.mdp_math.proofs.Laws.{rat_ring}
-use Rattle.mdp_math.proofs.Linear.{linear, linear_lt, known}
-use Rattle.mdp_math.proofs.Order.{0ℚ, ≤ℚ_of_lt, ≤ℚ_of_eq, lt_of_cmp, eq_of_cmp, gt_of_cmp, sub-pos}
-use Rattle.mdp_math.proofs.Kernel.{weigh-neg}
-use Rattle.mdp_spec.specs.Mdp.{Entry, value_at}
-use Rattle.mdp_spec.specs.Row.{row_sum}
-use Rattle.mdp_rows.specs.declared.dir.Dir.{Dir}
-use Rattle.mdp_rows.specs.declared.dir.Dir.TheVariants.{Max, Min}
-use Rattle.mdp_rows.specs.Better.{IsBetter, IsAsGood}
-use Rattle.mdp_rows.specs.Better.{is_better}
+use Rattle.mdp_math.specs.{Rational.{ℚ, ◌+ℚ◌, neg_ℚ, ◌≤ℚ◌, ◌<ℚ◌}, Written.{cmp_ℚ}, Kernel.{weigh}}
+use Rattle.mdp_math.proofs.{Ring.{◌⊕◌, ⊖, lit, ring}, Laws.{rat_ring}, Linear.{linear, linear_lt, known}}
+use Rattle.mdp_math.proofs.{Order.{0ℚ, ≤ℚ_of_lt, ≤ℚ_of_eq, lt_of_cmp, eq_of_cmp, gt_of_cmp, sub-pos}, Kernel.{weigh-neg}}
+use Rattle.mdp_spec.specs.{Mdp.{Entry, value_at}, Row.{row_sum}}
+use Rattle.mdp_rows.specs.{declared.dir.Dir.{Dir}, declared.dir.Dir.TheVariants.{Max, Min}, Better.{IsBetter, IsAsGood, is_better}}
 
 abbrev pub turn : Dir → ℚ → ℚ
 turn Max x = x

@@ -2,20 +2,13 @@
 use Rattle.std.proofs.Common.{◌≡◌, ℕ, zero, suc, ◌<◌, ◌≤◌, true, false, if◌then◌else◌, List, length}
 use Rattle.std.proofs.Common.{Option, Some, None, Result, Ok, Err, refl, sym, ◌∙◌, ap, true≢false, arith}
 use Rattle.mdp_math.proofs.Booleans.{false_of_not}
-use Rattle.mdp_math.specs.Rational.{ℚ}
-use Rattle.mdp_math.specs.Result.{◌>>=◌}
-use Rattle.mdp_math.specs.Written.{◌>>=◌ as ◌then◌}
+use Rattle.mdp_math.specs.{Rational.{ℚ}, Result.{◌>>=◌}, Written.{◌>>=◌ as ◌then◌}}
 use Rattle.mdp_spec.specs.Mdp.{value_at}
-use Rattle.mdp_rows.specs.Preds.{is_among}
-use Rattle.mdp_rows.specs.declared.preds.Pred.{Pred}
+use Rattle.mdp_rows.specs.{Preds.{is_among}, declared.preds.Pred.{Pred}}
 use Rattle.mdp_readers.specs.Readers.{reads, AreWithReaders}
 use Rattle.mdp_readers.proofs.Tests.{all-among}
-use Rattle.mdp_policy_iteration.specs.Problem.{Problem, count, choices_at, choice_at}
-use Rattle.mdp_policy_iteration.specs.Reads.{IsGiven, AgreeAt, Reads}
-use Rattle.mdp_policy_iteration.specs.ReadersOf.{AreReaders}
-use Rattle.mdp_policy_iteration.specs.Places.{Place, at_place}
-use Rattle.mdp_policy_iteration.specs.Candidates.{Best, judged}
-use Rattle.mdp_policy_iteration.specs.Path.{comparing, then_compared, best_of, improvement}
+use Rattle.mdp_policy_iteration.specs.{Problem.{Problem, count, choices_at, choice_at}, Reads.{IsGiven, AgreeAt, Reads}, ReadersOf.{AreReaders}}
+use Rattle.mdp_policy_iteration.specs.{Places.{Place, at_place}, Candidates.{Best, judged}, Path.{comparing, then_compared, best_of, improvement}}
 
 module _ (p : Problem) (x y : List ℚ) (s : ℕ) (same : value_at x s ≡ value_at y s)
     (choices : (c : ℕ) → c < length (choices_at p s) → (choice_at p s c).written x ≡ (choice_at p s c).written y) where

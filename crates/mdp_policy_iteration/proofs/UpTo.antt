@@ -2,8 +2,7 @@
 use Rattle.std.proofs.Common.{◌≡◌, ℕ, zero, suc, ◌+◌, ◌<◌, ◌≤◌, Bool, true, List, length, take, get_or, Result, Ok, refl, sym, ◌∙◌, ap, arith}
 use Rattle.std.proofs.lemmas.List.{take_more, take_all}
 use Rattle.mdp_policy_iteration.specs.Places.{up_to, all_pass}
-use Rattle.mdp_policy_iteration.proofs.Answering.{up_to-more}
-use Rattle.mdp_policy_iteration.proofs.Results.{all_pass-more}
+use Rattle.mdp_policy_iteration.proofs.{Answering.{up_to-more}, Results.{all_pass-more}}
 
 module _ {A R : Type 0} (f : ℕ → Result A R) (xs : List A) (d : A) where
   -- as many as are made are an initial part of the list

@@ -2,14 +2,9 @@
 use Rattle.std.proofs.Common.{◌≡◌, ◌≢◌, ℕ, ◌+◌, ◌-◌, ◌^◌, min, List, [], ◌∷◌, length, Result, Ok, Err, Vec, Global, refl, sym, ◌∙◌, ap, subst}
 use Rattle.mdp_math.specs.Rational.{ℚ}
 use Rattle.mdp_rows.specs.declared.preds.Pred.{Pred}
-use Rattle.mdp_policy_iteration.specs.Iteration.{next, done, EndsWith}
-use Rattle.mdp_policy_iteration.specs.Problem.{Problem}
-use Rattle.mdp_policy_iteration.specs.Path.{Found, Refusal, improved, path_step}
-use Rattle.mdp_policy_iteration.specs.Changes.{spread, step_by}
-use Rattle.mdp_policy_iteration.specs.Ends.{Makes, Ends, path_error}
-use Rattle.mdp_policy_iteration.specs.Laws.{first}
+use Rattle.mdp_policy_iteration.specs.{Iteration.{next, done, EndsWith}, Problem.{Problem}, Path.{Found, Refusal, improved, path_step}}
+use Rattle.mdp_policy_iteration.specs.{Changes.{spread, step_by}, Ends.{Makes, Ends, path_error}, Laws.{first}, Errors.{RoundError}}
 use Rattle.mdp_policy_iteration.proofs.Iterations.{ends-refused}
-use Rattle.mdp_policy_iteration.specs.Errors.{RoundError}
 use Rattle.mdp_wide.specs.declared.unfinished.Unfinished.TheVariants as fault
 
 -- where there are changes, the path goes on

@@ -1,9 +1,7 @@
 -- Candidates of a node, compared with the best value so far.
 use Rattle.std.specs.Prelude.{ℕ, List, Option, Some, if◌then◌else◌}
-use Rattle.mdp_math.specs.Rational.{ℚ}
-use Rattle.mdp_math.specs.Written.{written_compare, ◌>>=◌}
-use Rattle.mdp_rows.specs.declared.dir.Dir.{Dir}
-use Rattle.mdp_rows.specs.Better.{is_better}
+use Rattle.mdp_math.specs.{Rational.{ℚ}, Written.{written_compare, ◌>>=◌}}
+use Rattle.mdp_rows.specs.{declared.dir.Dir.{Dir}, Better.{is_better}}
 use Rattle.mdp_policy_iteration.specs.Problem.{Choice}
 
 -- the best value at a node so far, and the choice that has it where it isn't the node's own

@@ -1,11 +1,8 @@
 -- Changes of a policy: nodes, each with the choice that improves it.
-use Rattle.std.specs.Prelude.{ℕ, ◌+◌, ◌<◌, ◌==◌, List, [], ◌∷◌, length, map, slice_index, Option, Some, None, if◌then◌else◌}
-use Rattle.std.specs.List.{range_with_len}
+use Rattle.std.specs.{Prelude.{ℕ, ◌+◌, ◌<◌, ◌==◌, List, [], ◌∷◌, length, map, slice_index, Option, Some, None, if◌then◌else◌}, List.{range_with_len}}
 use Rattle.mdp_math.specs.Rational.{ℚ}
 use Rattle.mdp_rows.specs.declared.preds.Pred.{Pred}
-use Rattle.mdp_policy_iteration.specs.Iteration.{Step, next, done}
-use Rattle.mdp_policy_iteration.specs.Problem.{Problem, count, choices_at}
-use Rattle.mdp_policy_iteration.specs.Path.{Round, Found, Refusal, improved}
+use Rattle.mdp_policy_iteration.specs.{Iteration.{Step, next, done}, Problem.{Problem, count, choices_at}, Path.{Round, Found, Refusal, improved}}
 
 -- the choice of node s among changes, where there is one
 abbrev pub change_at : List Pred → ℕ → Option ℕ

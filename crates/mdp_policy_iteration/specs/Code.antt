@@ -1,15 +1,11 @@
 -- What the code's contracts say beside the definitions.
-use Rattle.std.specs.Prelude.{◌≡◌, ℕ, ◌<◌, Bool, true, List, length, Option, Some, if◌then◌else◌}
-use Rattle.mdp_math.specs.Rational.{ℚ}
-use Rattle.mdp_math.specs.Written.{written_add, written_mul, ◌>>=◌}
+use Rattle.std.specs.{Prelude.{◌≡◌, ℕ, ◌<◌, Bool, true, List, length, Option, Some, if◌then◌else◌}, Coded.{Unit-prop}}
+use Rattle.mdp_math.specs.{Rational.{ℚ}, Written.{written_add, written_mul, ◌>>=◌}}
 use Rattle.mdp_spec.specs.Mdp.{value_at}
 use Rattle.mdp_elim.specs.System.{is_active}
-use Rattle.std.specs.Coded.{Unit-prop}
 use Rattle.std.proofs.Props.{props}
 use Rattle.mdp_policy_iteration.specs.Problem.{Problem, Node, given, decision, Move, count, move_by, fits_by, node_at, IsCandidate, IsPolicy}
-use Rattle.mdp_policy_iteration.specs.Candidates.{Best}
-use Rattle.mdp_policy_iteration.specs.Path.{fits}
-use Rattle.mdp_policy_iteration.specs.declared.leader.Leader.{Leader}
+use Rattle.mdp_policy_iteration.specs.{Candidates.{Best}, Path.{fits}, declared.leader.Leader.{Leader}}
 
 -- the node has choice c, or its value is given
 abbrev pub CanTake : Node → ℕ → Type 0

@@ -1,21 +1,12 @@
 -- What the code answers to a path.
-use Rattle.std.specs.Prelude.{◌≡◌, ℕ, ◌-◌, ◌^◌, min, List, Some, Result, Ok, Err, Vec}
-use Rattle.std.specs.Global.{Global}
+use Rattle.std.specs.{Prelude.{◌≡◌, ℕ, ◌-◌, ◌^◌, min, List, Some, Result, Ok, Err, Vec}, Global.{Global}}
 use Rattle.mdp_math.specs.Rational.{ℚ}
 use Rattle.mdp_rows.specs.declared.preds.Pred.{Pred}
-use Rattle.mdp_wide.specs.declared.too_wide.Part.{Part}
-use Rattle.mdp_wide.specs.declared.too_wide.TooWide.{TooWide}
-use Rattle.mdp_wide.specs.Errors.{SolveError}
+use Rattle.mdp_wide.specs.{declared.too_wide.Part.{Part}, declared.too_wide.TooWide.{TooWide}, Errors.{SolveError}}
 use Rattle.mdp_wide.specs.declared.unfinished.Unfinished.TheVariants as error
-use Rattle.mdp_policy_iteration.specs.Iteration.{Step, refused, EndsWith}
-use Rattle.mdp_policy_iteration.specs.Problem.{Problem}
-use Rattle.mdp_policy_iteration.specs.Path.{Round, Found, Refusal, path_step}
-use Rattle.mdp_policy_iteration.specs.Laws.{first}
-use Rattle.mdp_policy_iteration.specs.Errors.{RoundError, PathError}
-use Rattle.mdp_policy_iteration.specs.Changes.{step_by}
-use Rattle.mdp_policy_iteration.specs.declared.best_policy.Last.{Last}
-use Rattle.mdp_policy_iteration.specs.declared.solution.Solution.{Solution}
-use Rattle.mdp_policy_iteration.specs.declared.solution.WideAt.{WideAt}
+use Rattle.mdp_policy_iteration.specs.{Iteration.{Step, refused, EndsWith}, Problem.{Problem}, Path.{Round, Found, Refusal, path_step}, Laws.{first}}
+use Rattle.mdp_policy_iteration.specs.{Errors.{RoundError, PathError}, Changes.{step_by}, declared.best_policy.Last.{Last}}
+use Rattle.mdp_policy_iteration.specs.{declared.solution.Solution.{Solution}, declared.solution.WideAt.{WideAt}}
 
 -- round n of a policy with these values: its changes, of which there are none at its end; the place of the first term past width; or want of memory
 abbrev pub Makes : ℕ → List ℕ → List ℚ → Result (Vec Pred Global) RoundError → Step Round Found Refusal → Type 0

@@ -1,7 +1,6 @@
 -- The errors of rounds and of paths, as contracts see them.
 use Rattle.mdp_wide.specs.declared.unfinished.Unfinished.{Unfinished}
-use Rattle.mdp_policy_iteration.specs.declared.solution.WideAt.{WideAt}
-use Rattle.mdp_policy_iteration.specs.Places.{Place}
+use Rattle.mdp_policy_iteration.specs.{declared.solution.WideAt.{WideAt}, Places.{Place}}
 
 -- why a computation over nodes isn't finished
 abbrev pub RoundError : Type 0

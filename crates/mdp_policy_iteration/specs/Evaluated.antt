@@ -1,17 +1,12 @@
 -- What is kept of the evaluation of a policy. The next policy is evaluated from it at those nodes alone that come to a change.
-use Rattle.std.specs.Prelude.{◌≡◌, ℕ, ◌<◌, Bool, true, false, List, [], ◌∷◌, length, slice_index, ◌⊎◌, Ok}
-use Rattle.std.specs.List.{All}
+use Rattle.std.specs.{Prelude.{◌≡◌, ℕ, ◌<◌, Bool, true, false, List, [], ◌∷◌, length, slice_index, ◌⊎◌, Ok}, List.{All}}
 use Rattle.mdp_math.specs.Rational.{ℚ}
 use Rattle.mdp_spec.specs.Mdp.{value_at}
 use Rattle.mdp_rows.specs.Preds.{is_among}
-use Rattle.mdp_elim.specs.Equation.{Equation}
-use Rattle.mdp_elim.specs.System.{system}
-use Rattle.mdp_elim.specs.Kept.{Kept, IsKept}
+use Rattle.mdp_elim.specs.{Equation.{Equation}, System.{system}, Kept.{Kept, IsKept}}
 use Rattle.mdp_elim.specs.Kept as elimination
-use Rattle.mdp_policy_iteration.specs.Problem.{Problem, IsPolicy, count, goes_on, taken, row_from, active_of, rows_of}
-use Rattle.mdp_policy_iteration.specs.Places.{up_to}
-use Rattle.mdp_policy_iteration.specs.Path.{stop_value, constant, filled, written_values}
-use Rattle.mdp_policy_iteration.specs.Code.{RowsFit}
+use Rattle.mdp_policy_iteration.specs.{Problem.{Problem, IsPolicy, count, goes_on, taken, row_from, active_of, rows_of}, Places.{up_to}}
+use Rattle.mdp_policy_iteration.specs.{Path.{stop_value, constant, filled, written_values}, Code.{RowsFit}}
 
 -- which nodes are active; the constants; what elimination keeps; the values
 pub record Evaluation : Type 0 where

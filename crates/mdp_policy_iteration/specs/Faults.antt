@@ -2,8 +2,7 @@
 use Rattle.std.specs.Prelude.{◌≡◌, ℕ, Result, Ok, Err}
 use Rattle.mdp_wide.specs.declared.too_wide.Kind.{Kind}
 use Rattle.mdp_num.specs.declared.errors.Wide.{Wide}
-use Rattle.mdp_policy_iteration.specs.Places.{Place}
-use Rattle.mdp_policy_iteration.specs.Errors.{RoundError}
+use Rattle.mdp_policy_iteration.specs.{Places.{Place}, Errors.{RoundError}}
 use Rattle.mdp_wide.specs.declared.unfinished.Unfinished.TheVariants as fault
 
 -- a step for a choice of a node

@@ -4,11 +4,9 @@ use Rattle.std.specs.Prelude.{◌≡◌, ℕ, ◌<◌, true, List, length, slice
 use Rattle.mdp_math.specs.Rational.{ℚ}
 use Rattle.mdp_spec.specs.Mdp.{value_at}
 use Rattle.mdp_elim.specs.Laws.{ExactlyOne}
-use Rattle.mdp_policy_iteration.specs.Iteration.{next, EndsWith}
-use Rattle.mdp_policy_iteration.specs.Problem.{Problem, given, count, node_at, choices_at, choice_at, worth, IsProblem, IsPolicy}
-use Rattle.mdp_policy_iteration.specs.Values.{IsValue, CanLeave, KeepsLeaving}
+use Rattle.mdp_policy_iteration.specs.{Iteration.{next, EndsWith}, Problem.{Problem, given, count, node_at, choices_at, choice_at, worth, IsProblem, IsPolicy}}
+use Rattle.mdp_policy_iteration.specs.{Values.{IsValue, CanLeave, KeepsLeaving}, Path.{Round, Found, Refusal, written_values, path_step}}
 use Rattle.mdp_rows.specs.Better.{IsBetter, IsAsGood}
-use Rattle.mdp_policy_iteration.specs.Path.{Round, Found, Refusal, written_values, path_step}
 
 -- a problem, and a start from which each policy of the path leaves its active nodes
 pub record IsSolvable (p : Problem) (start : List ℕ) : Type 0 where

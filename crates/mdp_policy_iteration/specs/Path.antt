@@ -1,19 +1,14 @@
 -- Policy iteration in written arithmetic (Howard 1960). A round evaluates its policy, and then looks at each node for a choice whose sum is
 -- better than the node's value. Where none is, the path ends; else the next policy takes these choices and keeps all others.
 use Rattle.std.specs.Prelude.{ℕ, zero, suc, ◌+◌, Bool, not, List, [], ◌∷◌, length, map, slice_index, slice_index_or, Option, Some, None, Result, Ok, Err, if◌then◌else◌, pos}
-use Rattle.std.specs.List.{filter, list_any, range_with_len}
-use Rattle.std.specs.Option.{is_some}
-use Rattle.mdp_math.specs.Rational.{ℚ, of_int}
-use Rattle.mdp_math.specs.Result.{◌>>=◌}
-use Rattle.mdp_spec.specs.Mdp.{Entry, value_at}
-use Rattle.mdp_spec.specs.Written.{written_sum}
-use Rattle.mdp_elim.specs.System.{is_active}
-use Rattle.mdp_elim.specs.Solve.{written_solution}
+use Rattle.std.specs.{List.{filter, list_any, range_with_len}, Option.{is_some}}
+use Rattle.mdp_math.specs.{Rational.{ℚ, of_int}, Result.{◌>>=◌}}
+use Rattle.mdp_spec.specs.{Mdp.{Entry, value_at}, Written.{written_sum}}
+use Rattle.mdp_elim.specs.{System.{is_active}, Solve.{written_solution}}
 use Rattle.mdp_wide.specs.declared.too_wide.Kind.TheVariants.{Evaluate, Compare}
 use Rattle.mdp_policy_iteration.specs.Iteration.{Step, next, done, refused}
 use Rattle.mdp_policy_iteration.specs.Problem.{Problem, Move, stop, go, count, node_at, choices_at, choice_at, fits_by, taken, active_of, rows_of}
-use Rattle.mdp_policy_iteration.specs.Places.{Place, at_place, up_to, all_pass}
-use Rattle.mdp_policy_iteration.specs.Candidates.{Best, compared}
+use Rattle.mdp_policy_iteration.specs.{Places.{Place, at_place, up_to, all_pass}, Candidates.{Best, compared}}
 
 -- ---- evaluation
 

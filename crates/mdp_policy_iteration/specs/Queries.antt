@@ -1,12 +1,8 @@
 -- What a query ends with: an answer, or the first term past width in one of its parts.
 use Rattle.std.specs.Prelude.{◌≡◌, ℕ, Option, Some, Result, Ok, Err}
-use Rattle.mdp_wide.specs.declared.too_wide.Part.{Part}
-use Rattle.mdp_wide.specs.declared.too_wide.Kind.TheVariants.{Check}
-use Rattle.mdp_wide.specs.Term.{WideTerm, shown}
-use Rattle.mdp_wide.specs.Errors.{SolveError}
+use Rattle.mdp_wide.specs.{declared.too_wide.Part.{Part}, declared.too_wide.Kind.TheVariants.{Check}, Term.{WideTerm, shown}, Errors.{SolveError}}
 use Rattle.mdp_wide.specs.declared.unfinished.Unfinished.TheVariants as solve
-use Rattle.mdp_policy_iteration.specs.Path.{Found, Refusal}
-use Rattle.mdp_policy_iteration.specs.Ends.{capped}
+use Rattle.mdp_policy_iteration.specs.{Path.{Found, Refusal}, Ends.{capped}}
 
 -- the term at which a path is refused
 abbrev pub term_of : Part → Refusal → WideTerm

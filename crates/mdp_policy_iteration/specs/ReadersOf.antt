@@ -1,10 +1,8 @@
 -- The choices of a problem by the nodes whose values they read.
 use Rattle.std.specs.Prelude.{◌≡◌, ℕ, ◌<◌, true, List, length, ◌⊎◌}
-use Rattle.mdp_rows.specs.Preds.{is_among}
-use Rattle.mdp_rows.specs.declared.preds.Pred.{Pred}
+use Rattle.mdp_rows.specs.{Preds.{is_among}, declared.preds.Pred.{Pred}}
 use Rattle.mdp_readers.specs.Readers.{reads}
-use Rattle.mdp_policy_iteration.specs.Problem.{Problem, count, choices_at}
-use Rattle.mdp_policy_iteration.specs.Reads.{Reads}
+use Rattle.mdp_policy_iteration.specs.{Problem.{Problem, count, choices_at}, Reads.{Reads}}
 
 -- for each node the choices whose worth depends on its value
 pub record AreReaders (p : Problem) (readers : List (List Pred)) : Type 0 where

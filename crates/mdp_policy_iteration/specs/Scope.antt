@@ -1,13 +1,9 @@
 -- Where a round has anything to do: the nodes that come to a change, and those with a choice that leads to one of these.
-use Rattle.std.specs.Prelude.{◌≡◌, ℕ, ◌<◌, true, false, List, None, Ok}
-use Rattle.std.specs.List.{All}
+use Rattle.std.specs.{Prelude.{◌≡◌, ℕ, ◌<◌, true, false, List, None, Ok}, List.{All}}
 use Rattle.mdp_math.specs.Rational.{ℚ}
 use Rattle.mdp_spec.specs.Mdp.{value_at}
-use Rattle.mdp_rows.specs.Preds.{is_among}
-use Rattle.mdp_rows.specs.declared.preds.Pred.{Pred}
-use Rattle.mdp_policy_iteration.specs.Problem.{Problem, count, taken, row_from}
-use Rattle.mdp_policy_iteration.specs.Path.{improvement}
-use Rattle.mdp_policy_iteration.specs.Changes.{Ascend}
+use Rattle.mdp_rows.specs.{Preds.{is_among}, declared.preds.Pred.{Pred}}
+use Rattle.mdp_policy_iteration.specs.{Problem.{Problem, count, taken, row_from}, Path.{improvement}, Changes.{Ascend}}
 
 -- the nodes at which a policy is evaluated, and those at which choices are compared
 pub record Scope : Type 0 where

@@ -4,8 +4,7 @@ use Rattle.mdp_math.specs.Rational.{ℚ, of_int}
 use Rattle.mdp_spec.specs.Mdp.{value_at}
 use Rattle.mdp_elim.specs.System.{Leaves}
 use Rattle.mdp_policy_iteration.specs.Problem.{Problem, Move, stop, go, count, worth, taken, choices_at, choice_at, active_of, rows_of, IsPolicy}
-use Rattle.mdp_rows.specs.declared.dir.Dir.{Dir}
-use Rattle.mdp_rows.specs.Better.{IsAsGood}
+use Rattle.mdp_rows.specs.{declared.dir.Dir.{Dir}, Better.{IsAsGood}}
 
 -- each node is worth what the policy's move there is worth
 pub record IsValue (p : Problem) (policy : List ℕ) (x : List ℚ) : Type 0 where

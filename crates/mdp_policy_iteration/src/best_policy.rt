@@ -1,11 +1,6 @@
-ghost use Rattle.std.specs.Prelude.{◌≡◌, ◌≢◌, ◌<◌, [], length, Ok, IfOk};
-ghost use Rattle.std.specs.List.{All};
-ghost use Rattle.mdp_policy_iteration.specs.Problem.{count};
-ghost use Rattle.mdp_policy_iteration.specs.Path.{improved, improvements};
-ghost use Rattle.mdp_policy_iteration.specs.Laws.{IsSolvable, IsBestFrom};
-ghost use Rattle.mdp_policy_iteration.specs.Changes.{Ascend, IsChangeOf, spread, nodes_of};
-ghost use Rattle.mdp_policy_iteration.specs.Evaluated.{HasRoom, IsEvaluated};
-ghost use Rattle.mdp_policy_iteration.specs.Ends.{Ends, EndsWithLast};
+ghost use Rattle.std.specs.{Prelude.{◌≡◌, ◌≢◌, ◌<◌, [], length, Ok, IfOk}, List.{All}};
+ghost use Rattle.mdp_policy_iteration.specs.{Problem.{count}, Path.{improved, improvements}, Laws.{IsSolvable, IsBestFrom}};
+ghost use Rattle.mdp_policy_iteration.specs.{Changes.{Ascend, IsChangeOf, spread, nodes_of}, Evaluated.{HasRoom, IsEvaluated}, Ends.{Ends, EndsWithLast}};
 
 use crate::comparison::take_changes;
 use crate::evaluation::Evaluation;

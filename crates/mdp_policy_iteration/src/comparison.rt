@@ -1,12 +1,7 @@
-ghost use Rattle.std.specs.Prelude.{◌≡◌, ◌<◌, ℕ, false, length, Some, None, Ok, IfOk, IfErr};
-ghost use Rattle.std.specs.List.{All};
+ghost use Rattle.std.specs.{Prelude.{◌≡◌, ◌<◌, ℕ, false, length, Some, None, Ok, IfOk, IfErr}, List.{All}};
 ghost use Rattle.mdp_rows.specs.Preds.{is_among};
-ghost use Rattle.mdp_policy_iteration.specs.Problem.{count, choices_at, choice_at};
-ghost use Rattle.mdp_policy_iteration.specs.Faults.{Answers};
-ghost use Rattle.mdp_policy_iteration.specs.Code.{shown};
-ghost use Rattle.mdp_policy_iteration.specs.Candidates.{compared};
-ghost use Rattle.mdp_policy_iteration.specs.Path.{improvement, improvements, improved};
-ghost use Rattle.mdp_policy_iteration.specs.Changes.{Ascend, IsChangeOf, nodes_of, spread};
+ghost use Rattle.mdp_policy_iteration.specs.{Problem.{count, choices_at, choice_at}, Faults.{Answers}, Code.{shown}, Candidates.{compared}};
+ghost use Rattle.mdp_policy_iteration.specs.{Path.{improvement, improvements, improved}, Changes.{Ascend, IsChangeOf, nodes_of, spread}};
 
 use crate::errors::RoundError;
 use crate::leader::{Leader, judged};

@@ -1,18 +1,11 @@
-ghost use Rattle.std.specs.Prelude.{ℕ, ◌≡◌, ◌<◌, length, true, false, Ok, Err, OnOk, IfOk, IfErr};
-ghost use Rattle.std.specs.List.{All};
-ghost use Rattle.std.specs.Result.{result_ok};
+ghost use Rattle.std.specs.{Prelude.{ℕ, ◌≡◌, ◌<◌, length, true, false, Ok, Err, OnOk, IfOk, IfErr}, List.{All}, Result.{result_ok}};
 ghost use Rattle.mdp_spec.specs.Mdp.{value_at};
 ghost use Rattle.mdp_rows.specs.Preds.{is_among};
-ghost use Rattle.mdp_elim.specs.Kept.{IsKept};
+ghost use Rattle.mdp_elim.specs.{Kept.{IsKept}, System.{is_active}};
 ghost use Rattle.mdp_elim.specs.Kept as elimination;
-ghost use Rattle.mdp_elim.specs.System.{is_active};
-ghost use Rattle.mdp_policy_iteration.specs.Problem.{IsPolicy, count, taken, goes_on, active_of};
-ghost use Rattle.mdp_policy_iteration.specs.Values.{CanLeave};
+ghost use Rattle.mdp_policy_iteration.specs.{Problem.{IsPolicy, count, taken, goes_on, active_of}, Values.{CanLeave}};
 ghost use Rattle.mdp_policy_iteration.specs.Path.{evaluating, fits, stop_value, constant_by, constant, solved, filled_by, filled, written_values};
-ghost use Rattle.mdp_policy_iteration.specs.Places.{up_to, all_pass};
-ghost use Rattle.mdp_policy_iteration.specs.Faults.{Answers, Says};
-ghost use Rattle.mdp_policy_iteration.specs.Code.{RowsFit};
-ghost use Rattle.mdp_policy_iteration.specs.Changes.{Ascend};
+ghost use Rattle.mdp_policy_iteration.specs.{Places.{up_to, all_pass}, Faults.{Answers, Says}, Code.{RowsFit}, Changes.{Ascend}};
 ghost use Rattle.mdp_policy_iteration.specs.Evaluated.{StopsWith, equations_of, HasRoom, IsEvaluated, CanServe};
 
 use crate::errors::{NodePlace, RoundError};

@@ -1,6 +1,5 @@
 ghost use Rattle.std.specs.Prelude.{◌≡◌, Some, None, IfOk, IfErr};
-ghost use Rattle.mdp_policy_iteration.specs.Candidates.{judged};
-ghost use Rattle.mdp_policy_iteration.specs.Code.{shown};
+ghost use Rattle.mdp_policy_iteration.specs.{Candidates.{judged}, Code.{shown}};
 
 use mdp_num::{Frac, Wide};
 use mdp_rows::Dir;

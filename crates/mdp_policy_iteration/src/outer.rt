@@ -1,10 +1,6 @@
-ghost use Rattle.std.specs.Prelude.{◌≡◌, ◌<◌, length};
-ghost use Rattle.std.specs.List.{All};
-ghost use Rattle.std.specs.Result.{result_ok};
-ghost use Rattle.mdp_spec.specs.Row.{entries};
-ghost use Rattle.mdp_spec.specs.Written.{written_sum};
-ghost use Rattle.mdp_policy_iteration.specs.Code.{plus_outer};
-ghost use Rattle.mdp_policy_iteration.specs.Path.{outer};
+ghost use Rattle.std.specs.{Prelude.{◌≡◌, ◌<◌, length}, List.{All}, Result.{result_ok}};
+ghost use Rattle.mdp_spec.specs.{Row.{entries}, Written.{written_sum}};
+ghost use Rattle.mdp_policy_iteration.specs.{Code.{plus_outer}, Path.{outer}};
 
 use mdp_num::{Frac, Wide};
 use mdp_rows::{Marks, Row};

@@ -1,6 +1,5 @@
 ghost use Rattle.std.specs.Prelude.{◌≡◌, length};
-ghost use Rattle.mdp_policy_iteration.specs.Problem.{IsPolicy, count, rows_of};
-ghost use Rattle.mdp_policy_iteration.specs.Code.{RowsFit, IsPolicy-prop};
+ghost use Rattle.mdp_policy_iteration.specs.{Problem.{IsPolicy, count, rows_of}, Code.{RowsFit, IsPolicy-prop}};
 
 use crate::loops::Loops;
 use crate::shortest_path::ShortestPath;

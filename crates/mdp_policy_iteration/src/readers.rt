@@ -1,6 +1,5 @@
 ghost use Rattle.std.specs.Prelude.{◌+◌, ◌<◌, IfOk, OnOk};
-ghost use Rattle.mdp_policy_iteration.specs.Problem.{count};
-ghost use Rattle.mdp_policy_iteration.specs.ReadersOf.{AreReaders, AreReadersTo};
+ghost use Rattle.mdp_policy_iteration.specs.{Problem.{count}, ReadersOf.{AreReaders, AreReadersTo}};
 
 use crate::shortest_path::ShortestPath;
 use mdp_readers::Readers;

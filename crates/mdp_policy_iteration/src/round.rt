@@ -1,12 +1,7 @@
-ghost use Rattle.std.specs.Prelude.{ℕ, ◌≡◌, ◌<◌, length, Ok, OnOk, IfOk};
-ghost use Rattle.std.specs.List.{All};
-ghost use Rattle.mdp_policy_iteration.specs.Problem.{IsPolicy, count};
-ghost use Rattle.mdp_policy_iteration.specs.Values.{CanLeave};
-ghost use Rattle.mdp_policy_iteration.specs.Path.{improvements, path_step};
-ghost use Rattle.mdp_policy_iteration.specs.Changes.{Ascend, IsChangeOf, spread, nodes_of};
-ghost use Rattle.mdp_policy_iteration.specs.Evaluated.{HasRoom, IsEvaluated, CanServe};
-ghost use Rattle.mdp_policy_iteration.specs.Scope.{NoneImprovesElsewhere};
-ghost use Rattle.mdp_policy_iteration.specs.Ends.{Makes};
+ghost use Rattle.std.specs.{Prelude.{ℕ, ◌≡◌, ◌<◌, length, Ok, OnOk, IfOk}, List.{All}};
+ghost use Rattle.mdp_policy_iteration.specs.{Problem.{IsPolicy, count}, Values.{CanLeave}, Path.{improvements, path_step}};
+ghost use Rattle.mdp_policy_iteration.specs.{Changes.{Ascend, IsChangeOf, spread, nodes_of}, Evaluated.{HasRoom, IsEvaluated, CanServe}};
+ghost use Rattle.mdp_policy_iteration.specs.{Scope.{NoneImprovesElsewhere}, Ends.{Makes}};
 
 use crate::comparison::improvements;
 use crate::errors::RoundError;

@@ -1,9 +1,5 @@
-ghost use Rattle.std.specs.Prelude.{◌≡◌, false, replicate, IfOk, OnOk};
-ghost use Rattle.std.specs.List.{All, range_with_len};
-ghost use Rattle.mdp_policy_iteration.specs.Problem.{IsPolicy, count};
-ghost use Rattle.mdp_policy_iteration.specs.ReadersOf.{AreReaders};
-ghost use Rattle.mdp_policy_iteration.specs.Changes.{IsChangeOf};
-ghost use Rattle.mdp_policy_iteration.specs.Scope.{IsScope};
+ghost use Rattle.std.specs.{Prelude.{◌≡◌, false, replicate, IfOk, OnOk}, List.{All, range_with_len}};
+ghost use Rattle.mdp_policy_iteration.specs.{Problem.{IsPolicy, count}, ReadersOf.{AreReaders}, Changes.{IsChangeOf}, Scope.{IsScope}};
 
 use crate::comparison::changed_nodes;
 use crate::loops::all_nodes;

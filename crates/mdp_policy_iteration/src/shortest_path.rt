@@ -1,10 +1,7 @@
-ghost use Rattle.std.specs.Prelude.{◌≡◌, ◌<◌, true, length};
-ghost use Rattle.std.specs.List.{All};
-ghost use Rattle.std.specs.Result.{result_ok};
+ghost use Rattle.std.specs.{Prelude.{◌≡◌, ◌<◌, true, length}, List.{All}, Result.{result_ok}};
 ghost use Rattle.mdp_spec.specs.Row.{entries};
 ghost use Rattle.mdp_policy_iteration.specs.Problem.{Problem, IsProblem, count, node_at, choices_at, choice_at, goes_on, amount, row_from};
-ghost use Rattle.mdp_policy_iteration.specs.Code.{CanTake, move_at, fits_at};
-ghost use Rattle.mdp_policy_iteration.specs.Reads.{Reads};
+ghost use Rattle.mdp_policy_iteration.specs.{Code.{CanTake, move_at, fits_at}, Reads.{Reads}};
 
 use mdp_num::{Frac, Wide};
 use mdp_rows::{Dir, Row};

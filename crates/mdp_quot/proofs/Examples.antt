@@ -1,8 +1,6 @@
 -- Small models, computed.
-use Rattle.std.proofs.Common.{◌≡◌, ℕ, ◌==◌, length, List, [], ◌∷◌, refl, sym, ap, arith, ◌%◌, Option, Some, None}
-use Rattle.std.proofs.lemmas.Bool.{false≢true}
-use Rattle.mdp_math.specs.Gcd.{gcd, gcd_with_fuel}
-use Rattle.mdp_math.specs.Rational.{of_int, ratio, ◌+ℚ◌, le_ℚ}
+use Rattle.std.proofs.{Common.{◌≡◌, ℕ, ◌==◌, length, List, [], ◌∷◌, refl, sym, ap, arith, ◌%◌, Option, Some, None}, lemmas.Bool.{false≢true}}
+use Rattle.mdp_math.specs.{Gcd.{gcd, gcd_with_fuel}, Rational.{of_int, ratio, ◌+ℚ◌, le_ℚ}}
 use Rattle.mdp_spec.specs.Mdp.{Entry, Mdp}
 use Rattle.mdp_spec.proofs.Small.{choice, entry, half, one, quarter, state}
 use Rattle.mdp_rows.specs.Preds.{pair}

@@ -1,17 +1,13 @@
 -- The exits of all nodes, choice by choice and state by state.
 use Rattle.std.proofs.Common.{◌≡◌, inl, inr, ℕ, ◌+◌, ◌<◌, Bool, true, false, not, ◌&&◌, ◌==◌, cond, List}
 use Rattle.std.proofs.Common.{[], ◌∷◌, ◌++◌, length, get_or, filter, replicate, refl, sym, ap, ◌∙◌, subst, arith, Option}
-use Rattle.std.specs.List.{range_with_len, flat_map}
-use Rattle.std.specs.Prelude.{slice_set}
 use Rattle.std.proofs.lemmas.Bool.{cases_eq, eq-eqb, ne_eqb}
 use Rattle.std.proofs.lemmas.List.{get_or-set_same, get_or-set_other, length-set, append-nil, append_assoc, length-replicate, get_or-replicate}
-use Rattle.std.proofs.lemmas.List.Elements.{filter-append}
-use Rattle.std.proofs.lemmas.List.FromFn.{map-range_with_len_more}
-use Rattle.std.proofs.lemmas.Grind.{flat_map-append}
+use Rattle.std.proofs.{lemmas.List.Elements.{filter-append}, lemmas.List.FromFn.{map-range_with_len_more}, lemmas.Grind.{flat_map-append}}
+use Rattle.std.specs.{List.{range_with_len, flat_map}, Prelude.{slice_set}}
 use Rattle.mdp_math.proofs.Lists.{map-same}
 use Rattle.mdp_spec.specs.Mdp.{Mdp}
-use Rattle.mdp_rows.specs.declared.preds.Pred.{Pred}
-use Rattle.mdp_rows.specs.Preds.{pair, first_choices, choices_of, choices_below}
+use Rattle.mdp_rows.specs.{declared.preds.Pred.{Pred}, Preds.{pair, first_choices, choices_of, choices_below}}
 use Rattle.mdp_ends.specs.Ends.{is_inside}
 use Rattle.mdp_quot.specs.ExitLists.{is_exit, AreExits}
 

@@ -1,26 +1,17 @@
 -- The entries of a row to any set of targets add up within width.
 use Rattle.std.proofs.Common.{◌≡◌, inl, inr, ℕ, zero, suc, ◌+◌, ◌*◌, ◌/◌, ◌<◌, ◌≤◌, Bool, false, cond, List, [], ◌∷◌}
 use Rattle.std.proofs.Common.{length, take, get_or, refl, sym, ap, ap₂, ◌∙◌, subst, arith, ℤ, pos, ◌+ℤ◌, ◌*ℤ◌, ◌≤ℤ◌, unsigned_abs, Some}
-use Rattle.std.specs.Int.{◌∣◌}
-use Rattle.std.specs.List.{All}
-use Rattle.std.proofs.lemmas.Bool.{cases_Bool}
-use Rattle.std.proofs.lemmas.Int.{ints}
+use Rattle.std.proofs.{lemmas.Bool.{cases_Bool}, lemmas.Int.{ints}}
 use Rattle.std.proofs.Math.Nat.{dvd_trans, dvd_refl, one-dvd, dvd-mul_left, dvd-mul_right, mul-div_cancel', div-mul_cancel, le_of_dvd, eq_of_mul-eq-mul_left, mul-le-mul_right, div-le_self}
-use Rattle.mdp_math.specs.Gcd.{gcd, gcd_is, gcd-pos, gcd_scaled, lcm}
-use Rattle.mdp_math.specs.Rational.{ℚ, ratio, ◌+ℚ◌, ◌≤ℚ◌}
-use Rattle.mdp_math.specs.Sum.{sum_of, EachAt}
-use Rattle.mdp_math.specs.Written.{across, written_add, narrow, narrow_ℚ, signed}
-use Rattle.mdp_math.proofs.Kernel.{All-head, All-tail}
-use Rattle.mdp_math.proofs.Laws.{den-pos, is_ratio, same_is, den-of_int, num-of_int, zero-+ℚ, +ℚ_comm}
-use Rattle.mdp_math.proofs.Order.{0ℚ, 1ℚ, nonneg, le_across, add-le-add_ℚ, ≤ℚ_refl, ≤ℚ_trans, ≤ℚ_of_lt}
-use Rattle.mdp_math.proofs.Sums.{sum_of-nonneg}
-use Rattle.mdp_math.proofs.Whole.{one-pos}
 use Rattle.std.proofs.lemmas.List.Elements.{All-take}
+use Rattle.std.specs.{Int.{◌∣◌}, List.{All}}
+use Rattle.mdp_math.specs.{Gcd.{gcd, gcd_is, gcd-pos, gcd_scaled, lcm}, Rational.{ℚ, ratio, ◌+ℚ◌, ◌≤ℚ◌}, Sum.{sum_of, EachAt}}
+use Rattle.mdp_math.specs.Written.{across, written_add, narrow, narrow_ℚ, signed}
+use Rattle.mdp_math.proofs.{Kernel.{All-head, All-tail}, Laws.{den-pos, is_ratio, same_is, den-of_int, num-of_int, zero-+ℚ, +ℚ_comm}}
+use Rattle.mdp_math.proofs.{Order.{0ℚ, 1ℚ, nonneg, le_across, add-le-add_ℚ, ≤ℚ_refl, ≤ℚ_trans, ≤ℚ_of_lt}, Sums.{sum_of-nonneg}, Whole.{one-pos}}
 use Rattle.mdp_math.proofs.Written.{narrow-kept, narrow_ℚ-kept, written_add-by, signed_self, num-ratio_signed, den-ratio_signed, sum_across, common_den-pos}
 use Rattle.mdp_num.specs.Numeral.{limit}
-use Rattle.mdp_spec.specs.Mdp.{Entry}
-use Rattle.mdp_spec.specs.Row.{IsDistribution}
-use Rattle.mdp_spec.specs.Unit.{row_den}
+use Rattle.mdp_spec.specs.{Mdp.{Entry}, Row.{IsDistribution}, Unit.{row_den}}
 use Rattle.mdp_spec.proofs.Units.{row-divides, row_den-pos}
 use Rattle.mdp_ends.specs.Quotient.{mass_in}
 use Rattle.mdp_ends.proofs.MergedRows.{mass-nonneg}

@@ -1,27 +1,16 @@
 -- The states of the exits that are taken, the choices toward them, and the policy that a policy of the nodes is lifted to.
 use Rattle.std.proofs.Common.{◌≡◌, ◌⊎◌, inl, inr, ℕ, suc, ◌+◌, ◌-◌, ◌<◌, Bool, true, false, cond, List, length, get_or, refl, sym, ap, ◌∙◌, arith, Option, Some, None}
-use Rattle.std.proofs.lemmas.Bool.{cases_eq, eq-eqb, ne_eqb}
+use Rattle.std.proofs.{lemmas.Bool.{cases_eq, eq-eqb, ne_eqb}, lemmas.List.{get_or_default, get_or-set_same, get_or-set_other, length-set}}
 use Rattle.std.specs.Prelude.{slice_set}
-use Rattle.std.proofs.lemmas.List.{get_or_default, get_or-set_same, get_or-set_other, length-set}
-use Rattle.mdp_spec.specs.Mdp.{Mdp, states_of}
-use Rattle.mdp_spec.specs.Row.{IsMdp}
-use Rattle.mdp_rows.specs.declared.preds.Pred.{Pred}
-use Rattle.mdp_rows.specs.Preds.{pair}
-use Rattle.mdp_graph.specs.Sets.{marked}
-use Rattle.mdp_graph.specs.Choices.{AreLeast}
-use Rattle.mdp_ends.specs.Ends.{part_of, in_part, has_number, AreEnds}
-use Rattle.mdp_ends.specs.Quotient.{ShareAPart, nodes_in, exits_of}
-use Rattle.mdp_ends.specs.Selection.{exit_at}
+use Rattle.mdp_spec.specs.{Mdp.{Mdp, states_of}, Row.{IsMdp}}
+use Rattle.mdp_rows.specs.{declared.preds.Pred.{Pred}, Preds.{pair}}
+use Rattle.mdp_graph.specs.{Sets.{marked}, Choices.{AreLeast}}
+use Rattle.mdp_ends.specs.{Ends.{part_of, in_part, has_number, AreEnds}, Quotient.{ShareAPart, nodes_in, exits_of}, Selection.{exit_at}}
 use Rattle.mdp_ends.specs.Toward.{choice_to, lifted_choice, IsOuter}
-use Rattle.mdp_ends.proofs.Exits.{exit_known, node-below}
-use Rattle.mdp_ends.proofs.RoundLaws.{number-has}
+use Rattle.mdp_ends.proofs.{Exits.{exit_known, node-below}, RoundLaws.{number-has}}
 use Rattle.mdp_parts.specs.TowardTargets.{IsTowardTargets}
-use Rattle.mdp_quot.proofs.NodesFound.{part-below}
-use Rattle.mdp_quot.proofs.TowardTargets.{targets_choice}
-use Rattle.mdp_quot.specs.Quotient.{Quotient, IsQuotient, exits_at}
-use Rattle.mdp_quot.specs.Lifting.{AreTaken, AreWays}
-use Rattle.mdp_quot.proofs.Selected.{are_selected}
-use Rattle.mdp_quot.specs.Laws.{AreSelected}
+use Rattle.mdp_quot.proofs.{NodesFound.{part-below}, TowardTargets.{targets_choice}, Selected.{are_selected}}
+use Rattle.mdp_quot.specs.{Quotient.{Quotient, IsQuotient, exits_at}, Lifting.{AreTaken, AreWays}, Laws.{AreSelected}}
 
 pub in_part-by : (parts : List (Option ℕ)) (i s : ℕ) → part_of parts s ≡ Some i → in_part parts i s ≡ true
 in_part-by parts i s e = ap (has_number i) e ∙ eq-eqb i i refl

@@ -4,11 +4,8 @@ use Rattle.std.proofs.Common.{◌++◌, length, get_or, map, replicate, refl, sy
 use Rattle.std.proofs.lemmas.Bool.{cases_Bool, cases_eq, cases_lt, lt-ltb, le-ltb}
 use Rattle.std.proofs.lemmas.List.{get_or-map, map-append, get_or-replicate, length-replicate, get_or_past, get_or_default}
 use Rattle.std.specs.List.{All}
-use Rattle.mdp_ends.specs.Numbers.{is_numbered, count_from}
-use Rattle.mdp_ends.specs.Ends.{part_of, count_of}
-use Rattle.mdp_ends.specs.Quotient.{AreNodes, ShareAPart, nodes_in}
-use Rattle.mdp_ends.proofs.Numbering.{some-same, some≢none, case-number, numbered-below}
-use Rattle.mdp_ends.proofs.NumberingFound.{numbered-some, length-more, at_before, at_last}
+use Rattle.mdp_ends.specs.{Numbers.{is_numbered, count_from}, Ends.{part_of, count_of}, Quotient.{AreNodes, ShareAPart, nodes_in}}
+use Rattle.mdp_ends.proofs.{Numbering.{some-same, some≢none, case-number, numbered-below}, NumberingFound.{numbered-some, length-more, at_before, at_last}}
 use Rattle.mdp_quot.specs.Numbering.{IsNumbering}
 
 count_from-append : (next : ℕ) (xs ys : List (Option ℕ)) → count_from next (xs ++ ys) ≡ count_from (count_from next xs) ys

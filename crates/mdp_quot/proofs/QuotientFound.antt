@@ -1,31 +1,19 @@
 -- The parts that were found are the quotient, and it has the shape that each quotient keeps.
 use Rattle.std.proofs.Common.{◌≡◌, ℕ, ◌<◌, ◌≤◌, ◌^◌, Bool, true, false, ◌==◌, nat_le, cond, List, []}
-use Rattle.std.proofs.Common.{◌∷◌, length, get_or, map, refl, sym, ap, ap₂, ◌∙◌, subst, arith, Option, None}
-use Rattle.std.specs.List.{range_with_len, All}
-use Rattle.std.proofs.lemmas.Bool.{ne_eqb, and_from, le-leb}
-use Rattle.std.proofs.lemmas.List.{length-map, get_or-map, get_or_default}
-use Rattle.std.proofs.lemmas.List.Elements.{All-filter, All-cons, All-nil}
+use Rattle.std.proofs.{Common.{◌∷◌, length, get_or, map, refl, sym, ap, ap₂, ◌∙◌, subst, arith, Option, None}, lemmas.Bool.{ne_eqb, and_from, le-leb}}
+use Rattle.std.proofs.{lemmas.List.{length-map, get_or-map, get_or_default}, lemmas.List.Elements.{All-filter, All-cons, All-nil}}
 use Rattle.std.proofs.lemmas.List.FromFn.{length-map-range_with_len, get_or-map-range_with_len, fill_by_all}
+use Rattle.std.specs.List.{range_with_len, All}
 use Rattle.mdp_math.specs.Rational.{ℚ, ◌<ℚ◌}
-use Rattle.mdp_math.proofs.Laws.{+ℚ_comm, zero-+ℚ}
-use Rattle.mdp_math.proofs.Order.{0ℚ, 1ℚ}
-use Rattle.mdp_math.proofs.Whole.{one-pos}
-use Rattle.mdp_spec.specs.Mdp.{Entry, Mdp, states_of}
-use Rattle.mdp_spec.specs.Row.{entries, IsDistribution, IsRow, IsMdp}
-use Rattle.mdp_rows.specs.declared.preds.Pred.{Pred}
-use Rattle.mdp_rows.specs.Preds.{choices_below}
-use Rattle.mdp_ends.specs.Ends.{AreEnds}
-use Rattle.mdp_ends.specs.Quotient.{AreNodes, nodes_in, exits_of, node_row}
-use Rattle.mdp_ends.proofs.Exits.{IsChoice, all_choices}
-use Rattle.mdp_ends.proofs.Leaving.{node_row-is}
-use Rattle.mdp_quot.specs.Numbering.{IsNumbering}
-use Rattle.mdp_quot.specs.ExitLists.{is_exit, AreExits}
-use Rattle.mdp_quot.specs.Quotient.{Quotient, IsQuotient, IsShaped, exits_at, rows_at, row_of, loop_row, rows_by, node_rows}
-use Rattle.mdp_rows.specs.declared.row.Row.{Row}
-use Rattle.mdp_quot.specs.declared.node.Node.{Node}
+use Rattle.mdp_math.proofs.{Laws.{+ℚ_comm, zero-+ℚ}, Order.{0ℚ, 1ℚ}, Whole.{one-pos}}
+use Rattle.mdp_spec.specs.{Mdp.{Entry, Mdp, states_of}, Row.{entries, IsDistribution, IsRow, IsMdp}}
+use Rattle.mdp_rows.specs.{declared.preds.Pred.{Pred}, Preds.{choices_below}, declared.row.Row.{Row}}
+use Rattle.mdp_ends.specs.{Ends.{AreEnds}, Quotient.{AreNodes, nodes_in, exits_of, node_row}}
+use Rattle.mdp_ends.proofs.{Exits.{IsChoice, all_choices}, Leaving.{node_row-is}}
+use Rattle.mdp_quot.specs.{Numbering.{IsNumbering}, ExitLists.{is_exit, AreExits}}
+use Rattle.mdp_quot.specs.{Quotient.{Quotient, IsQuotient, IsShaped, exits_at, rows_at, row_of, loop_row, rows_by, node_rows}, declared.node.Node.{Node}}
 use Rattle.mdp_quot.specs.QuotientView.{row_in, rows_in, quotient_in}
-use Rattle.mdp_quot.proofs.NodesFound.{all_numbered}
-use Rattle.mdp_quot.proofs.Summing.{length-entries, entry_at}
+use Rattle.mdp_quot.proofs.{NodesFound.{all_numbered}, Summing.{length-entries, entry_at}}
 
 -- ---- rows
 

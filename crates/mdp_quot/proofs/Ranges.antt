@@ -1,9 +1,7 @@
 -- An ascending list is the part of a range that has its numbers.
 use Rattle.std.proofs.Common.{◌≡◌, inl, inr, ℕ, zero, suc, ◌+◌, ◌<◌, ◌≤◌, Bool, true, false, ◌==◌, cond, List, [], ◌∷◌, length, get_or, filter, refl, sym, ap, ◌∙◌, subst, arith}
-use Rattle.std.specs.List.{range_with_len}
-use Rattle.std.proofs.lemmas.List.Sums.{sum_by-cons}
-use Rattle.std.specs.List.Sorted.{IsNonDecreasing}
-use Rattle.std.proofs.lemmas.Bool.{cases_Bool, cases_eq, false≢true, eq-eqb, ne_eqb}
+use Rattle.std.proofs.{lemmas.List.Sums.{sum_by-cons}, lemmas.Bool.{cases_Bool, cases_eq, false≢true, eq-eqb, ne_eqb}}
+use Rattle.std.specs.{List.{range_with_len}, List.Sorted.{IsNonDecreasing}}
 use Rattle.mdp_quot.specs.Sums.{times}
 
 pub times-cons : (q x : ℕ) (xs : List ℕ) → times q (x ∷ xs) ≡ cond (x == q) 1 0 + times q xs

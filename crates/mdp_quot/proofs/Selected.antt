@@ -1,19 +1,14 @@
 -- The rows of selected exits.
 use Rattle.std.proofs.Common.{◌≡◌, inl, inr, ℕ, ◌<◌, Bool, false, ◌==◌, cond, List, [], ◌∷◌, length, get_or, map, sym, ap, ◌∙◌, subst, arith, Option}
-use Rattle.std.proofs.lemmas.Bool.{cases_Bool, cases_eq, eqb-true, ne_eqb, false≢true, cond-true, cond-false}
-use Rattle.std.proofs.lemmas.List.{get_or-map}
+use Rattle.std.proofs.{lemmas.Bool.{cases_Bool, cases_eq, eqb-true, ne_eqb, false≢true, cond-true, cond-false}, lemmas.List.{get_or-map}}
 use Rattle.std.proofs.lemmas.List.FromFn.{length-map-range_with_len, get_or-map-range_with_len, fill_by_all}
-use Rattle.mdp_spec.specs.Mdp.{Entry, Mdp}
-use Rattle.mdp_spec.specs.Row.{IsRow, AreRows}
-use Rattle.mdp_rows.specs.declared.preds.Pred.{Pred}
-use Rattle.mdp_rows.specs.Preds.{pair}
-use Rattle.mdp_ends.specs.Quotient.{nodes_in, exits_of, node_row}
-use Rattle.mdp_ends.specs.Selection.{IsSelection, is_exitless, exit_row, selected_row}
+use Rattle.mdp_spec.specs.{Mdp.{Entry, Mdp}, Row.{IsRow, AreRows}}
+use Rattle.mdp_rows.specs.{declared.preds.Pred.{Pred}, Preds.{pair}}
+use Rattle.mdp_ends.specs.{Quotient.{nodes_in, exits_of, node_row}, Selection.{IsSelection, is_exitless, exit_row, selected_row}}
 use Rattle.mdp_quot.specs.Quotient.{Quotient, IsQuotient, IsShaped, IsChosen, chosen_rows, exits_at, rows_at, row_of, loop_row, rows_by, node_rows}
-use Rattle.mdp_graph.specs.Layers.{reached}
-use Rattle.mdp_graph.specs.Reach.{row_step}
-use Rattle.mdp_ends.proofs.Leaving.{every_selection_leaves as leaves_by_nodes}
 use Rattle.mdp_quot.specs.Laws.{AreSelected, EverySelectionLeaves}
+use Rattle.mdp_graph.specs.{Layers.{reached}, Reach.{row_step}}
+use Rattle.mdp_ends.proofs.Leaving.{every_selection_leaves as leaves_by_nodes}
 
 -- ---- the rows of a choice of exits are distributions over the nodes
 

@@ -1,33 +1,20 @@
 -- The sums of a row's entries to each node: none yet, one entry more, and the merged row that they make.
 use Rattle.std.proofs.Common.{◌≡◌, ◌≢◌, ◌⊎◌, inl, inr, ℕ, zero, suc, ◌+◌, ◌<◌, ◌≤◌, Bool, true, false, not, ◌==◌, cond, List}
 use Rattle.std.proofs.Common.{[], ◌∷◌, ◌++◌, length, take, get_or, map, filter, refl, sym, ap, ap₂, ◌∙◌, subst, arith, Some, None, is_some}
-use Rattle.std.specs.List.{range_with_len, All}
-use Rattle.std.specs.List.Sorted.{IsNonDecreasing}
-use Rattle.std.specs.Prelude.{slice_set}
 use Rattle.std.proofs.lemmas.Bool.{cases_Bool, cases_eq, false≢true, eq-eqb, ne_eqb, not-true, not_from_false, cases_lt}
-use Rattle.std.specs.List.Sorted.{IsPermutation}
-use Rattle.std.proofs.lemmas.List.Sorted.{sum_by-IsPermutation, All-permutation}
-use Rattle.std.proofs.lemmas.List.Sums.{sum_by_push}
+use Rattle.std.proofs.{lemmas.List.Sorted.{sum_by-IsPermutation, All-permutation}, lemmas.List.Sums.{sum_by_push}}
 use Rattle.std.proofs.lemmas.List.Elements.{All-push, All-nil, All-take}
-use Rattle.std.proofs.lemmas.List.{get_or-set_same, get_or-set_other, length-set}
-use Rattle.std.proofs.lemmas.List.{take_more, get_or_past}
-use Rattle.std.proofs.lemmas.List.{take_all as take_whole}
-use Rattle.mdp_math.specs.Rational.{ℚ, ◌+ℚ◌, ◌≤ℚ◌, ◌<ℚ◌, le_ℚ}
-use Rattle.mdp_math.proofs.Extremes.{le_of_test, gt_of_test}
-use Rattle.mdp_math.proofs.Kernel.{All-head, All-tail}
-use Rattle.mdp_math.proofs.Laws.{+ℚ_comm, zero-+ℚ}
-use Rattle.mdp_math.proofs.Order.{0ℚ, ≤ℚ_refl, ≤ℚ_of_lt, ≤ℚ_antisymm, add-pos-nonneg, clash_ℚ, ne-zero_of_pos}
-use Rattle.mdp_math.proofs.Sums.{sum_of-append}
-use Rattle.mdp_spec.specs.Mdp.{Entry, value_at}
-use Rattle.mdp_spec.specs.Row.{entries, IsDistribution, IsRow}
+use Rattle.std.proofs.lemmas.List.{get_or-set_same, get_or-set_other, length-set, take_more, get_or_past, take_all as take_whole}
+use Rattle.std.specs.{List.{range_with_len, All}, List.Sorted.{IsNonDecreasing, IsPermutation}, Prelude.{slice_set}}
+use Rattle.mdp_math.specs.{Rational.{ℚ, ◌+ℚ◌, ◌≤ℚ◌, ◌<ℚ◌, le_ℚ}, Written.{written_add}}
+use Rattle.mdp_math.proofs.{Extremes.{le_of_test, gt_of_test}, Kernel.{All-head, All-tail}, Laws.{+ℚ_comm, zero-+ℚ}}
+use Rattle.mdp_math.proofs.{Order.{0ℚ, ≤ℚ_refl, ≤ℚ_of_lt, ≤ℚ_antisymm, add-pos-nonneg, clash_ℚ, ne-zero_of_pos}, Sums.{sum_of-append}}
+use Rattle.mdp_spec.specs.{Mdp.{Entry, value_at}, Row.{entries, IsDistribution, IsRow}, Unit.{row_den}}
 use Rattle.mdp_ends.specs.Quotient.{mass_in, merged}
 use Rattle.mdp_ends.proofs.MergedRows.{mass-nonneg, merged_row}
 use Rattle.mdp_num.specs.Numeral.{limit}
-use Rattle.mdp_spec.specs.Unit.{row_den}
-use Rattle.mdp_math.specs.Written.{written_add}
 use Rattle.mdp_quot.specs.Sums.{times, mass_at, AreSums, IsClear}
-use Rattle.mdp_quot.proofs.Fitting.{entry_fits}
-use Rattle.mdp_quot.proofs.Ranges.{AreThose, range_is, place_of_times}
+use Rattle.mdp_quot.proofs.{Fitting.{entry_fits}, Ranges.{AreThose, range_is, place_of_times}}
 
 -- ---- the entries that two lists spell
 

@@ -1,19 +1,11 @@
 -- Within an end component with one target alone, the pass toward targets has the ranks and choices that are computed for this state.
 use Rattle.std.proofs.Common.{◌≡◌, inl, inr, ℕ, zero, suc, ◌<◌, Bool, true, ◌==◌, List, get_or, ap, ◌∙◌, arith, Option}
 use Rattle.std.proofs.lemmas.Bool.{or_cases, or_left, or_right, eqb-true, eq-eqb}
-use Rattle.mdp_spec.specs.Mdp.{Mdp, states_of, row_at}
-use Rattle.mdp_spec.specs.Row.{IsMdp}
-use Rattle.mdp_graph.specs.Sets.{marked}
-use Rattle.mdp_graph.specs.Layers.{reached, AreLeastRanks}
-use Rattle.mdp_ends.specs.Walks.{comes_to}
-use Rattle.mdp_ends.specs.Ends.{part_of, in_part, is_inside, count_of, AreEnds}
-use Rattle.mdp_ends.specs.Toward.{inner_step, rank_to, choice_to}
-use Rattle.mdp_ends.proofs.Walking.{stays-at, step-has, step-by}
-use Rattle.mdp_ends.proofs.RoundLaws.{number-has, inside-stays}
-use Rattle.mdp_ends.proofs.Closing.{reaches_by}
-use Rattle.mdp_ends.proofs.TowardLaws.{wider, steps_rise}
-use Rattle.mdp_ends.proofs.Firsts.{first-least, first-found}
-use Rattle.mdp_ends.proofs.TowardOne.{one_choice}
+use Rattle.mdp_spec.specs.{Mdp.{Mdp, states_of, row_at}, Row.{IsMdp}}
+use Rattle.mdp_graph.specs.{Sets.{marked}, Layers.{reached, AreLeastRanks}}
+use Rattle.mdp_ends.specs.{Walks.{comes_to}, Ends.{part_of, in_part, is_inside, count_of, AreEnds}, Toward.{inner_step, rank_to, choice_to}}
+use Rattle.mdp_ends.proofs.{Walking.{stays-at, step-has, step-by}, RoundLaws.{number-has, inside-stays}, Closing.{reaches_by}, TowardLaws.{wider, steps_rise}}
+use Rattle.mdp_ends.proofs.{Firsts.{first-least, first-found}, TowardOne.{one_choice}}
 use Rattle.mdp_parts.specs.TowardTargets.{IsTowardTargets}
 
 module _ (m : Mdp) (ok : IsMdp m) (ends : List (Option ℕ)) (are : AreEnds m ends) (target marks : List Bool) (ranks choices : List ℕ) (pass : IsTowardTargets m ends target marks ranks choices) (i : ℕ)

@@ -1,6 +1,5 @@
 -- The exits of all nodes, choice by choice.
-use Rattle.std.specs.Prelude.{◌≡◌, ℕ, ◌<◌, Bool, ◌&&◌, ◌==◌, not, List, [], length, Option, slice_index, slice_index_or}
-use Rattle.std.specs.List.{filter}
+use Rattle.std.specs.{Prelude.{◌≡◌, ℕ, ◌<◌, Bool, ◌&&◌, ◌==◌, not, List, [], length, Option, slice_index, slice_index_or}, List.{filter}}
 use Rattle.mdp_rows.specs.declared.preds.Pred.{Pred}
 use Rattle.mdp_spec.specs.Mdp.{Mdp}
 use Rattle.mdp_ends.specs.Ends.{is_inside}

@@ -1,12 +1,8 @@
 -- What the rows of selected exits are, and that every selection leaves.
 use Rattle.std.specs.Prelude.{◌≡◌, ℕ, ◌<◌, true, List, length, Option}
-use Rattle.mdp_spec.specs.Mdp.{Mdp}
-use Rattle.mdp_spec.specs.Row.{IsMdp}
-use Rattle.mdp_ends.specs.Ends.{AreEnds}
-use Rattle.mdp_ends.specs.Quotient.{nodes_in, exits_of}
-use Rattle.mdp_graph.specs.Layers.{reached}
-use Rattle.mdp_graph.specs.Reach.{row_step}
-use Rattle.mdp_ends.specs.Selection.{IsSelection, is_exitless, exit_row, selected_rows}
+use Rattle.mdp_spec.specs.{Mdp.{Mdp}, Row.{IsMdp}}
+use Rattle.mdp_ends.specs.{Ends.{AreEnds}, Quotient.{nodes_in, exits_of}, Selection.{IsSelection, is_exitless, exit_row, selected_rows}}
+use Rattle.mdp_graph.specs.{Layers.{reached}, Reach.{row_step}}
 use Rattle.mdp_quot.specs.Quotient.{Quotient, IsQuotient, IsChosen, chosen_rows, exits_at, row_of}
 
 -- in the quotient of a model: what the call `row` gives of an exit; a selection is what the type of exit rows keeps; and its rows are those of the selected exits

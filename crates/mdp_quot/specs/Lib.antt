@@ -5,3 +5,10 @@ pub mod QuotientView
 pub mod ExitLists
 pub mod Laws
 pub mod Lifting
+pub mod OfModel
+pub mod PathEnds
+pub mod Problem
+pub mod Steps
+pub mod Outer
+pub mod Sizes
+pub mod ExitsLaws

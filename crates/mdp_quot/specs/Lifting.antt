@@ -2,9 +2,7 @@
 use Rattle.std.specs.Prelude.{◌≡◌, ℕ, suc, ◌<◌, Bool, true, List, length, Option, Some, slice_index}
 use Rattle.mdp_spec.specs.Mdp.{Mdp, states_of, choices_at}
 use Rattle.mdp_graph.specs.Sets.{marked}
-use Rattle.mdp_ends.specs.Ends.{part_of, is_inside}
-use Rattle.mdp_ends.specs.Selection.{exit_at}
-use Rattle.mdp_ends.specs.Toward.{choice_to}
+use Rattle.mdp_ends.specs.{Ends.{part_of, is_inside}, Selection.{exit_at}, Toward.{choice_to}}
 
 -- inner choices at the states of end components
 pub record IsInner (m : Mdp) (parts : List (Option ℕ)) (inner : List ℕ) : Type 0 where

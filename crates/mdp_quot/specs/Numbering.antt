@@ -1,8 +1,6 @@
 -- The numbers of nodes, state by state.
 use Rattle.std.specs.Prelude.{◌≡◌, ℕ, ◌<◌, ◌≤◌, true, List, length, map, Option, Some, None, slice_index, slice_index_or}
-use Rattle.mdp_ends.specs.Numbers.{is_numbered}
-use Rattle.mdp_ends.specs.Ends.{part_of, count_of}
-use Rattle.mdp_ends.specs.Quotient.{nodes_in}
+use Rattle.mdp_ends.specs.{Numbers.{is_numbered}, Ends.{part_of, count_of}, Quotient.{nodes_in}}
 
 -- the first n states have their nodes: each node's end component is known, and for each end component the node that it was given, if one of its states was seen
 pub record IsNumbering (parts : List (Option ℕ)) (n : ℕ) (nodes : List ℕ) (components first : List (Option ℕ)) : Type 0 where

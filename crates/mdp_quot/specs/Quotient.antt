@@ -2,11 +2,9 @@
 use Rattle.std.specs.Prelude.{◌≡◌, ℕ, ◌<◌, ◌≤◌, ◌^◌, ◌==◌, List, [], ◌∷◌, length, map, cond, Option, None, pos, slice_index, slice_index_or}
 use Rattle.std.specs.List.{range_with_len}
 use Rattle.mdp_math.specs.Rational.{of_int}
-use Rattle.mdp_spec.specs.Mdp.{Entry, Mdp, states_of}
-use Rattle.mdp_spec.specs.Row.{IsRow}
+use Rattle.mdp_spec.specs.{Mdp.{Entry, Mdp, states_of}, Row.{IsRow}}
 use Rattle.mdp_rows.specs.declared.preds.Pred.{Pred}
-use Rattle.mdp_ends.specs.Ends.{part_of}
-use Rattle.mdp_ends.specs.Quotient.{AreNodes, nodes_in, exits_of, node_row}
+use Rattle.mdp_ends.specs.{Ends.{part_of}, Quotient.{AreNodes, nodes_in, exits_of, node_row}}
 
 -- the node of each state, the end component of each node, and for each node its exits, and their rows over nodes; a node without exits has the row of its loop
 pub record Quotient : Type 0 where

@@ -1,7 +1,6 @@
 -- The quotient in the code, without where its slices lie.
 use Rattle.std.specs.Prelude.{ℕ, List, map}
-use Rattle.mdp_spec.specs.Mdp.{Entry}
-use Rattle.mdp_spec.specs.Row.{entries}
+use Rattle.mdp_spec.specs.{Mdp.{Entry}, Row.{entries}}
 use Rattle.mdp_rows.specs.declared.row.Row.{Row}
 use Rattle.mdp_quot.specs.Quotient as spec
 use Rattle.mdp_quot.specs.declared.node.Node.{Node}

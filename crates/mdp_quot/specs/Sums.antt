@@ -1,6 +1,5 @@
 -- The sums of a row's entries to each node, while it is merged.
-use Rattle.std.specs.Prelude.{◌≡◌, ℕ, ◌<◌, ◌==◌, cond, List, [], length, sum_by, pos}
-use Rattle.std.specs.List.{All}
+use Rattle.std.specs.{Prelude.{◌≡◌, ℕ, ◌<◌, ◌==◌, cond, List, [], length, sum_by, pos}, List.{All}}
 use Rattle.mdp_math.specs.Rational.{ℚ, of_int, le_ℚ}
 use Rattle.mdp_spec.specs.Mdp.{Entry, value_at}
 use Rattle.mdp_ends.specs.Quotient.{mass_in}

@@ -1,11 +1,8 @@
-ghost use Rattle.std.specs.Prelude.{◌≡◌, ◌<◌, ◌^◌, [], length, map, slice_index_or, IfOk, OnOk};
-ghost use Rattle.std.specs.List.{All, range_with_len};
+ghost use Rattle.std.specs.{Prelude.{◌≡◌, ◌<◌, ◌^◌, [], length, map, slice_index_or, IfOk, OnOk}, List.{All, range_with_len}};
 ghost use Rattle.mdp_spec.specs.Mdp.{states_of, choices_at};
 ghost use Rattle.mdp_ends.specs.Quotient.{nodes_in, node_row};
 ghost use Rattle.mdp_parts.specs.FoundEnds.{AreEndsOf};
-ghost use Rattle.mdp_quot.specs.Sums.{IsClear};
-ghost use Rattle.mdp_quot.specs.Quotient.{loop_row, rows_by, IsQuotient};
-ghost use Rattle.mdp_quot.specs.QuotientView.{row_in, rows_in};
+ghost use Rattle.mdp_quot.specs.{Sums.{IsClear}, Quotient.{loop_row, rows_by, IsQuotient}, QuotientView.{row_in, rows_in}};
 
 use crate::exit_lists::{ExitList, exit_lists};
 use crate::node::Node;

@@ -1,7 +1,5 @@
-ghost use Rattle.std.specs.Prelude.{ℕ, ◌≡◌, ◌<◌, ◌+◌, ◌++◌, ◌∷◌, List, [], length, replicate, IfOk, OnOk};
-ghost use Rattle.std.specs.List.{All};
-ghost use Rattle.mdp_rows.specs.declared.preds.Pred.{Pred};
-ghost use Rattle.mdp_rows.specs.Preds.{choices_of, choices_below};
+ghost use Rattle.std.specs.{Prelude.{ℕ, ◌≡◌, ◌<◌, ◌+◌, ◌++◌, ◌∷◌, List, [], length, replicate, IfOk, OnOk}, List.{All}};
+ghost use Rattle.mdp_rows.specs.{declared.preds.Pred.{Pred}, Preds.{choices_of, choices_below}};
 ghost use Rattle.mdp_spec.specs.Mdp.{states_of};
 ghost use Rattle.mdp_parts.specs.FoundEnds.{AreEndsOf};
 ghost use Rattle.mdp_quot.specs.ExitLists.{AreExits};

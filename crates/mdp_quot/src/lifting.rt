@@ -2,8 +2,7 @@ ghost use Rattle.std.specs.Prelude.{◌≡◌, ◌<◌, length, slice_index, IfO
 ghost use Rattle.mdp_spec.specs.Mdp.{states_of};
 ghost use Rattle.mdp_ends.specs.Toward.{IsOuter, lifted_choice, lifted};
 ghost use Rattle.mdp_parts.specs.FoundEnds.{AreEndsOf};
-ghost use Rattle.mdp_quot.specs.Quotient.{IsQuotient};
-ghost use Rattle.mdp_quot.specs.Lifting.{IsInner, AreTaken, AreWays};
+ghost use Rattle.mdp_quot.specs.{Quotient.{IsQuotient}, Lifting.{IsInner, AreTaken, AreWays}};
 
 use crate::quotient::Quotient;
 use mdp_num::Memory;

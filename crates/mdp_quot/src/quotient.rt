@@ -1,5 +1,4 @@
-ghost use Rattle.std.specs.Prelude.{◌≡◌, ◌<◌, [], length, None, slice_index, slice_index_or};
-ghost use Rattle.std.specs.List.{All};
+ghost use Rattle.std.specs.{Prelude.{◌≡◌, ◌<◌, [], length, None, slice_index, slice_index_or}, List.{All}};
 ghost use Rattle.mdp_spec.specs.Row.{entries};
 ghost use Rattle.mdp_quot.specs.Quotient.{IsShaped, exits_at, rows_at, row_of};
 
@@ -17,8 +16,7 @@ pub struct Quotient<'b> {
 
 impl<'b> Model for Quotient<'b> {
     ghost use Rattle.mdp_quot.specs.Quotient as spec;
-    ghost use Rattle.mdp_quot.specs.QuotientView.{quotient_in};
-    ghost use Rattle.mdp_quot.specs.Quotient.{IsShaped};
+    ghost use Rattle.mdp_quot.specs.{QuotientView.{quotient_in}, Quotient.{IsShaped}};
 
     ghost Value = { spec.Quotient };
 

@@ -1,11 +1,7 @@
-ghost use Rattle.std.specs.Prelude.{ℕ, ◌≡◌, ◌≢◌, ◌<◌, ◌≤◌, ◌++◌, ◌∷◌, [], length, map, slice_index, slice_set, None, IfOk, OnOk, pos};
-ghost use Rattle.std.specs.List.{All};
-ghost use Rattle.mdp_math.specs.Rational.{of_int, ◌+ℚ◌};
-ghost use Rattle.mdp_math.specs.Written.{written_add};
+ghost use Rattle.std.specs.{Prelude.{ℕ, ◌≡◌, ◌≢◌, ◌<◌, ◌≤◌, ◌++◌, ◌∷◌, [], length, map, slice_index, slice_set, None, IfOk, OnOk, pos}, List.{All}};
+ghost use Rattle.mdp_math.specs.{Rational.{of_int, ◌+ℚ◌}, Written.{written_add}};
 ghost use Rattle.mdp_num.specs.Numeral.{limit};
-ghost use Rattle.mdp_spec.specs.Mdp.{value_at};
-ghost use Rattle.mdp_spec.specs.Row.{entries};
-ghost use Rattle.mdp_spec.specs.Unit.{row_den};
+ghost use Rattle.mdp_spec.specs.{Mdp.{value_at}, Row.{entries}, Unit.{row_den}};
 ghost use Rattle.mdp_ends.specs.Quotient.{merged};
 ghost use Rattle.mdp_quot.specs.Sums.{AreSums, IsClear};
 

@@ -1,43 +1,25 @@
 -- A query has an end: its start exists, its path has one, and what that finds meets the rules, so that the check isn't a no.
 use Rattle.std.proofs.Common.{◌≡◌, ℕ, ◌<◌, Bool, List, [], map, is_some, is_none, Result, Ok, Err, refl, sym, subst}
-use Rattle.std.specs.Prelude.{slice_index_or}
-use Rattle.std.specs.List.{All}
+use Rattle.std.specs.{Prelude.{slice_index_or}, List.{All}}
 use Rattle.mdp_math.specs.Rational.{ℚ}
-use Rattle.mdp_spec.specs.Mdp.{Mdp, Entry, states_of}
-use Rattle.mdp_spec.specs.Row.{IsMdp}
-use Rattle.mdp_spec.specs.Tree.{is_marked}
+use Rattle.mdp_spec.specs.{Mdp.{Mdp, Entry, states_of}, Row.{IsMdp}, Tree.{is_marked}}
 use Rattle.mdp_spec.specs.Tree as tree
-use Rattle.mdp_rows.specs.declared.dir.Dir.{Dir}
-use Rattle.mdp_rows.specs.declared.dir.Dir.TheVariants.{Max, Min}
-use Rattle.mdp_graph.specs.Choices.{plain_rank, first_passing}
-use Rattle.mdp_graph.specs.Reach.{may_step, row_step}
-use Rattle.mdp_graph.specs.Meet.{must_step}
-use Rattle.mdp_graph.specs.Avoid.{keeps}
+use Rattle.mdp_rows.specs.{declared.dir.Dir.{Dir}, declared.dir.Dir.TheVariants.{Max, Min}}
+use Rattle.mdp_graph.specs.{Choices.{plain_rank, first_passing}, Reach.{may_step, row_step}, Meet.{must_step}, Avoid.{keeps}}
 use Rattle.mdp_graph.specs.Laws.{RestStays, RowsFall, RowsStay, RestAvoids, RestMeets}
-use Rattle.mdp_graph.proofs.Avoiding.{avoid_marks, avoid_choices}
-use Rattle.mdp_graph.proofs.Passes.{reached_marks, least_ranks}
-use Rattle.mdp_wide.specs.declared.too_wide.Part.TheVariants.{Whole}
-use Rattle.mdp_wide.specs.Term.{WideTerm}
-use Rattle.mdp_policy_iteration.specs.Iteration.{EndsWith}
-use Rattle.mdp_policy_iteration.specs.Laws.{HasOneEnd, EndsAtBest, first}
-use Rattle.mdp_policy_iteration.specs.Path.{Found, Refusal, path_step}
+use Rattle.mdp_graph.proofs.{Avoiding.{avoid_marks, avoid_choices}, Passes.{reached_marks, least_ranks}, Rising.{may_rises, must_rises, row_rises, ways_exist}}
+use Rattle.mdp_graph.proofs.Settling.{ranks_exist}
+use Rattle.mdp_wide.specs.{declared.too_wide.Part.TheVariants.{Whole}, Term.{WideTerm}}
+use Rattle.mdp_policy_iteration.specs.{Iteration.{EndsWith}, Laws.{HasOneEnd, EndsAtBest, first}, Path.{Found, Refusal, path_step}}
 use Rattle.mdp_policy_iteration.specs.Queries.{term_of, term_of_check}
-use Rattle.mdp_farkas.specs.Verdict.{verdict_of}
-use Rattle.mdp_farkas.specs.Reach.{reach_checks, MeetsReach}
-use Rattle.mdp_claims.specs.declared.verdict.Fault.{Fault}
-use Rattle.mdp_claims.specs.declared.verdict.Verdict.{Verdict}
-use Rattle.mdp_claims.specs.declared.verdict.Verdict.TheVariants.{Yes, No, Wide}
+use Rattle.mdp_farkas.specs.{Verdict.{verdict_of}, Reach.{reach_checks, MeetsReach}}
+use Rattle.mdp_claims.specs.{declared.verdict.Fault.{Fault}, declared.verdict.Verdict.{Verdict}, declared.verdict.Verdict.TheVariants.{Yes, No, Wide}}
 use Rattle.mdp_farkas.proofs.ReachRules.{reach_never_no}
-use Rattle.mdp_reach.specs.Laws.{HasAnEnd, HasARound}
-use Rattle.mdp_reach.specs.Problem.{reach_problem}
+use Rattle.mdp_reach.specs.{Laws.{HasAnEnd, HasARound}, Problem.{reach_problem}}
 use Rattle.mdp_reach.specs.Query.{Answer, none_blocked, policy_rows, ending, IsMaxStart, IsMinStart, IsStart, AreMaxRanks, AreMinRanks, AreRanks, Held, EndsSo}
 use Rattle.mdp_reach.specs.Round.{last_round}
-use Rattle.mdp_reach.proofs.Answering.{meets-reach}
-use Rattle.mdp_graph.proofs.Rising.{may_rises, must_rises, row_rises, ways_exist}
-use Rattle.mdp_reach.proofs.Kept.{found-policy}
+use Rattle.mdp_reach.proofs.{Answering.{meets-reach}, Kept.{found-policy}, Starts.{start-solvable, start-choices}}
 use Rattle.mdp_rows.proofs.Queries.Policies.{row-known, row-is}
-use Rattle.mdp_graph.proofs.Settling.{ranks_exist}
-use Rattle.mdp_reach.proofs.Starts.{start-solvable, start-choices}
 
 module _ (m : Mdp) (ok : IsMdp m) (goals : List Bool) where
   -- ---- the start

@@ -1,34 +1,20 @@
 -- What the parts of a query make together: the end of the query, and that an answer is right.
 use Rattle.std.proofs.Common.{◌≡◌, ℕ, List, Bool, length, Option, Result, Ok, Err, refl, subst}
 use Rattle.mdp_math.specs.Rational.{ℚ}
-use Rattle.mdp_spec.specs.Mdp.{Mdp, states_of}
-use Rattle.mdp_spec.specs.Row.{IsMdp}
+use Rattle.mdp_spec.specs.{Mdp.{Mdp, states_of}, Row.{IsMdp}}
 use Rattle.mdp_spec.proofs.Reach.{reach_max_of_rules, reach_min_of_rules}
-use Rattle.mdp_rows.specs.declared.dir.Dir.{Dir}
-use Rattle.mdp_rows.specs.declared.dir.Dir.TheVariants.{Max, Min}
+use Rattle.mdp_rows.specs.{declared.dir.Dir.{Dir}, declared.dir.Dir.TheVariants.{Max, Min}}
 use Rattle.mdp_graph.specs.Laws.{RestStays, RowsFall, RowsStay, RestAvoids, RestMeets}
-use Rattle.mdp_wide.specs.declared.too_wide.Part.TheVariants.{Whole}
-use Rattle.mdp_policy_iteration.specs.Path.{Found, Refusal, path_step}
-use Rattle.mdp_policy_iteration.specs.Laws.{IsBestFrom, EndsAtBest, first}
-use Rattle.mdp_policy_iteration.specs.Iteration.{EndsWith}
-use Rattle.mdp_policy_iteration.specs.Ends.{Ends, error_of_part}
-use Rattle.mdp_wide.specs.Term.{WideTerm}
-use Rattle.mdp_policy_iteration.specs.Queries.{term_of_check}
-use Rattle.mdp_policy_iteration.specs.Errors.{PathError}
+use Rattle.mdp_wide.specs.{declared.too_wide.Part.TheVariants.{Whole}, Term.{WideTerm}}
+use Rattle.mdp_policy_iteration.specs.{Path.{Found, Refusal, path_step}, Laws.{IsBestFrom, EndsAtBest, first}, Iteration.{EndsWith}, Ends.{Ends, error_of_part}}
+use Rattle.mdp_policy_iteration.specs.{Queries.{term_of_check}, Errors.{PathError}}
 use Rattle.mdp_wide.specs.declared.unfinished.Unfinished.TheVariants as path
-use Rattle.mdp_farkas.specs.Verdict.{verdict_of}
-use Rattle.mdp_farkas.specs.Reach.{reach_checks, MeetsReach, IsReach}
-use Rattle.mdp_claims.specs.declared.verdict.Verdict.{Verdict}
-use Rattle.mdp_claims.specs.declared.verdict.Verdict.TheVariants.{Yes, No, Wide}
+use Rattle.mdp_farkas.specs.{Verdict.{verdict_of}, Reach.{reach_checks, MeetsReach, IsReach}}
+use Rattle.mdp_claims.specs.{declared.verdict.Verdict.{Verdict}, declared.verdict.Verdict.TheVariants.{Yes, No, Wide}}
 use Rattle.mdp_farkas.proofs.ReachRules.{reach_rules}
-use Rattle.mdp_reach.specs.Problem.{reach_problem}
-use Rattle.mdp_reach.specs.Query.{Answer, IsStart, AreRanks, Held, AfterPath, EndsSo}
-use Rattle.mdp_reach.specs.Round.{EndsWithRound, SolvesToEnd}
+use Rattle.mdp_reach.specs.{Problem.{reach_problem}, Query.{Answer, IsStart, AreRanks, Held, AfterPath, EndsSo}, Round.{EndsWithRound, SolvesToEnd}}
 use Rattle.mdp_reach.specs.Laws.{AnswersMeetRules, AnswersAreGreatest, AnswersAreLeast}
-use Rattle.mdp_reach.proofs.Starts.{start-solvable, start-choices}
-use Rattle.mdp_reach.proofs.Kept.{found-policy}
-use Rattle.mdp_reach.proofs.MaxRules.{meets-max}
-use Rattle.mdp_reach.proofs.MinRules.{meets-min}
+use Rattle.mdp_reach.proofs.{Starts.{start-solvable, start-choices}, Kept.{found-policy}, MaxRules.{meets-max}, MinRules.{meets-min}}
 
 -- ---- what is found meets the rules
 

@@ -1,29 +1,17 @@
 -- The values of a policy that leaves its open states are probabilities: from 0 to 1, 1 at goals, 0 at other states that aren't open, and at an open
 -- state what its row sums to.
 use Rattle.std.proofs.Common.{◌≡◌, ℕ, ◌<◌, ◌≤◌, ◌⊎◌, inl, inr, Bool, true, false, List, [], ◌∷◌, length, refl, sym, ◌∙◌, ap, subst, arith, pos}
-use Rattle.std.specs.List.{All}
-use Rattle.std.specs.Prelude.{slice_index}
 use Rattle.std.proofs.Math.ListN.{get_or-eq_default}
-use Rattle.mdp_math.specs.Rational.{ℚ, ◌+ℚ◌, ◌≤ℚ◌}
-use Rattle.mdp_math.specs.Sum.{sum_of}
-use Rattle.mdp_math.specs.Kernel.{weigh}
-use Rattle.mdp_math.proofs.Ring.{◌⊕◌, ◌⊗◌, lit, ring}
-use Rattle.mdp_math.proofs.Laws.{rat_ring}
-use Rattle.mdp_math.proofs.Linear.{linear, equal, known}
-use Rattle.mdp_math.proofs.Numbers.{le_or}
-use Rattle.mdp_math.proofs.Order.{0ℚ, 1ℚ, ≤ℚ_refl, ≤ℚ_trans, ≤ℚ_of_eq, ≤ℚ_of_lt}
-use Rattle.mdp_math.proofs.Kernel.{weigh-const, weigh-le, weigh-le_const, weigh-nonneg}
-use Rattle.mdp_math.proofs.Solutions.{le_of_rows}
-use Rattle.mdp_math.proofs.Whole.{one-pos}
-use Rattle.mdp_spec.specs.Mdp.{Mdp, Entry, states_of, row_at, value_at}
-use Rattle.mdp_spec.specs.Row.{IsMdp, IsRow, row_sum}
-use Rattle.mdp_spec.specs.Tree.{is_marked}
+use Rattle.std.specs.{List.{All}, Prelude.{slice_index}}
+use Rattle.mdp_math.specs.{Rational.{ℚ, ◌+ℚ◌, ◌≤ℚ◌}, Sum.{sum_of}, Kernel.{weigh}}
+use Rattle.mdp_math.proofs.{Ring.{◌⊕◌, ◌⊗◌, lit, ring}, Laws.{rat_ring}, Linear.{linear, equal, known}, Numbers.{le_or}}
+use Rattle.mdp_math.proofs.{Order.{0ℚ, 1ℚ, ≤ℚ_refl, ≤ℚ_trans, ≤ℚ_of_eq, ≤ℚ_of_lt}, Kernel.{weigh-const, weigh-le, weigh-le_const, weigh-nonneg}}
+use Rattle.mdp_math.proofs.{Solutions.{le_of_rows}, Whole.{one-pos}}
+use Rattle.mdp_spec.specs.{Mdp.{Mdp, Entry, states_of, row_at, value_at}, Row.{IsMdp, IsRow, row_sum}, Tree.{is_marked}}
 use Rattle.mdp_rows.specs.declared.dir.Dir.{Dir}
 use Rattle.mdp_elim.specs.System.{is_active, row_of}
-use Rattle.mdp_policy_iteration.specs.Problem.{Problem, count, active_of, rows_of, IsProblem, IsPolicy, worth}
-use Rattle.mdp_policy_iteration.specs.Values.{IsValue, CanLeave}
-use Rattle.mdp_policy_iteration.proofs.Chain.{target, prob, active-below, row_active, ChainShrinks, chain-shrinks}
-use Rattle.mdp_policy_iteration.proofs.Exact.{value-active}
+use Rattle.mdp_policy_iteration.specs.{Problem.{Problem, count, active_of, rows_of, IsProblem, IsPolicy, worth}, Values.{IsValue, CanLeave}}
+use Rattle.mdp_policy_iteration.proofs.{Chain.{target, prob, active-below, row_active, ChainShrinks, chain-shrinks}, Exact.{value-active}}
 use Rattle.mdp_reach.specs.Problem.{reach_problem}
 use Rattle.mdp_reach.proofs.Nodes.{reach-count, reach-known}
 use Rattle.mdp_reach.proofs.Policies.{open_at, is_node, goal-move, closed-move, open-move, open-active, active-open, open-amount}

@@ -1,19 +1,13 @@
 -- Paths of reachability, computed.
 use Rattle.std.proofs.Common.{◌≡◌, ℕ, [], ◌∷◌, List, Bool, true, false, Some, Result, Ok, Err, refl, arith, pos}
-use Rattle.mdp_math.specs.Gcd.{gcd, gcd_with_fuel}
-use Rattle.mdp_math.specs.Rational.{of_int, ratio, ◌+ℚ◌, ◌*ℚ◌, neg_ℚ, inv_ℚ}
+use Rattle.mdp_math.specs.{Gcd.{gcd, gcd_with_fuel}, Rational.{of_int, ratio, ◌+ℚ◌, ◌*ℚ◌, neg_ℚ, inv_ℚ}}
 use Rattle.mdp_math.specs.Written.{written_add, written_mul, written_compare, narrow, narrow_ℚ}
 use Rattle.mdp_spec.specs.Mdp.{Mdp, State, Choice}
 use Rattle.mdp_spec.proofs.Small.{bare, choice, entry, state}
-use Rattle.mdp_elim.specs.Elimination.{divided_rest, plus_equation, eliminated, evaluated}
-use Rattle.mdp_elim.specs.System.{equation_of}
+use Rattle.mdp_elim.specs.{Elimination.{divided_rest, plus_equation, eliminated, evaluated}, System.{equation_of}}
 use Rattle.mdp_rows.specs.declared.dir.Dir.TheVariants.{Max, Min}
-use Rattle.mdp_policy_iteration.specs.Iteration.{iterated}
-use Rattle.mdp_policy_iteration.specs.Path.{Found, Refusal, evaluating, path_step}
-use Rattle.mdp_policy_iteration.specs.Laws.{first}
-use Rattle.mdp_reach.specs.Problem.{reach_problem}
-use Rattle.mdp_reach.specs.Query.{HasOneEach}
-use Rattle.mdp_reach.specs.Round.{last_round}
+use Rattle.mdp_policy_iteration.specs.{Iteration.{iterated}, Path.{Found, Refusal, evaluating, path_step}, Laws.{first}}
+use Rattle.mdp_reach.specs.{Problem.{reach_problem}, Query.{HasOneEach}, Round.{last_round}}
 
 abbrev stays : ℕ → State
 stays s = state (choice (entry s (of_int (pos 1)) ∷ []) ∷ [])

@@ -2,17 +2,12 @@
 use Rattle.std.proofs.Common.{◌≡◌, ℕ, ◌<◌, Bool, true, false, ◌&&◌, not, List, length, refl, sym, ◌∙◌, ap, subst, arith, pos, if◌then◌else◌}
 use Rattle.std.specs.Prelude.{slice_index}
 use Rattle.mdp_math.specs.Rational.{ℚ, of_int}
-use Rattle.mdp_math.proofs.Ring.{◌⊕◌, lit, ring}
-use Rattle.mdp_math.proofs.Laws.{rat_ring}
-use Rattle.mdp_spec.specs.Mdp.{Mdp, states_of, row_at, choices_at, value_at}
-use Rattle.mdp_spec.specs.Row.{row_sum}
-use Rattle.mdp_spec.specs.Tree.{is_marked}
+use Rattle.mdp_math.proofs.{Ring.{◌⊕◌, lit, ring}, Laws.{rat_ring}}
+use Rattle.mdp_spec.specs.{Mdp.{Mdp, states_of, row_at, choices_at, value_at}, Row.{row_sum}, Tree.{is_marked}}
 use Rattle.mdp_spec.specs.Tree as tree
-use Rattle.mdp_rows.specs.declared.dir.Dir.{Dir}
-use Rattle.mdp_policy_iteration.specs.Problem.{Choice, worth, choice_at}
+use Rattle.mdp_rows.specs.{declared.dir.Dir.{Dir}, Better.{IsAsGood}}
+use Rattle.mdp_policy_iteration.specs.{Problem.{Choice, worth, choice_at}, Laws.{IsBestFrom}}
 use Rattle.mdp_policy_iteration.specs.Problem as path
-use Rattle.mdp_rows.specs.Better.{IsAsGood}
-use Rattle.mdp_policy_iteration.specs.Laws.{IsBestFrom}
 use Rattle.mdp_reach.specs.Problem.{reach_problem}
 use Rattle.mdp_reach.proofs.Nodes.{reach-count, reach-choices, reach-choice, reach-candidate}
 use Rattle.mdp_reach.proofs.Policies.{open_at, is_node, goal-node, closed-node, open-choice}

@@ -1,34 +1,22 @@
 -- What the path of the greatest probability finds meets the rules: no choice is better, its own gives the value, and its ranks fall along states of
 -- value above 0.
 use Rattle.std.proofs.Common.{◌≡◌, ℕ, zero, suc, ◌<◌, inl, inr, Bool, true, false, List, length, refl, sym, ◌∙◌, subst, arith}
-use Rattle.std.specs.List.{All, Any}
-use Rattle.std.specs.Prelude.{slice_index}
 use Rattle.std.proofs.lemmas.List.Folds.{list_any-from_Any}
+use Rattle.std.specs.{List.{All, Any}, Prelude.{slice_index}}
 use Rattle.mdp_math.specs.Rational.{ℚ, ◌≤ℚ◌, ◌<ℚ◌}
-use Rattle.mdp_math.proofs.Booleans.{false_of_not}
-use Rattle.mdp_math.proofs.Order.{0ℚ, 1ℚ, ≤ℚ_trans, ≤ℚ_of_eq, ≤ℚ_of_lt, clash_ℚ}
-use Rattle.mdp_math.proofs.Kernel.{Any-and, weigh-pos}
-use Rattle.mdp_math.proofs.Whole.{one-pos}
-use Rattle.mdp_spec.specs.Mdp.{Mdp, Entry, states_of, row_at, choices_at, value_at}
-use Rattle.mdp_spec.specs.Row.{IsMdp, row_sum}
-use Rattle.mdp_spec.specs.Rules.{AreProbabilities, RanksEnd, MeetsReachMax}
+use Rattle.mdp_math.proofs.{Booleans.{false_of_not}, Order.{0ℚ, 1ℚ, ≤ℚ_trans, ≤ℚ_of_eq, ≤ℚ_of_lt, clash_ℚ}, Kernel.{Any-and, weigh-pos}, Whole.{one-pos}}
+use Rattle.mdp_spec.specs.{Mdp.{Mdp, Entry, states_of, row_at, choices_at, value_at}, Row.{IsMdp, row_sum}, Rules.{AreProbabilities, RanksEnd, MeetsReachMax}}
 use Rattle.mdp_spec.specs.Tree.{is_marked}
 use Rattle.mdp_spec.specs.Tree as tree
 use Rattle.mdp_rows.specs.declared.dir.Dir.TheVariants.{Max}
-use Rattle.mdp_graph.specs.Sets.{marked, can_enter}
-use Rattle.mdp_graph.specs.Layers.{reached}
-use Rattle.mdp_graph.specs.Laws.{RestStays, RowsFall, RowsStay}
-use Rattle.mdp_policy_iteration.specs.Problem.{Problem}
-use Rattle.mdp_policy_iteration.specs.Laws.{IsBestFrom}
+use Rattle.mdp_graph.specs.{Sets.{marked, can_enter}, Layers.{reached}, Laws.{RestStays, RowsFall, RowsStay}}
+use Rattle.mdp_policy_iteration.specs.{Problem.{Problem}, Laws.{IsBestFrom}}
 use Rattle.mdp_policy_iteration.proofs.Chain.{target, prob}
-use Rattle.mdp_reach.specs.Problem.{reach_problem}
-use Rattle.mdp_reach.specs.Query.{none_blocked, IsMaxStart, AreMaxRanks}
-use Rattle.mdp_reach.proofs.Policies.{active-open, open-row}
-use Rattle.mdp_reach.proofs.Starts.{least-policy}
+use Rattle.mdp_reach.specs.{Problem.{reach_problem}, Query.{none_blocked, IsMaxStart, AreMaxRanks}}
+use Rattle.mdp_reach.proofs.{Policies.{active-open, open-row}, Starts.{least-policy}}
 use Rattle.mdp_reach.proofs.Chances.{goal-value, closed-value, open-value, nonneg, at-most_one, sum-nonneg, sum-zero, outside-zero}
-use Rattle.mdp_reach.proofs.Kept.{found-policy, no-better}
+use Rattle.mdp_reach.proofs.{Kept.{found-policy, no-better}, Rows.{none_in, some-false, no_mark, goal-along, goal-rank, row-falls, row-stays}}
 use Rattle.mdp_rows.proofs.Queries.Policies.{row-known}
-use Rattle.mdp_reach.proofs.Rows.{none_in, some-false, no_mark, goal-along, goal-rank, row-falls, row-stays}
 
 module _ (m : Mdp) (goals marks : List Bool) (start policy ranks : List ℕ) (x : List ℚ) (model : IsMdp m) (start_is : IsMaxStart m goals marks start)
     (found : IsBestFrom (reach_problem Max m goals marks) start policy x) (along : AreMaxRanks m goals policy ranks)

@@ -1,35 +1,20 @@
 -- What the path of the least probability finds meets the rules: no choice is better, its own gives the value, and on each choice of a state of value
 -- above 0 the ranks fall.
 use Rattle.std.proofs.Common.{◌≡◌, ℕ, zero, suc, ◌<◌, inl, inr, Bool, true, false, not, ◌||◌, List, length, refl, sym, ◌∙◌, ap, subst, arith, zero-add}
-use Rattle.std.specs.List.{Any}
-use Rattle.std.specs.Prelude.{slice_index}
-use Rattle.std.proofs.lemmas.List.FromFn.{get_or-map-range_with_len}
-use Rattle.std.proofs.lemmas.List.Folds.{Any-from_list_any}
+use Rattle.std.proofs.{lemmas.List.FromFn.{get_or-map-range_with_len}, lemmas.List.Folds.{Any-from_list_any}}
+use Rattle.std.specs.{List.{Any}, Prelude.{slice_index}}
 use Rattle.mdp_math.specs.Rational.{ℚ, lt_ℚ, ◌≤ℚ◌, ◌<ℚ◌}
-use Rattle.mdp_math.proofs.Booleans.{and-right, false_of_not, not_true}
-use Rattle.mdp_math.proofs.Order.{0ℚ, ≤ℚ_trans, ≤ℚ_of_eq}
-use Rattle.mdp_math.proofs.Kernel.{Any-and}
-use Rattle.mdp_spec.specs.Mdp.{Mdp, Entry, states_of, row_at, choices_at, value_at}
-use Rattle.mdp_spec.specs.Row.{IsMdp, row_sum}
-use Rattle.mdp_spec.specs.Rules.{RanksEnd, MeetsReachMin}
-use Rattle.mdp_spec.specs.Tree.{is_marked}
+use Rattle.mdp_math.proofs.{Booleans.{and-right, false_of_not, not_true}, Order.{0ℚ, ≤ℚ_trans, ≤ℚ_of_eq}, Kernel.{Any-and}}
+use Rattle.mdp_spec.specs.{Mdp.{Mdp, Entry, states_of, row_at, choices_at, value_at}, Row.{IsMdp, row_sum}, Rules.{RanksEnd, MeetsReachMin}, Tree.{is_marked}}
 use Rattle.mdp_spec.specs.Tree as tree
-use Rattle.mdp_rows.proofs.Either.{or_left, or_right}
+use Rattle.mdp_rows.proofs.{Either.{or_left, or_right}, Queries.Policies.{row-known}}
 use Rattle.mdp_rows.specs.declared.dir.Dir.TheVariants.{Min}
-use Rattle.mdp_graph.specs.Sets.{marked, can_enter, stays_in}
-use Rattle.mdp_graph.specs.Layers.{reached}
-use Rattle.mdp_graph.specs.Meet.{must_step}
-use Rattle.mdp_graph.specs.Avoid.{keeps}
-use Rattle.mdp_graph.specs.Laws.{RestAvoids}
+use Rattle.mdp_graph.specs.{Sets.{marked, can_enter, stays_in}, Layers.{reached}, Meet.{must_step}, Avoid.{keeps}, Laws.{RestAvoids}}
 use Rattle.mdp_policy_iteration.specs.Laws.{IsBestFrom}
 use Rattle.mdp_policy_iteration.proofs.LeavesAgain.{test_of_lt, test_irrefl}
-use Rattle.mdp_reach.specs.Problem.{reach_problem}
-use Rattle.mdp_reach.specs.Query.{IsMinStart, AreMinRanks, ending}
-use Rattle.mdp_reach.proofs.Starts.{least-policy}
-use Rattle.mdp_reach.proofs.Chances.{goal-value, closed-value, open-value, nonneg, at-most_one, sum-nonneg, sum-zero}
-use Rattle.mdp_reach.proofs.Kept.{found-policy, closed-kept, no-better}
-use Rattle.mdp_rows.proofs.Queries.Policies.{row-known}
-use Rattle.mdp_reach.proofs.Rows.{all_in, each-true}
+use Rattle.mdp_reach.specs.{Problem.{reach_problem}, Query.{IsMinStart, AreMinRanks, ending}}
+use Rattle.mdp_reach.proofs.{Starts.{least-policy}, Chances.{goal-value, closed-value, open-value, nonneg, at-most_one, sum-nonneg, sum-zero}}
+use Rattle.mdp_reach.proofs.{Kept.{found-policy, closed-kept, no-better}, Rows.{all_in, each-true}}
 
 module _ (m : Mdp) (goals marks : List Bool) (start policy ranks : List ℕ) (x : List ℚ) (model : IsMdp m) (start_is : IsMinStart m goals marks start)
     (found : IsBestFrom (reach_problem Min m goals marks) start policy x) (meet : AreMinRanks m goals x ranks) (rest : RestAvoids) where

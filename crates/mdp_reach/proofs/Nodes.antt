@@ -1,21 +1,14 @@
 -- The nodes of the problem of reaching a goal, and that what is earned never helps.
 use Rattle.std.proofs.Common.{◌≡◌, ℕ, ◌<◌, Bool, true, false, ◌&&◌, not, List, length, map, if◌then◌else◌, refl, sym, ◌∙◌, ap, subst, arith, pos}
-use Rattle.std.proofs.Common.{zero-add, inr, Some}
-use Rattle.std.specs.List.{range_with_len}
-use Rattle.std.specs.Prelude.{slice_index_or}
-use Rattle.std.proofs.lemmas.List.FromFn.{get_or-map-range_with_len, length-map-range_with_len}
+use Rattle.std.proofs.{Common.{zero-add, inr, Some}, lemmas.List.FromFn.{get_or-map-range_with_len, length-map-range_with_len}}
+use Rattle.std.specs.{List.{range_with_len}, Prelude.{slice_index_or}}
 use Rattle.mdp_math.specs.Rational.{ℚ, of_int}
 use Rattle.mdp_math.proofs.Order.{0ℚ, ≤ℚ_refl}
-use Rattle.mdp_spec.specs.Mdp.{Mdp, Entry, states_of, row_at, choices_at}
-use Rattle.mdp_spec.specs.Row.{IsMdp}
-use Rattle.mdp_spec.specs.Tree.{is_marked}
-use Rattle.mdp_spec.specs.Written.{written_sum}
-use Rattle.mdp_rows.specs.declared.dir.Dir.{Dir}
-use Rattle.mdp_rows.specs.declared.dir.Dir.TheVariants.{Max, Min}
+use Rattle.mdp_spec.specs.{Mdp.{Mdp, Entry, states_of, row_at, choices_at}, Row.{IsMdp}, Tree.{is_marked}, Written.{written_sum}}
+use Rattle.mdp_rows.specs.{declared.dir.Dir.{Dir}, declared.dir.Dir.TheVariants.{Max, Min}}
 use Rattle.mdp_policy_iteration.specs.Problem.{Problem, Node, given, Choice, go, worth, no_choice, count, node_at, choices_of, choice_at, goes_on, amount, row_from, move_by, fits_by, LeadsWithin, IsProblem}
+use Rattle.mdp_policy_iteration.specs.{Values.{EarnsNoGood, KeepsLeaving}, Code.{CanTake, move_at, fits_at}}
 use Rattle.mdp_policy_iteration.specs.Problem as path
-use Rattle.mdp_policy_iteration.specs.Values.{EarnsNoGood, KeepsLeaving}
-use Rattle.mdp_policy_iteration.specs.Code.{CanTake, move_at, fits_at}
 use Rattle.mdp_policy_iteration.proofs.Compares.{plain-exact}
 use Rattle.mdp_reach.specs.Problem.{is_open, going, node_by, reach_node, reach_problem}
 

@@ -1,25 +1,15 @@
 -- A query has one end at most: marks, ranks and choices of its passes are determined, and so are its path and the verdict.
 use Rattle.std.proofs.Common.{◌≡◌, ℕ, Bool, false, List, Result, Ok, Err, sym, ap, ◌∙◌, subst}
 use Rattle.mdp_math.proofs.Booleans.{same_truth}
-use Rattle.mdp_spec.specs.Mdp.{Mdp, states_of}
-use Rattle.mdp_spec.specs.Tree.{is_marked}
-use Rattle.mdp_rows.specs.declared.dir.Dir.{Dir}
-use Rattle.mdp_rows.specs.declared.dir.Dir.TheVariants.{Max, Min}
-use Rattle.mdp_graph.specs.Sets.{marked}
+use Rattle.mdp_spec.specs.{Mdp.{Mdp, states_of}, Tree.{is_marked}}
+use Rattle.mdp_rows.specs.{declared.dir.Dir.{Dir}, declared.dir.Dir.TheVariants.{Max, Min}}
+use Rattle.mdp_graph.specs.{Sets.{marked}, Choices.{AreLeast}, Reach.{may_step, row_step, falls}, Meet.{must_step}, Avoid.{keeps}}
 use Rattle.mdp_graph.proofs.OnePass.{same_list, one_reached, one_ranks, both_ranks, one_choices}
-use Rattle.mdp_graph.specs.Choices.{AreLeast}
-use Rattle.mdp_graph.specs.Reach.{may_step, row_step, falls}
-use Rattle.mdp_graph.specs.Meet.{must_step}
-use Rattle.mdp_graph.specs.Avoid.{keeps}
-use Rattle.mdp_policy_iteration.specs.Path.{Found, Refusal, path_step}
-use Rattle.mdp_policy_iteration.specs.Laws.{first}
-use Rattle.mdp_policy_iteration.specs.Iteration.{EndsWith}
+use Rattle.mdp_policy_iteration.specs.{Path.{Found, Refusal, path_step}, Laws.{first}, Iteration.{EndsWith}}
 use Rattle.mdp_wide.specs.Term.{WideTerm}
 use Rattle.mdp_policy_iteration.proofs.Iterations.{one_end}
-use Rattle.mdp_farkas.specs.Verdict.{verdict_of}
-use Rattle.mdp_farkas.specs.Reach.{reach_checks}
-use Rattle.mdp_claims.specs.declared.verdict.Verdict.{Verdict}
-use Rattle.mdp_claims.specs.declared.verdict.Verdict.TheVariants.{Yes, No, Wide}
+use Rattle.mdp_farkas.specs.{Verdict.{verdict_of}, Reach.{reach_checks}}
+use Rattle.mdp_claims.specs.{declared.verdict.Verdict.{Verdict}, declared.verdict.Verdict.TheVariants.{Yes, No, Wide}}
 use Rattle.mdp_reach.specs.Problem.{reach_problem}
 use Rattle.mdp_reach.specs.Query.{Answer, none_blocked, policy_rows, ending, IsMaxStart, IsMinStart, IsStart, AreRanks, Held, AfterPath, EndsSo}
 use Rattle.mdp_reach.specs.Round.{last_round, EndsWithRound}

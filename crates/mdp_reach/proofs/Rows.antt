@@ -1,18 +1,12 @@
 -- Sets of states that rows lead into or not, and the rows of a policy with the ranks along them.
 use Rattle.std.proofs.Common.{◌≡◌, ℕ, zero, suc, ◌<◌, Bool, true, false, ◌&&◌, nat_lt, List, [], ◌∷◌, get_or, length, replicate, refl, sym, subst, arith}
-use Rattle.std.specs.List.{All, Any, list_all}
-use Rattle.std.specs.Prelude.{slice_index}
 use Rattle.std.proofs.lemmas.List.Folds.{Any-from_list_any, list_any_at}
-use Rattle.mdp_math.proofs.Booleans.{and-left, and-right, false_of_not}
-use Rattle.mdp_math.proofs.Kernel.{Any-and}
-use Rattle.mdp_spec.specs.Mdp.{Mdp, Entry, Choice, no_choice, states_of, row_at, choices_at}
-use Rattle.mdp_spec.specs.Row.{IsMdp}
-use Rattle.mdp_spec.specs.Tree.{IsPolicy, is_marked}
+use Rattle.std.specs.{List.{All, Any, list_all}, Prelude.{slice_index}}
+use Rattle.mdp_math.proofs.{Booleans.{and-left, and-right, false_of_not}, Kernel.{Any-and}}
+use Rattle.mdp_spec.specs.{Mdp.{Mdp, Entry, Choice, no_choice, states_of, row_at, choices_at}, Row.{IsMdp}, Tree.{IsPolicy, is_marked}}
 pub use Rattle.mdp_rows.proofs.Queries.Policies.{row-known}
 use Rattle.mdp_rows.proofs.Queries.Policies.{rows-len, row-is, are_rows}
-use Rattle.mdp_graph.specs.Sets.{marked, can_enter, stays_in, some_choice, each_choice}
-use Rattle.mdp_graph.specs.Layers.{reached, AreReached, AreLeastRanks}
-use Rattle.mdp_graph.specs.Reach.{row_step}
+use Rattle.mdp_graph.specs.{Sets.{marked, can_enter, stays_in, some_choice, each_choice}, Layers.{reached, AreReached, AreLeastRanks}, Reach.{row_step}}
 use Rattle.mdp_graph.specs.Laws.{RowsFall, RowsStay}
 use Rattle.mdp_reach.specs.Query.{policy_rows, AreMaxRanks}
 use Rattle.mdp_reach.proofs.Starts.{lt_of_test}

@@ -1,33 +1,18 @@
 -- The start of a query is a policy of its problem and leaves its open states: for the greatest probability by the ranks of shortest ways, for the
 -- least one since goals can't be avoided there.
 use Rattle.std.proofs.Common.{◌≡◌, ℕ, zero, suc, ◌<◌, ◌≤◌, ◌⊎◌, inl, inr, Bool, true, false, ◌&&◌, ◌||◌, nat_lt, List, length, map, refl, sym, ◌∙◌, subst, arith}
-use Rattle.std.proofs.Common.{zero-add, if◌then◌else◌}
-use Rattle.std.proofs.lemmas.Bool.Decides.{nat_tests}
-use Rattle.std.specs.Prelude.{slice_index}
-use Rattle.std.specs.List.{Any, range_with_len}
-use Rattle.std.proofs.lemmas.List.FromFn.{get_or-map-range_with_len, length-map-range_with_len}
-use Rattle.std.proofs.lemmas.List.Folds.{Any-from_list_any}
-use Rattle.mdp_math.proofs.Booleans.{and-right, not_true}
-use Rattle.mdp_math.proofs.Kernel.{Any-and}
-use Rattle.mdp_math.proofs.Numbers.{le_or}
-use Rattle.mdp_spec.specs.Mdp.{Mdp, Entry, states_of, row_at}
-use Rattle.mdp_spec.specs.Row.{IsMdp, IsRow}
-use Rattle.mdp_spec.specs.Tree.{is_marked}
+use Rattle.std.proofs.{Common.{zero-add, if◌then◌else◌}, lemmas.Bool.Decides.{nat_tests}}
+use Rattle.std.proofs.{lemmas.List.FromFn.{get_or-map-range_with_len, length-map-range_with_len}, lemmas.List.Folds.{Any-from_list_any}}
+use Rattle.std.specs.{Prelude.{slice_index}, List.{Any, range_with_len}}
+use Rattle.mdp_math.proofs.{Booleans.{and-right, not_true}, Kernel.{Any-and}, Numbers.{le_or}}
+use Rattle.mdp_spec.specs.{Mdp.{Mdp, Entry, states_of, row_at}, Row.{IsMdp, IsRow}, Tree.{is_marked}}
 use Rattle.mdp_spec.specs.Tree as tree
-use Rattle.mdp_rows.specs.declared.dir.Dir.{Dir}
-use Rattle.mdp_rows.specs.declared.dir.Dir.TheVariants.{Max, Min}
-use Rattle.mdp_graph.specs.Sets.{marked}
-use Rattle.mdp_graph.specs.Layers.{reached}
-use Rattle.mdp_graph.specs.Choices.{AreLeast}
-use Rattle.mdp_graph.specs.Laws.{policy_step, RestMeets}
+use Rattle.mdp_rows.specs.{declared.dir.Dir.{Dir}, declared.dir.Dir.TheVariants.{Max, Min}}
+use Rattle.mdp_graph.specs.{Sets.{marked}, Layers.{reached}, Choices.{AreLeast}, Laws.{policy_step, RestMeets}}
 use Rattle.mdp_elim.specs.System.{is_active, row_of}
-use Rattle.mdp_policy_iteration.specs.Problem.{Problem, active_of, rows_of, IsPolicy}
-use Rattle.mdp_policy_iteration.specs.Values.{CanLeave}
-use Rattle.mdp_policy_iteration.specs.Laws.{IsSolvable}
-use Rattle.mdp_reach.specs.Problem.{reach_problem}
-use Rattle.mdp_reach.specs.Query.{IsMaxStart, IsMinStart, IsStart}
-use Rattle.mdp_reach.proofs.Nodes.{reach-count, reach-known, reach-keeps}
-use Rattle.mdp_reach.proofs.Policies.{is-policy, IsOpen, active-open, open-row}
+use Rattle.mdp_policy_iteration.specs.{Problem.{Problem, active_of, rows_of, IsPolicy}, Values.{CanLeave}, Laws.{IsSolvable}}
+use Rattle.mdp_reach.specs.{Problem.{reach_problem}, Query.{IsMaxStart, IsMinStart, IsStart}}
+use Rattle.mdp_reach.proofs.{Nodes.{reach-count, reach-known, reach-keeps}, Policies.{is-policy, IsOpen, active-open, open-row}}
 
 -- the choices of a pass are a policy of the model
 pub least-policy : (m : Mdp) (targets marks : List Bool) (test : ℕ → ℕ → Bool) (choices : List ℕ) → AreLeast m targets marks test choices → tree.IsPolicy m choices

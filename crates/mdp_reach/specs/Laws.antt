@@ -1,14 +1,10 @@
 -- What a query of reachability ends with.
 use Rattle.std.specs.Prelude.{◌≡◌, ℕ, Bool, List, Result, Ok}
-use Rattle.mdp_spec.specs.Mdp.{Mdp}
-use Rattle.mdp_spec.specs.Bounds.{ReachMax, ReachMin}
-use Rattle.mdp_spec.specs.Row.{IsMdp}
-use Rattle.mdp_rows.specs.declared.dir.Dir.{Dir}
-use Rattle.mdp_rows.specs.declared.dir.Dir.TheVariants.{Max, Min}
+use Rattle.mdp_spec.specs.{Mdp.{Mdp}, Bounds.{ReachMax, ReachMin}, Row.{IsMdp}}
+use Rattle.mdp_rows.specs.{declared.dir.Dir.{Dir}, declared.dir.Dir.TheVariants.{Max, Min}}
 use Rattle.mdp_wide.specs.Term.{WideTerm}
 use Rattle.mdp_farkas.specs.Reach.{IsReach}
-use Rattle.mdp_reach.specs.Query.{Answer, EndsSo}
-use Rattle.mdp_reach.specs.Round.{EndsWithRound}
+use Rattle.mdp_reach.specs.{Query.{Answer, EndsSo}, Round.{EndsWithRound}}
 
 -- it has one end at most
 abbrev pub HasOneEnd : Type 0

@@ -1,13 +1,10 @@
 -- Reaching a goal as a stochastic shortest path problem. A goal is worth 1. Any other state is open, or it is worth 0: for the greatest
 -- probability those are open from which a goal can be reached, for the least one those at which goals can't be avoided. An open state goes on by
 -- each of its choices, and earns nothing.
-use Rattle.std.specs.Prelude.{ℕ, Bool, true, false, not, List, length, map, pos}
-use Rattle.std.specs.List.{range_with_len}
+use Rattle.std.specs.{Prelude.{ℕ, Bool, true, false, not, List, length, map, pos}, List.{range_with_len}}
 use Rattle.mdp_math.specs.Rational.{of_int}
-use Rattle.mdp_spec.specs.Mdp.{Mdp, states_of, choices_at, row_at}
-use Rattle.mdp_spec.specs.Tree.{is_marked}
-use Rattle.mdp_rows.specs.declared.dir.Dir.{Dir}
-use Rattle.mdp_rows.specs.declared.dir.Dir.TheVariants.{Max, Min}
+use Rattle.mdp_spec.specs.{Mdp.{Mdp, states_of, choices_at, row_at}, Tree.{is_marked}}
+use Rattle.mdp_rows.specs.{declared.dir.Dir.{Dir}, declared.dir.Dir.TheVariants.{Max, Min}}
 use Rattle.mdp_policy_iteration.specs.Problem.{Problem, Node, given, decision, Choice, go, plain}
 
 -- whether a state that is no goal is open: by the mark that a goal can be reached, or that goals can be avoided

@@ -1,27 +1,14 @@
 -- The query of the greatest or the least probability of reaching a goal: its start, its path, its certificate.
-use Rattle.std.specs.Prelude.{◌≡◌, ℕ, Bool, false, not, ◌||◌, List, length, map, replicate, slice_index, Result, Ok, Err, pos}
-use Rattle.std.specs.List.{range_with_len}
+use Rattle.std.specs.{Prelude.{◌≡◌, ℕ, Bool, false, not, ◌||◌, List, length, map, replicate, slice_index, Result, Ok, Err, pos}, List.{range_with_len}}
 use Rattle.mdp_math.specs.Rational.{ℚ, of_int, lt_ℚ}
-use Rattle.mdp_spec.specs.Mdp.{Mdp, Entry, states_of, row_at, value_at}
-use Rattle.mdp_spec.specs.Tree.{is_marked}
-use Rattle.mdp_rows.specs.declared.dir.Dir.{Dir}
-use Rattle.mdp_rows.specs.declared.dir.Dir.TheVariants.{Max, Min}
-use Rattle.mdp_graph.specs.Layers.{AreReached, AreLeastRanks}
-use Rattle.mdp_graph.specs.Choices.{AreLeast}
-use Rattle.mdp_graph.specs.Reach.{may_step, row_step, falls}
-use Rattle.mdp_graph.specs.Meet.{must_step}
+use Rattle.mdp_spec.specs.{Mdp.{Mdp, Entry, states_of, row_at, value_at}, Tree.{is_marked}}
+use Rattle.mdp_rows.specs.{declared.dir.Dir.{Dir}, declared.dir.Dir.TheVariants.{Max, Min}}
+use Rattle.mdp_graph.specs.{Layers.{AreReached, AreLeastRanks}, Choices.{AreLeast}, Reach.{may_step, row_step, falls}, Meet.{must_step}}
 use Rattle.mdp_graph.specs.Avoid.{IsGreatestAvoiding, keeps}
-use Rattle.mdp_wide.specs.declared.too_wide.Part.TheVariants.{Whole}
-use Rattle.mdp_policy_iteration.specs.Iteration.{EndsWith}
-use Rattle.mdp_policy_iteration.specs.Path.{Found, Refusal, path_step}
-use Rattle.mdp_policy_iteration.specs.Laws.{first}
-use Rattle.mdp_wide.specs.Term.{WideTerm}
-use Rattle.mdp_policy_iteration.specs.Queries.{term_of, term_of_check}
-use Rattle.mdp_farkas.specs.Verdict.{verdict_of}
-use Rattle.mdp_farkas.specs.Reach.{reach_checks}
-use Rattle.mdp_claims.specs.declared.verdict.Verdict.{Verdict}
-use Rattle.mdp_claims.specs.declared.verdict.Verdict.TheVariants.{Yes, No, Wide}
-use Rattle.mdp_claims.specs.declared.exact.ReachCert.{ReachCert}
+use Rattle.mdp_wide.specs.{declared.too_wide.Part.TheVariants.{Whole}, Term.{WideTerm}}
+use Rattle.mdp_policy_iteration.specs.{Iteration.{EndsWith}, Path.{Found, Refusal, path_step}, Laws.{first}, Queries.{term_of, term_of_check}}
+use Rattle.mdp_farkas.specs.{Verdict.{verdict_of}, Reach.{reach_checks}}
+use Rattle.mdp_claims.specs.{declared.verdict.Verdict.{Verdict}, declared.verdict.Verdict.TheVariants.{Yes, No, Wide}, declared.exact.ReachCert.{ReachCert}}
 use Rattle.mdp_reach.specs.Problem.{reach_problem}
 
 -- ---- the start

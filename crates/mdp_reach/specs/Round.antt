@@ -2,13 +2,10 @@
 use Rattle.std.specs.Prelude.{◌≡◌, ℕ, Bool, List, Result, Ok, Err}
 use Rattle.mdp_spec.specs.Mdp.{Mdp}
 use Rattle.mdp_rows.specs.declared.dir.Dir.{Dir}
-use Rattle.mdp_wide.specs.Errors.{SolveError}
+use Rattle.mdp_wide.specs.{Errors.{SolveError}, Term.{WideTerm, shown}}
 use Rattle.mdp_wide.specs.declared.unfinished.Unfinished.TheVariants as solve
-use Rattle.mdp_policy_iteration.specs.Ends.{capped}
-use Rattle.mdp_policy_iteration.specs.Path.{Found, Refusal}
-use Rattle.mdp_wide.specs.Term.{WideTerm, shown}
-use Rattle.mdp_reach.specs.declared.solve.ReachEnd.{ReachEnd}
-use Rattle.mdp_reach.specs.Query.{Answer, plain, EndsSo}
+use Rattle.mdp_policy_iteration.specs.{Ends.{capped}, Path.{Found, Refusal}}
+use Rattle.mdp_reach.specs.{declared.solve.ReachEnd.{ReachEnd}, Query.{Answer, plain, EndsSo}}
 
 -- the round of the path's last policy
 abbrev pub last_round : Result Found Refusal → ℕ

@@ -1,7 +1,6 @@
 ghost use Rattle.std.specs.Prelude.{◌≡◌, ◌<◌, ◌&&◌, not, length, if◌then◌else◌, pos};
 ghost use Rattle.mdp_math.specs.Rational.{of_int};
-ghost use Rattle.mdp_spec.specs.Mdp.{states_of};
-ghost use Rattle.mdp_spec.specs.Tree.{is_marked};
+ghost use Rattle.mdp_spec.specs.{Mdp.{states_of}, Tree.{is_marked}};
 ghost use Rattle.mdp_reach.specs.Problem.{is_open, reach_problem};
 
 use mdp_num::{Frac, Wide};

@@ -1,7 +1,6 @@
 ghost use Rattle.std.specs.Prelude.{◌≡◌, ◌<◌, ◌||◌, not, length, IfOk, pos};
 ghost use Rattle.mdp_math.specs.Rational.{of_int, lt_ℚ};
-ghost use Rattle.mdp_spec.specs.Mdp.{states_of, value_at};
-ghost use Rattle.mdp_spec.specs.Tree.{IsPolicy, is_marked};
+ghost use Rattle.mdp_spec.specs.{Mdp.{states_of, value_at}, Tree.{IsPolicy, is_marked}};
 ghost use Rattle.mdp_reach.specs.Query.{ending, AreMaxRanks, AreMinRanks, AreRanks};
 
 use mdp_graph::{along, must_meet};

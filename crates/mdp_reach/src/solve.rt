@@ -1,11 +1,9 @@
 ghost use Rattle.std.specs.Prelude.{◌≡◌, length, IfOk};
-ghost use Rattle.mdp_spec.specs.Mdp.{states_of};
-ghost use Rattle.mdp_spec.specs.Bounds.{ReachMax, ReachMin};
+ghost use Rattle.mdp_spec.specs.{Mdp.{states_of}, Bounds.{ReachMax, ReachMin}};
 ghost use Rattle.mdp_rows.specs.declared.dir.Dir.TheVariants.{Max, Min};
 ghost use Rattle.mdp_farkas.specs.Reach.{IsReach};
 ghost use Rattle.mdp_policy_iteration.specs.Queries.{Solves};
-ghost use Rattle.mdp_reach.specs.Query.{plain, HasOneEach, EndsSo};
-ghost use Rattle.mdp_reach.specs.Round.{SolvesToEnd};
+ghost use Rattle.mdp_reach.specs.{Query.{plain, HasOneEach, EndsSo}, Round.{SolvesToEnd}};
 
 use crate::problem::Reach;
 use crate::ranks::ranks_of;

@@ -1,11 +1,9 @@
 -- Three nodes, computed: choice 0 of node 0 reads its own value and choice 1 that of node 1; choice 0 of node 1 reads that of node 2 and choice 1 its own.
 use Rattle.std.proofs.Common.{◌≡◌, ◌⊎◌, inl, inr, ℕ, zero, suc, ◌<◌, ◌==◌, subst, true, false, List, [], ◌∷◌, refl, get_or, arith}
+use Rattle.std.proofs.{lemmas.Bool.{false≢true, eqb-true}, lemmas.List.Elements.{All-from_recursion}}
 use Rattle.std.specs.List.{All, list_any}
-use Rattle.std.proofs.lemmas.Bool.{false≢true, eqb-true}
-use Rattle.std.proofs.lemmas.List.Elements.{All-from_recursion}
 use Rattle.mdp_math.proofs.Booleans.{and-left}
-use Rattle.mdp_rows.specs.Preds.{is_among, pair}
-use Rattle.mdp_rows.specs.declared.preds.Pred.{Pred}
+use Rattle.mdp_rows.specs.{Preds.{is_among, pair}, declared.preds.Pred.{Pred}}
 use Rattle.mdp_readers.specs.Readers.{is_choice, reads, Comes, AreComingTo, AreWithReaders}
 use Rattle.mdp_readers.proofs.Tests.{or-cases, all-among}
 

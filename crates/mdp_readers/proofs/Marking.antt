@@ -1,14 +1,11 @@
 -- Nodes found, each with a mark: one more, in another order, and the marks taken away.
 use Rattle.std.proofs.Common.{◌≡◌, inl, inr, ℕ, zero, suc, ◌+◌, ◌<◌, ◌≤◌, Bool, true, false, not, ◌||◌, ◌&&◌, ◌==◌, cond, List, [], ◌∷◌, ◌++◌, length, get_or, replicate}
 use Rattle.std.proofs.Common.{refl, sym, ap, ap₂, ◌∙◌, subst, arith, eq-eqb, count_by, append_assoc, take}
-use Rattle.std.specs.Prelude.{slice_set}
-use Rattle.std.specs.List.{All}
-use Rattle.std.specs.List.Sorted.{IsPermutation, IsNonDecreasing}
 use Rattle.std.proofs.lemmas.Bool.{cases_eq, cases_lt, ne_eqb, false≢true}
 use Rattle.std.proofs.lemmas.List.{get_or-set_same, get_or-set_other, get_or_past, length_push, length-set, append-nil, take_all}
-use Rattle.std.proofs.lemmas.List.Sums.{sum_by_push, sum_by-set}
-use Rattle.std.proofs.lemmas.List.Sorted.{sum_by-IsPermutation, length_permutation}
+use Rattle.std.proofs.{lemmas.List.Sums.{sum_by_push, sum_by-set}, lemmas.List.Sorted.{sum_by-IsPermutation, length_permutation}}
 use Rattle.std.proofs.lemmas.List.Folds.{list_any-append}
+use Rattle.std.specs.{Prelude.{slice_set}, List.{All}, List.Sorted.{IsPermutation, IsNonDecreasing}}
 use Rattle.mdp_math.proofs.Booleans.{or-false}
 use Rattle.mdp_rows.specs.Preds.{is_among}
 use Rattle.mdp_readers.specs.Found.{AreMarked, AreAdded}

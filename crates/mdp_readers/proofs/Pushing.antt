@@ -1,14 +1,10 @@
 -- One more choice in the lists of the nodes whose values it reads.
 use Rattle.std.proofs.Common.{◌≡◌, inl, inr, ℕ, ◌+◌, ◌<◌, Bool, true, false, ◌||◌, ◌&&◌, ◌==◌, List, [], ◌∷◌, ◌++◌, length, get_or, take}
-use Rattle.std.proofs.Common.{refl, sym, ap, ◌∙◌, subst, arith, eq-eqb}
-use Rattle.std.specs.Prelude.{slice_set}
-use Rattle.std.specs.List.{list_any}
-use Rattle.std.proofs.lemmas.Bool.{cases_eq, ne_eqb}
-use Rattle.std.proofs.lemmas.List.{length-set, get_or-set_same, get_or-set_other}
-use Rattle.std.proofs.lemmas.List.Folds.{list_any-append, list_any_more}
+use Rattle.std.proofs.{Common.{refl, sym, ap, ◌∙◌, subst, arith, eq-eqb}, lemmas.Bool.{cases_eq, ne_eqb}}
+use Rattle.std.proofs.{lemmas.List.{length-set, get_or-set_same, get_or-set_other}, lemmas.List.Folds.{list_any-append, list_any_more}}
+use Rattle.std.specs.{Prelude.{slice_set}, List.{list_any}}
 use Rattle.mdp_math.proofs.Booleans.{or-false, and-false, and-true}
-use Rattle.mdp_rows.specs.Preds.{is_among}
-use Rattle.mdp_rows.specs.declared.preds.Pred.{Pred}
+use Rattle.mdp_rows.specs.{Preds.{is_among}, declared.preds.Pred.{Pred}}
 use Rattle.mdp_readers.specs.Readers.{is_choice, reads}
 
 -- this choice now also reads the values of these nodes

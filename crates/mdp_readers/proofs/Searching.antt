@@ -1,17 +1,11 @@
 -- A search for the nodes that come to others, and what it has found.
 use Rattle.std.proofs.Common.{◌≡◌, ◌⊎◌, inl, inr, ℕ, zero, suc, ◌+◌, ◌<◌, ◌≤◌, Bool, true, ◌||◌}
-use Rattle.std.proofs.Common.{◌==◌, List, [], length, get_or, take, sym, ap, subst, ◌∙◌, arith}
-use Rattle.std.specs.List.{All}
-use Rattle.std.specs.Prelude.{slice_index}
-use Rattle.std.proofs.lemmas.Bool.{eqb-true}
-use Rattle.std.proofs.lemmas.List.{take_all, take-append-le}
-use Rattle.std.proofs.lemmas.List.Folds.{list_any_more}
-use Rattle.mdp_rows.specs.Preds.{is_among}
-use Rattle.mdp_rows.specs.declared.preds.Pred.{Pred}
-use Rattle.mdp_readers.specs.Readers.{reads, Comes, AreComingTo, AreWithReaders}
-use Rattle.mdp_readers.specs.Found.{AreMarked, AreAdded, is_taker, has_one, reads_one}
-use Rattle.mdp_readers.proofs.Tests.{or-cases, or-left, or-right, among_at, some_among, any_among, some_choice, has_choice}
-use Rattle.mdp_readers.proofs.Marking.{found-in_range}
+use Rattle.std.proofs.{Common.{◌==◌, List, [], length, get_or, take, sym, ap, subst, ◌∙◌, arith}, lemmas.Bool.{eqb-true}}
+use Rattle.std.proofs.{lemmas.List.{take_all, take-append-le}, lemmas.List.Folds.{list_any_more}}
+use Rattle.std.specs.{List.{All}, Prelude.{slice_index}}
+use Rattle.mdp_rows.specs.{Preds.{is_among}, declared.preds.Pred.{Pred}}
+use Rattle.mdp_readers.specs.{Readers.{reads, Comes, AreComingTo, AreWithReaders}, Found.{AreMarked, AreAdded, is_taker, has_one, reads_one}}
+use Rattle.mdp_readers.proofs.{Tests.{or-cases, or-left, or-right, among_at, some_among, any_among, some_choice, has_choice}, Marking.{found-in_range}}
 
 -- the search began at these nodes, and is done with the first ones of those found
 pub record IsSearching (readers : List (List Pred)) (policy start : List ℕ) (n next : ℕ) (marks : List Bool) (found : List ℕ) : Type 0 where

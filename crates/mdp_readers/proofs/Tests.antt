@@ -1,15 +1,11 @@
 -- Which nodes a list holds, and tests of which one holds of an element.
 use Rattle.std.proofs.Common.{◌≡◌, ◌⊎◌, inl, inr, ℕ, zero, suc, ◌+◌, ◌<◌, ◌≤◌, Bool, true, false, ◌||◌, ◌==◌, cond, List, [], ◌∷◌, length, get_or, refl, sym, ap, ◌∙◌}
-use Rattle.std.proofs.Common.{subst, arith, eq-eqb, count_by}
-use Rattle.std.specs.List.{All, list_any}
-use Rattle.std.proofs.lemmas.Bool.{eqb-true, false≢true, cases_Bool}
-use Rattle.std.proofs.lemmas.List.Folds.{list_any_at}
+use Rattle.std.proofs.{Common.{subst, arith, eq-eqb, count_by}, lemmas.Bool.{eqb-true, false≢true, cases_Bool}, lemmas.List.Folds.{list_any_at}}
 use Rattle.std.proofs.lemmas.List.Sums.{sum_by-cons}
+use Rattle.std.specs.List.{All, list_any}
 use Rattle.mdp_math.proofs.Booleans.{or-true, or-left_false, or-right_false, and-both, and-parts}
-use Rattle.mdp_rows.specs.Preds.{is_among}
-use Rattle.mdp_rows.specs.declared.preds.Pred.{Pred}
-use Rattle.mdp_readers.specs.Readers.{is_choice}
-use Rattle.mdp_readers.specs.Found.{has_one}
+use Rattle.mdp_rows.specs.{Preds.{is_among}, declared.preds.Pred.{Pred}}
+use Rattle.mdp_readers.specs.{Readers.{is_choice}, Found.{has_one}}
 
 -- ---- truth values
 

@@ -1,8 +1,6 @@
 -- Nodes that a search has found so far, each with a mark.
-use Rattle.std.specs.Prelude.{◌≡◌, ℕ, ◌≤◌, Bool, false, ◌||◌, ◌==◌, ◌++◌, List, [], length, slice_index, slice_index_or, count_by}
-use Rattle.std.specs.List.{list_any}
-use Rattle.mdp_rows.specs.Preds.{is_among}
-use Rattle.mdp_rows.specs.declared.preds.Pred.{Pred}
+use Rattle.std.specs.{Prelude.{◌≡◌, ℕ, ◌≤◌, Bool, false, ◌||◌, ◌==◌, ◌++◌, List, [], length, slice_index, slice_index_or, count_by}, List.{list_any}}
+use Rattle.mdp_rows.specs.{Preds.{is_among}, declared.preds.Pred.{Pred}}
 use Rattle.mdp_readers.specs.Readers.{is_choice}
 
 -- one of these choices is that of node s by the policy

@@ -1,8 +1,6 @@
 -- Which choices read the value of which node, and which nodes come to others by a policy.
-use Rattle.std.specs.Prelude.{◌≡◌, ℕ, zero, suc, Bool, true, ◌&&◌, ◌==◌, ◌⊎◌, List, [], slice_index, slice_index_or}
-use Rattle.std.specs.List.{All, list_any}
-use Rattle.mdp_rows.specs.Preds.{is_among}
-use Rattle.mdp_rows.specs.declared.preds.Pred.{Pred}
+use Rattle.std.specs.{Prelude.{◌≡◌, ℕ, zero, suc, Bool, true, ◌&&◌, ◌==◌, ◌⊎◌, List, [], slice_index, slice_index_or}, List.{All, list_any}}
+use Rattle.mdp_rows.specs.{Preds.{is_among}, declared.preds.Pred.{Pred}}
 
 abbrev pub is_choice : ℕ → ℕ → Pred → Bool
 is_choice s c p = (p.state == s) && (p.choice == c)

@@ -1,5 +1,4 @@
-ghost use Rattle.std.specs.Prelude.{◌≡◌, ◌<◌, ◌||◌, ◌&&◌, ℕ, [], length, replicate, slice_index_or, IfOk, OnOk};
-ghost use Rattle.std.specs.List.{All};
+ghost use Rattle.std.specs.{Prelude.{◌≡◌, ◌<◌, ◌||◌, ◌&&◌, ℕ, [], length, replicate, slice_index_or, IfOk, OnOk}, List.{All}};
 ghost use Rattle.mdp_rows.specs.Preds.{is_among};
 ghost use Rattle.mdp_readers.specs.Readers.{reads, is_choice};
 

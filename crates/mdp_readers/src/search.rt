@@ -1,8 +1,6 @@
-ghost use Rattle.std.specs.Prelude.{◌≡◌, ◌<◌, ◌&&◌, ◌==◌, ℕ, [], false, not, length, replicate, slice_index, slice_index_or, IfOk, OnOk};
-ghost use Rattle.std.specs.List.{All};
+ghost use Rattle.std.specs.{Prelude.{◌≡◌, ◌<◌, ◌&&◌, ◌==◌, ℕ, [], false, not, length, replicate, slice_index, slice_index_or, IfOk, OnOk}, List.{All}};
 ghost use Rattle.mdp_rows.specs.Preds.{is_among};
-ghost use Rattle.mdp_readers.specs.Readers.{AreComingTo, AreWithReaders};
-ghost use Rattle.mdp_readers.specs.Found.{is_taker, has_one, reads_one, AreMarked, AreAdded};
+ghost use Rattle.mdp_readers.specs.{Readers.{AreComingTo, AreWithReaders}, Found.{is_taker, has_one, reads_one, AreMarked, AreAdded}};
 
 use crate::readers::Readers;
 use mdp_rows::{Marks, Pred};

@@ -1,47 +1,26 @@
 -- A query has an end: its start exists, its path has one, and what that finds meets the rules, so that the check isn't a no.
 use Rattle.std.proofs.Common.{◌≡◌, ℕ, ◌<◌, ◌==◌, Bool, List, [], map, is_some, is_none, Result, Ok, Err, Option, refl, sym, subst}
-use Rattle.std.specs.Prelude.{slice_index_or}
-use Rattle.std.specs.List.{All}
+use Rattle.std.specs.{Prelude.{slice_index_or}, List.{All}}
 use Rattle.mdp_math.specs.Rational.{ℚ}
-use Rattle.mdp_spec.specs.Mdp.{Mdp, Entry, states_of}
-use Rattle.mdp_spec.specs.Row.{IsMdp}
-use Rattle.mdp_spec.specs.Tree.{is_marked}
+use Rattle.mdp_spec.specs.{Mdp.{Mdp, Entry, states_of}, Row.{IsMdp}, Tree.{is_marked}}
 use Rattle.mdp_spec.specs.Tree as tree
-use Rattle.mdp_rows.specs.declared.dir.Dir.{Dir}
-use Rattle.mdp_rows.specs.declared.dir.Dir.TheVariants.{Max, Min}
-use Rattle.mdp_graph.specs.Choices.{plain_rank, may_fall, first_passing}
-use Rattle.mdp_graph.specs.Reach.{may_step, row_step}
-use Rattle.mdp_graph.specs.Meet.{must_step}
-use Rattle.mdp_graph.specs.Avoid.{keeps}
-use Rattle.mdp_graph.specs.Sure.{inside_step}
+use Rattle.mdp_rows.specs.{declared.dir.Dir.{Dir}, declared.dir.Dir.TheVariants.{Max, Min}}
+use Rattle.mdp_graph.specs.{Choices.{plain_rank, may_fall, first_passing}, Reach.{may_step, row_step}, Meet.{must_step}, Avoid.{keeps}, Sure.{inside_step}}
 use Rattle.mdp_graph.specs.Settled.{IsSettled}
-use Rattle.mdp_graph.proofs.Avoiding.{avoid_marks, avoid_choices}
-use Rattle.mdp_graph.proofs.LeftRanks.{settled_left}
-use Rattle.mdp_graph.proofs.Passes.{reached_marks, least_ranks}
-use Rattle.mdp_graph.proofs.SureSome.{sure_marks, sure_ranks, sure_choices}
-use Rattle.mdp_wide.specs.declared.too_wide.Part.TheVariants.{Whole}
-use Rattle.mdp_wide.specs.Term.{WideTerm}
-use Rattle.mdp_policy_iteration.specs.Iteration.{EndsWith}
-use Rattle.mdp_policy_iteration.specs.Laws.{HasOneEnd, EndsAtBest, first}
-use Rattle.mdp_policy_iteration.specs.Path.{Found, Refusal, path_step}
-use Rattle.mdp_policy_iteration.specs.Queries.{term_of, term_of_check}
-use Rattle.mdp_farkas.specs.Verdict.{verdict_of}
-use Rattle.mdp_farkas.specs.Reward.{reward_checks, MeetsReward}
-use Rattle.mdp_claims.specs.declared.verdict.Fault.{Fault}
-use Rattle.mdp_claims.specs.declared.verdict.Verdict.{Verdict}
-use Rattle.mdp_claims.specs.declared.verdict.Verdict.TheVariants.{Yes, No, Wide}
-use Rattle.mdp_farkas.proofs.RewardRules.{reward_never_no}
-use Rattle.mdp_reward.specs.Laws.{HasRewards}
-use Rattle.mdp_reward.specs.Problem.{reward_problem}
-use Rattle.mdp_reward.specs.Query.{Answer, split, unmarked, IsMaxStart, IsMinStart, IsStart, policy_rows, rewards_of, AreMinRanks, AreRanks, Held, EndsSo}
-use Rattle.mdp_reward.proofs.Answering.{PassLaws, meets-reward}
-use Rattle.mdp_reward.proofs.Kept.{found-policy}
-use Rattle.mdp_graph.proofs.Rising.{may_rises, must_rises, row_rises, inside_rises, ways_exist}
-use Rattle.mdp_rows.proofs.Queries.Policies.{row-known, row-is}
+use Rattle.mdp_graph.proofs.{Avoiding.{avoid_marks, avoid_choices}, LeftRanks.{settled_left}, Passes.{reached_marks, least_ranks}}
+use Rattle.mdp_graph.proofs.{SureSome.{sure_marks, sure_ranks, sure_choices}, Rising.{may_rises, must_rises, row_rises, inside_rises, ways_exist}}
 use Rattle.mdp_graph.proofs.Settling.{ranks_exist}
-use Rattle.mdp_reward.proofs.SomeRounds.{rounds_exist}
-use Rattle.mdp_reward.proofs.Starts.{start-solvable, start-choices}
+use Rattle.mdp_wide.specs.{declared.too_wide.Part.TheVariants.{Whole}, Term.{WideTerm}}
+use Rattle.mdp_policy_iteration.specs.{Iteration.{EndsWith}, Laws.{HasOneEnd, EndsAtBest, first}, Path.{Found, Refusal, path_step}}
+use Rattle.mdp_policy_iteration.specs.Queries.{term_of, term_of_check}
+use Rattle.mdp_farkas.specs.{Verdict.{verdict_of}, Reward.{reward_checks, MeetsReward}}
+use Rattle.mdp_claims.specs.{declared.verdict.Fault.{Fault}, declared.verdict.Verdict.{Verdict}, declared.verdict.Verdict.TheVariants.{Yes, No, Wide}}
+use Rattle.mdp_farkas.proofs.RewardRules.{reward_never_no}
+use Rattle.mdp_reward.specs.{Laws.{HasRewards}, Problem.{reward_problem}}
+use Rattle.mdp_reward.specs.Query.{Answer, split, unmarked, IsMaxStart, IsMinStart, IsStart, policy_rows, rewards_of, AreMinRanks, AreRanks, Held, EndsSo}
+use Rattle.mdp_reward.proofs.{Answering.{PassLaws, meets-reward}, Kept.{found-policy}, SomeRounds.{rounds_exist}, Starts.{start-solvable, start-choices}}
 use Rattle.mdp_reward.proofs.Values.{reward-nonneg}
+use Rattle.mdp_rows.proofs.Queries.Policies.{row-known, row-is}
 
 module _ (m : Mdp) (ok : IsMdp m) (goals : List Bool) where
   -- ---- the start

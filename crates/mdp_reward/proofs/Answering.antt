@@ -1,35 +1,22 @@
 -- What the parts of a query make together: the end of the query, and that an answer is right.
 use Rattle.std.proofs.Common.{◌≡◌, ℕ, List, Bool, length, Option, Result, Ok, Err, refl, sym, ◌∙◌, ap, subst, if◌then◌else◌}
-use Rattle.std.specs.Prelude.{slice_index}
 use Rattle.std.proofs.lemmas.List.FromFn.{length-map-range_with_len}
+use Rattle.std.specs.Prelude.{slice_index}
 use Rattle.mdp_math.specs.Rational.{ℚ}
-use Rattle.mdp_spec.specs.Mdp.{Mdp, states_of}
-use Rattle.mdp_spec.specs.Tree.{is_marked}
+use Rattle.mdp_spec.specs.{Mdp.{Mdp, states_of}, Tree.{is_marked}}
 use Rattle.mdp_spec.proofs.Reward.{reward_max_of_rules, reward_min_of_rules}
-use Rattle.mdp_rows.specs.declared.dir.Dir.{Dir}
-use Rattle.mdp_rows.specs.declared.dir.Dir.TheVariants.{Max, Min}
+use Rattle.mdp_rows.specs.{declared.dir.Dir.{Dir}, declared.dir.Dir.TheVariants.{Max, Min}}
 use Rattle.mdp_graph.specs.Laws.{StaysSure, RestAvoids, RowsFall, RowsStay, RoundsFall, ZeroIsSure}
-use Rattle.mdp_wide.specs.declared.too_wide.Part.TheVariants.{Whole}
-use Rattle.mdp_policy_iteration.specs.Path.{Found, Refusal, path_step}
-use Rattle.mdp_policy_iteration.specs.Laws.{IsBestFrom, EndsAtBest, first}
-use Rattle.mdp_policy_iteration.specs.Iteration.{EndsWith}
-use Rattle.mdp_policy_iteration.specs.Ends.{Ends, error_of_part}
-use Rattle.mdp_wide.specs.Term.{WideTerm}
-use Rattle.mdp_policy_iteration.specs.Queries.{term_of_check, Solves}
-use Rattle.mdp_policy_iteration.specs.Errors.{PathError}
+use Rattle.mdp_wide.specs.{declared.too_wide.Part.TheVariants.{Whole}, Term.{WideTerm}}
+use Rattle.mdp_policy_iteration.specs.{Path.{Found, Refusal, path_step}, Laws.{IsBestFrom, EndsAtBest, first}, Iteration.{EndsWith}, Ends.{Ends, error_of_part}}
+use Rattle.mdp_policy_iteration.specs.{Queries.{term_of_check, Solves}, Errors.{PathError}}
 use Rattle.mdp_wide.specs.declared.unfinished.Unfinished.TheVariants as path
-use Rattle.mdp_farkas.specs.Verdict.{verdict_of}
-use Rattle.mdp_farkas.specs.Reward.{reward_checks, MeetsReward, IsReward}
-use Rattle.mdp_claims.specs.declared.verdict.Verdict.{Verdict}
-use Rattle.mdp_claims.specs.declared.verdict.Verdict.TheVariants.{Yes, No, Wide}
+use Rattle.mdp_farkas.specs.{Verdict.{verdict_of}, Reward.{reward_checks, MeetsReward, IsReward}}
+use Rattle.mdp_claims.specs.{declared.verdict.Verdict.{Verdict}, declared.verdict.Verdict.TheVariants.{Yes, No, Wide}}
 use Rattle.mdp_farkas.proofs.RewardRules.{reward_rules}
-use Rattle.mdp_reward.specs.Problem.{reward_problem}
-use Rattle.mdp_reward.specs.Query.{Answer, plain, rewards_of, IsStart, AreRanks, Held, AfterPath, EndsSo}
+use Rattle.mdp_reward.specs.{Problem.{reward_problem}, Query.{Answer, plain, rewards_of, IsStart, AreRanks, Held, AfterPath, EndsSo}}
 use Rattle.mdp_reward.specs.Laws.{HasRewards, AnswersMeetRules, AnswersAreGreatest, AnswersAreLeast}
-use Rattle.mdp_reward.proofs.Starts.{start-solvable, start-choices}
-use Rattle.mdp_reward.proofs.Kept.{found-policy}
-use Rattle.mdp_reward.proofs.Certificate.{rewards-len}
-use Rattle.mdp_reward.proofs.MaxRules.{meets-max}
+use Rattle.mdp_reward.proofs.{Starts.{start-solvable, start-choices}, Kept.{found-policy}, Certificate.{rewards-len}, MaxRules.{meets-max}}
 use Rattle.mdp_reward.proofs.MinRules.{meets-min}
 
 -- what the passes are for

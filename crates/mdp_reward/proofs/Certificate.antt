@@ -1,17 +1,12 @@
 -- The values of a certificate: those of the path at finite states, infinite at the others. As numbers they are those of the path.
 use Rattle.std.proofs.Common.{◌≡◌, ℕ, ◌<◌, Bool, true, false, not, ◌&&◌, List, length, Option, Some, None, refl, sym, ◌∙◌, ap, arith, zero-add, if◌then◌else◌, pos}
+use Rattle.std.proofs.{lemmas.List.{get_or-map, length-map}, lemmas.List.FromFn.{get_or-map-range_with_len, length-map-range_with_len}}
 use Rattle.std.specs.Prelude.{slice_index_or, is_some, unwrap_or}
-use Rattle.std.proofs.lemmas.List.{get_or-map, length-map}
-use Rattle.std.proofs.lemmas.List.FromFn.{get_or-map-range_with_len, length-map-range_with_len}
 use Rattle.mdp_math.specs.Rational.{ℚ, of_int}
 use Rattle.mdp_math.proofs.Order.{0ℚ}
-use Rattle.mdp_spec.specs.Mdp.{Mdp, states_of, value_at}
-use Rattle.mdp_spec.specs.Tree.{is_marked}
-use Rattle.mdp_spec.specs.Bounds.{reward_at, finite_part, infinite}
-use Rattle.mdp_spec.specs.RewardRules.{IsInfinite, IsTransient}
+use Rattle.mdp_spec.specs.{Mdp.{Mdp, states_of, value_at}, Tree.{is_marked}, Bounds.{reward_at, finite_part, infinite}, RewardRules.{IsInfinite, IsTransient}}
 use Rattle.mdp_graph.proofs.OnePass.{same_list}
-use Rattle.mdp_reward.specs.Problem.{is_transient}
-use Rattle.mdp_reward.specs.Query.{reward_by, rewards_of}
+use Rattle.mdp_reward.specs.{Problem.{is_transient}, Query.{reward_by, rewards_of}}
 
 module _ (m : Mdp) (goals finite : List Bool) (x : List ℚ) where
   abbrev v : List (Option ℚ)

@@ -1,27 +1,16 @@
 -- Paths of rewards until a goal, computed, and what the checks of certificates say of their ends.
 use Rattle.std.proofs.Common.{◌≡◌, ℕ, [], ◌∷◌, List, Bool, true, false, Some, None, Result, Ok, refl, arith, pos}
-use Rattle.mdp_math.specs.Gcd.{gcd, gcd_with_fuel}
-use Rattle.mdp_math.specs.Rational.{of_int, ratio, ◌+ℚ◌, ◌*ℚ◌, neg_ℚ, inv_ℚ}
+use Rattle.mdp_math.specs.{Gcd.{gcd, gcd_with_fuel}, Rational.{of_int, ratio, ◌+ℚ◌, ◌*ℚ◌, neg_ℚ, inv_ℚ}}
 use Rattle.mdp_math.specs.Written.{written_add, written_mul, written_compare, narrow, narrow_ℚ}
 use Rattle.mdp_spec.specs.Mdp.{Mdp, State, Choice}
 use Rattle.mdp_spec.proofs.Small.{entry, number, state}
-use Rattle.mdp_elim.specs.Elimination.{divided_rest, plus_equation, eliminated, evaluated}
-use Rattle.mdp_elim.specs.System.{equation_of}
+use Rattle.mdp_elim.specs.{Elimination.{divided_rest, plus_equation, eliminated, evaluated}, System.{equation_of}}
 use Rattle.mdp_rows.specs.declared.dir.Dir.TheVariants.{Max, Min}
-use Rattle.mdp_graph.specs.Sure.{stays_and_falls}
-use Rattle.mdp_graph.specs.Layers.{reached}
-use Rattle.mdp_graph.specs.Reach.{may_step}
-use Rattle.mdp_graph.specs.Sets.{marked}
-use Rattle.mdp_policy_iteration.specs.Iteration.{iterated}
-use Rattle.mdp_policy_iteration.specs.Path.{Found, Refusal, path_step}
-use Rattle.mdp_policy_iteration.specs.Laws.{first}
-use Rattle.mdp_farkas.specs.Verdict.{verdict_of}
-use Rattle.mdp_farkas.specs.Reward.{reward_checks}
-use Rattle.mdp_claims.specs.declared.verdict.Fault.{Fault}
-use Rattle.mdp_claims.specs.declared.verdict.Verdict.TheVariants.{Yes, No}
-use Rattle.mdp_reward.specs.Problem.{may_take, is_transient, reward_problem}
-use Rattle.mdp_reward.specs.Query.{split, unmarked, rewards_of, HasOneEach}
-use Rattle.mdp_claims.specs.declared.rule.Rule.TheVariants.{FiniteRankFalls}
+use Rattle.mdp_graph.specs.{Sure.{stays_and_falls}, Layers.{reached}, Reach.{may_step}, Sets.{marked}}
+use Rattle.mdp_policy_iteration.specs.{Iteration.{iterated}, Path.{Found, Refusal, path_step}, Laws.{first}}
+use Rattle.mdp_farkas.specs.{Verdict.{verdict_of}, Reward.{reward_checks}}
+use Rattle.mdp_claims.specs.{declared.verdict.Fault.{Fault}, declared.verdict.Verdict.TheVariants.{Yes, No}, declared.rule.Rule.TheVariants.{FiniteRankFalls}}
+use Rattle.mdp_reward.specs.{Problem.{may_take, is_transient, reward_problem}, Query.{split, unmarked, rewards_of, HasOneEach}}
 
 -- a choice that leads to one state, with a reward
 abbrev goes : ℕ → ℕ → Choice

@@ -2,14 +2,11 @@
 use Rattle.std.proofs.Common.{◌≡◌, ℕ, ◌<◌, Bool, true, false, List, length, refl, sym, ◌∙◌, ap, subst, arith, pos, if◌then◌else◌}
 use Rattle.std.specs.Prelude.{slice_index}
 use Rattle.mdp_math.specs.Rational.{ℚ, of_int}
-use Rattle.mdp_spec.specs.Mdp.{Mdp, states_of, row_at, choices_at, value_at}
-use Rattle.mdp_spec.specs.RewardRules.{backup}
+use Rattle.mdp_spec.specs.{Mdp.{Mdp, states_of, row_at, choices_at, value_at}, RewardRules.{backup}}
 use Rattle.mdp_spec.specs.Tree as tree
-use Rattle.mdp_rows.specs.declared.dir.Dir.{Dir}
-use Rattle.mdp_policy_iteration.specs.Problem.{Choice, worth, choice_at}
+use Rattle.mdp_rows.specs.{declared.dir.Dir.{Dir}, Better.{IsAsGood}}
+use Rattle.mdp_policy_iteration.specs.{Problem.{Choice, worth, choice_at}, Laws.{IsBestFrom}}
 use Rattle.mdp_policy_iteration.specs.Problem as path
-use Rattle.mdp_rows.specs.Better.{IsAsGood}
-use Rattle.mdp_policy_iteration.specs.Laws.{IsBestFrom}
 use Rattle.mdp_reward.specs.Problem.{may_take, reward_problem}
 use Rattle.mdp_reward.proofs.Nodes.{reward-count, reward-choices, reward-choice, reward-candidate}
 use Rattle.mdp_reward.proofs.Policies.{transient, is_node, given-node, transient-choice}

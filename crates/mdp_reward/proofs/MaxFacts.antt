@@ -2,23 +2,13 @@
 -- and the policy at infinite states leads, with some chance, to states that it never leaves.
 use Rattle.std.proofs.Common.{◌≡◌, ℕ, zero, suc, ◌<◌, ◌⊎◌, inl, inr, Bool, true, false, not, ◌||◌}
 use Rattle.std.proofs.Common.{◌&&◌, nat_lt, List, length, refl, sym, ◌∙◌, ap, subst, arith, zero-add, if◌then◌else◌}
-use Rattle.std.specs.List.{All, Any}
-use Rattle.std.specs.Prelude.{slice_index}
-use Rattle.std.proofs.lemmas.List.FromFn.{get_or-map-range_with_len, length-map-range_with_len}
-use Rattle.std.proofs.lemmas.List.Folds.{Any-from_list_any}
-use Rattle.mdp_math.proofs.Booleans.{and-left, and-right, false_of_not, not_true}
-use Rattle.mdp_math.proofs.Kernel.{Any-and}
-use Rattle.mdp_spec.specs.Mdp.{Mdp, Entry, states_of, row_at, choices_at}
-use Rattle.mdp_spec.specs.Row.{IsMdp}
-use Rattle.mdp_spec.specs.Tree.{is_marked, IsPolicy}
-use Rattle.mdp_graph.specs.Sets.{can_enter, stays_in, some_choice}
-use Rattle.mdp_graph.specs.Layers.{reached}
-use Rattle.mdp_graph.specs.Reach.{may_step}
-use Rattle.mdp_graph.specs.Meet.{must_step}
-use Rattle.mdp_graph.specs.SureAll.{IsSureAll}
+use Rattle.std.proofs.{lemmas.List.FromFn.{get_or-map-range_with_len, length-map-range_with_len}, lemmas.List.Folds.{Any-from_list_any}}
+use Rattle.std.specs.{List.{All, Any}, Prelude.{slice_index}}
+use Rattle.mdp_math.proofs.{Booleans.{and-left, and-right, false_of_not, not_true}, Kernel.{Any-and}}
+use Rattle.mdp_spec.specs.{Mdp.{Mdp, Entry, states_of, row_at, choices_at}, Row.{IsMdp}, Tree.{is_marked, IsPolicy}}
+use Rattle.mdp_graph.specs.{Sets.{can_enter, stays_in, some_choice}, Layers.{reached}, Reach.{may_step}, Meet.{must_step}, SureAll.{IsSureAll}}
 use Rattle.mdp_graph.specs.Laws.{StaysSure, RestAvoids}
-use Rattle.mdp_reward.specs.Problem.{is_transient}
-use Rattle.mdp_reward.specs.Query.{IsMaxStart}
+use Rattle.mdp_reward.specs.{Problem.{is_transient}, Query.{IsMaxStart}}
 use Rattle.mdp_reward.proofs.Rows.{any_mono, lt_of_test, all_in, each-true, split-at}
 
 module _ (m : Mdp) (goals finite : List Bool) (start known : List ℕ) (model : IsMdp m) (is : IsMaxStart m goals finite start known) where

@@ -1,25 +1,17 @@
 -- What the path of the greatest reward finds meets the rules.
 use Rattle.std.proofs.Common.{◌≡◌, ℕ, ◌<◌, ◌⊎◌, inl, inr, Bool, true, false, List, length, Option, refl, sym, subst}
-use Rattle.std.specs.List.{All, Any}
-use Rattle.std.specs.Prelude.{slice_index}
+use Rattle.std.specs.{List.{All, Any}, Prelude.{slice_index}}
 use Rattle.mdp_math.specs.Rational.{ℚ}
 use Rattle.mdp_math.proofs.Order.{≤ℚ_of_eq}
-use Rattle.mdp_spec.specs.Mdp.{Mdp, states_of, row_at, choices_at}
-use Rattle.mdp_spec.specs.Row.{IsMdp}
-use Rattle.mdp_spec.specs.Tree.{is_marked}
-use Rattle.mdp_spec.specs.Tree as tree
-use Rattle.mdp_spec.specs.Bounds.{infinite}
+use Rattle.mdp_spec.specs.{Mdp.{Mdp, states_of, row_at, choices_at}, Row.{IsMdp}, Tree.{is_marked}, Bounds.{infinite}}
 use Rattle.mdp_spec.specs.RewardRules.{IsInfinite, IsTransient, StaysFinite, FallsInfinite, StaysInfinite, MeetsRewardMax}
-use Rattle.mdp_rows.specs.Negative.{has_negative}
-use Rattle.mdp_rows.specs.declared.dir.Dir.TheVariants.{Max}
+use Rattle.mdp_spec.specs.Tree as tree
+use Rattle.mdp_rows.specs.{Negative.{has_negative}, declared.dir.Dir.TheVariants.{Max}}
 use Rattle.mdp_graph.specs.Laws.{StaysSure, RestAvoids}
 use Rattle.mdp_policy_iteration.specs.Laws.{IsBestFrom}
-use Rattle.mdp_reward.specs.Problem.{reward_problem}
-use Rattle.mdp_reward.specs.Query.{rewards_of, IsMaxStart}
-use Rattle.mdp_reward.proofs.Rows.{any_mono, all_in}
-use Rattle.mdp_reward.proofs.MaxFacts.{goal-finite, goal-rank, stays-finite, falls-finite, max_policy, max_misses}
-use Rattle.mdp_reward.proofs.Kept.{found-policy, given-kept}
-use Rattle.mdp_reward.proofs.Certificate.{rewards-len, infinite-not, infinite-is, infinite-state, transient-state}
+use Rattle.mdp_reward.specs.{Problem.{reward_problem}, Query.{rewards_of, IsMaxStart}}
+use Rattle.mdp_reward.proofs.{Rows.{any_mono, all_in}, MaxFacts.{goal-finite, goal-rank, stays-finite, falls-finite, max_policy, max_misses}}
+use Rattle.mdp_reward.proofs.{Kept.{found-policy, given-kept}, Certificate.{rewards-len, infinite-not, infinite-is, infinite-state, transient-state}}
 use Rattle.mdp_reward.proofs.Shared.{not-infinite, are-rewards, own-value, none-better}
 
 module _ (m : Mdp) (r : ℕ) (goals finite : List Bool) (start known policy : List ℕ) (x : List ℚ) (named : r < length m.names) (model : IsMdp m) (none : has_negative m r ≡ false)

@@ -1,20 +1,12 @@
 -- What the passes of the least reward say: goals are finite, the start keeps to finite states and leads on a shortest way among them, and from any other
 -- state each choice leads to such a state of smaller round, or to states of the same round alone.
 use Rattle.std.proofs.Common.{◌≡◌, ℕ, ◌<◌, ◌⊎◌, inl, inr, Bool, true, false, not, ◌&&◌, ◌==◌, nat_lt, List, length, sym, ◌∙◌, ap, arith}
-use Rattle.std.specs.List.{All, Any}
-use Rattle.std.specs.Prelude.{slice_index}
-use Rattle.std.proofs.lemmas.Bool.{eqb-true}
-use Rattle.std.proofs.lemmas.List.Folds.{Any-from_list_any}
-use Rattle.mdp_math.proofs.Booleans.{and-left, and-right, false_of_not, not_true}
-use Rattle.mdp_math.proofs.Kernel.{Any-and}
-use Rattle.mdp_spec.specs.Mdp.{Mdp, Entry, states_of, row_at, choices_at}
-use Rattle.mdp_spec.specs.Row.{IsMdp}
-use Rattle.mdp_spec.specs.Tree.{is_marked, IsPolicy}
-use Rattle.mdp_graph.specs.Sets.{can_enter, stays_in}
-use Rattle.mdp_graph.specs.Laws.{earlier, RoundsFall, ZeroIsSure}
-use Rattle.mdp_graph.specs.Reach.{falls}
-use Rattle.mdp_reward.specs.Problem.{is_transient}
-use Rattle.mdp_reward.specs.Query.{IsMinStart}
+use Rattle.std.proofs.{lemmas.Bool.{eqb-true}, lemmas.List.Folds.{Any-from_list_any}}
+use Rattle.std.specs.{List.{All, Any}, Prelude.{slice_index}}
+use Rattle.mdp_math.proofs.{Booleans.{and-left, and-right, false_of_not, not_true}, Kernel.{Any-and}}
+use Rattle.mdp_spec.specs.{Mdp.{Mdp, Entry, states_of, row_at, choices_at}, Row.{IsMdp}, Tree.{is_marked, IsPolicy}}
+use Rattle.mdp_graph.specs.{Sets.{can_enter, stays_in}, Laws.{earlier, RoundsFall, ZeroIsSure}, Reach.{falls}}
+use Rattle.mdp_reward.specs.{Problem.{is_transient}, Query.{IsMinStart}}
 use Rattle.mdp_reward.proofs.Rows.{any_mono, lt_of_test, all_in}
 
 module _ (m : Mdp) (goals finite : List Bool) (start known : List ℕ) (model : IsMdp m) (is : IsMinStart m goals finite start known) where

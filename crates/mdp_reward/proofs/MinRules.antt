@@ -1,32 +1,21 @@
 -- What the path of the least reward finds meets the rules. Its policy leads from each finite state to a goal, since it leaves the transient states and keeps
 -- to finite ones.
 use Rattle.std.proofs.Common.{◌≡◌, ℕ, zero, suc, ◌<◌, ◌⊎◌, inl, inr, Bool, true, false, not, ◌&&◌, List, length, Option, refl, sym, ◌∙◌, ap, subst, arith, if◌then◌else◌}
-use Rattle.std.specs.List.{All, Any}
-use Rattle.std.specs.Prelude.{slice_index}
+use Rattle.std.specs.{List.{All, Any}, Prelude.{slice_index}}
 use Rattle.mdp_math.specs.Rational.{ℚ}
-use Rattle.mdp_math.proofs.Kernel.{Any-and}
-use Rattle.mdp_math.proofs.Order.{≤ℚ_of_eq}
-use Rattle.mdp_spec.specs.Mdp.{Mdp, Entry, states_of, row_at, choices_at}
-use Rattle.mdp_spec.specs.Row.{IsMdp}
-use Rattle.mdp_spec.specs.Tree.{is_marked}
-use Rattle.mdp_spec.specs.Tree as tree
-use Rattle.mdp_spec.specs.Bounds.{infinite}
+use Rattle.mdp_math.proofs.{Kernel.{Any-and}, Order.{≤ℚ_of_eq}}
+use Rattle.mdp_spec.specs.{Mdp.{Mdp, Entry, states_of, row_at, choices_at}, Row.{IsMdp}, Tree.{is_marked}, Bounds.{infinite}}
 use Rattle.mdp_spec.specs.RewardRules.{IsTransient, StaysFinite, Falls, FallsInfinite, StaysInfinite, MeetsRewardMin}
-use Rattle.mdp_rows.specs.Negative.{has_negative}
-use Rattle.mdp_rows.specs.declared.dir.Dir.TheVariants.{Min}
-use Rattle.mdp_graph.specs.Sets.{stays_in}
-use Rattle.mdp_graph.specs.Laws.{RowsFall, RowsStay, RoundsFall, ZeroIsSure}
+use Rattle.mdp_spec.specs.Tree as tree
+use Rattle.mdp_rows.specs.{Negative.{has_negative}, declared.dir.Dir.TheVariants.{Min}}
+use Rattle.mdp_graph.specs.{Sets.{stays_in}, Laws.{RowsFall, RowsStay, RoundsFall, ZeroIsSure}}
 use Rattle.mdp_elim.specs.System.{is_active}
-use Rattle.mdp_policy_iteration.specs.Problem.{Problem, active_of, rows_of}
-use Rattle.mdp_policy_iteration.specs.Laws.{IsBestFrom}
+use Rattle.mdp_policy_iteration.specs.{Problem.{Problem, active_of, rows_of}, Laws.{IsBestFrom}}
 use Rattle.mdp_policy_iteration.proofs.Chain.{rows-len}
-use Rattle.mdp_reward.specs.Problem.{is_transient, reward_problem}
-use Rattle.mdp_reward.specs.Query.{rewards_of, IsMinStart, AreMinRanks}
+use Rattle.mdp_reward.specs.{Problem.{is_transient, reward_problem}, Query.{rewards_of, IsMinStart, AreMinRanks}}
 use Rattle.mdp_reward.proofs.Rows.{any_mono, all_in, stays_by_all, split-at, goal-along, goal-along_rank, row-falls, row-stays}
-use Rattle.mdp_reward.proofs.MinFacts.{goal-finite, min_policy, min_misses}
-use Rattle.mdp_reward.proofs.Policies.{is_node, transient-may, transient-active, open-row}
-use Rattle.mdp_reward.proofs.Kept.{found-policy}
-use Rattle.mdp_reward.proofs.Certificate.{rewards-len, infinite-not, infinite-is, infinite-state, finite-of, transient-state}
+use Rattle.mdp_reward.proofs.{MinFacts.{goal-finite, min_policy, min_misses}, Policies.{is_node, transient-may, transient-active, open-row}}
+use Rattle.mdp_reward.proofs.{Kept.{found-policy}, Certificate.{rewards-len, infinite-not, infinite-is, infinite-state, finite-of, transient-state}}
 use Rattle.mdp_reward.proofs.Shared.{are-rewards, own-value, none-better}
 
 module _ (m : Mdp) (r : ℕ) (goals finite : List Bool) (start known policy ranks : List ℕ) (x : List ℚ) (named : r < length m.names) (model : IsMdp m) (none : has_negative m r ≡ false)

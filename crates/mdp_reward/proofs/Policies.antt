@@ -1,7 +1,6 @@
 -- What a policy of the problem does at each state: a transient state goes on by its choice, and all others stop with 0.
-use Rattle.std.proofs.Common.{◌≡◌, ℕ, ◌<◌, Bool, true, false, List, length, refl, sym, ◌∙◌, ap, subst, arith, pos}
+use Rattle.std.proofs.{Common.{◌≡◌, ℕ, ◌<◌, Bool, true, false, List, length, refl, sym, ◌∙◌, ap, subst, arith, pos}, lemmas.Bool.{false≢true}}
 use Rattle.std.specs.Prelude.{slice_index}
-use Rattle.std.proofs.lemmas.Bool.{false≢true}
 use Rattle.mdp_math.specs.Rational.{of_int}
 use Rattle.mdp_spec.specs.Mdp.{Mdp, states_of, row_at, choices_at}
 use Rattle.mdp_spec.specs.Tree as tree

@@ -1,10 +1,8 @@
 -- The rounds of the states outside the greatest sure set are determined.
 use Rattle.std.proofs.Common.{◌≡◌, ℕ, zero, suc, ◌+◌, ◌<◌, ◌≤◌, ◌⊎◌, inl, inr, Bool, true, false, ◌||◌, ◌==◌, nat_lt, lt-ltb, List, length, refl, sym, ◌∙◌, ap, subst, arith}
+use Rattle.std.proofs.{Math.ListN.{get_or-eq_default}, lemmas.Bool.{eqb-true}}
 use Rattle.std.specs.Prelude.{slice_index}
-use Rattle.std.proofs.Math.ListN.{get_or-eq_default}
-use Rattle.std.proofs.lemmas.Bool.{eqb-true}
-use Rattle.mdp_math.proofs.Booleans.{same_truth}
-use Rattle.mdp_math.proofs.Numbers.{le_or}
+use Rattle.mdp_math.proofs.{Booleans.{same_truth}, Numbers.{le_or}}
 use Rattle.mdp_spec.specs.Mdp.{Mdp, states_of}
 use Rattle.mdp_graph.specs.Rounds.{AreRounds, left_after, CanStay}
 use Rattle.mdp_reward.proofs.Rows.{lt_of_test}

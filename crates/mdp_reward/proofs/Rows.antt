@@ -1,18 +1,11 @@
 -- Sets of states that rows lead into or stay in, and the rows of a policy with the ranks along them.
 use Rattle.std.proofs.Common.{◌≡◌, ℕ, ◌<◌, Bool, true, false, ◌&&◌, nat_lt, List, [], ◌∷◌, length, refl, sym, subst, zero-add, arith, if◌then◌else◌}
-use Rattle.std.specs.List.{All, Any}
-use Rattle.std.specs.Prelude.{slice_index}
-use Rattle.std.proofs.lemmas.Bool.Decides.{nat_tests}
-use Rattle.std.proofs.lemmas.List.FromFn.{get_or-map-range_with_len}
-use Rattle.std.proofs.lemmas.List.Folds.{Any-from_list_any, list_any_at}
+use Rattle.std.proofs.{lemmas.Bool.Decides.{nat_tests}, lemmas.List.FromFn.{get_or-map-range_with_len}, lemmas.List.Folds.{Any-from_list_any, list_any_at}}
+use Rattle.std.specs.{List.{All, Any}, Prelude.{slice_index}}
 use Rattle.mdp_math.proofs.Booleans.{and-right, false_of_not}
-use Rattle.mdp_spec.specs.Mdp.{Mdp, Entry, Choice, no_choice, states_of, row_at, choices_at}
-use Rattle.mdp_spec.specs.Row.{IsMdp}
-use Rattle.mdp_spec.specs.Tree.{IsPolicy, is_marked}
+use Rattle.mdp_spec.specs.{Mdp.{Mdp, Entry, Choice, no_choice, states_of, row_at, choices_at}, Row.{IsMdp}, Tree.{IsPolicy, is_marked}}
 use Rattle.mdp_rows.proofs.Queries.Policies.{rows-len, row-is, are_rows}
-use Rattle.mdp_graph.specs.Sets.{marked, can_enter, stays_in, each_choice}
-use Rattle.mdp_graph.specs.Layers.{reached, AreReached, AreLeastRanks}
-use Rattle.mdp_graph.specs.Reach.{row_step}
+use Rattle.mdp_graph.specs.{Sets.{marked, can_enter, stays_in, each_choice}, Layers.{reached, AreReached, AreLeastRanks}, Reach.{row_step}}
 use Rattle.mdp_graph.specs.Laws.{RowsFall, RowsStay}
 use Rattle.mdp_graph.proofs.RowSets.{list_all-at, list_all-by}
 use Rattle.mdp_reward.specs.Query.{split, policy_rows}

@@ -3,23 +3,14 @@
 use Rattle.std.proofs.Common.{◌≡◌, ℕ, ◌<◌, Bool, true, false, not, ◌&&◌, List, length, Option, Some, sym, ◌∙◌, ap, subst}
 use Rattle.std.specs.Prelude.{slice_index}
 use Rattle.mdp_math.specs.Rational.{ℚ, ◌≤ℚ◌}
-use Rattle.mdp_math.proofs.Booleans.{and-false}
-use Rattle.mdp_math.proofs.Order.{0ℚ}
-use Rattle.mdp_spec.specs.Mdp.{Mdp, states_of, row_at, choices_at, value_at}
-use Rattle.mdp_spec.specs.Row.{IsMdp}
-use Rattle.mdp_spec.specs.Tree.{is_marked}
-use Rattle.mdp_spec.specs.Tree as tree
-use Rattle.mdp_spec.specs.Bounds.{finite_part}
+use Rattle.mdp_math.proofs.{Booleans.{and-false}, Order.{0ℚ}}
+use Rattle.mdp_spec.specs.{Mdp.{Mdp, states_of, row_at, choices_at, value_at}, Row.{IsMdp}, Tree.{is_marked}, Bounds.{finite_part}}
 use Rattle.mdp_spec.specs.RewardRules.{backup, IsTransient, AreRewards}
-use Rattle.mdp_rows.specs.Negative.{has_negative}
-use Rattle.mdp_rows.specs.declared.dir.Dir.{Dir}
-use Rattle.mdp_rows.specs.Better.{IsAsGood}
+use Rattle.mdp_spec.specs.Tree as tree
+use Rattle.mdp_rows.specs.{Negative.{has_negative}, declared.dir.Dir.{Dir}, Better.{IsAsGood}}
 use Rattle.mdp_policy_iteration.specs.Laws.{IsBestFrom}
-use Rattle.mdp_reward.specs.Problem.{may_take, is_transient, reward_problem}
-use Rattle.mdp_reward.specs.Query.{rewards_of}
-use Rattle.mdp_reward.proofs.Nodes.{reward-count}
-use Rattle.mdp_reward.proofs.Values.{given-value, transient-value, nonneg}
-use Rattle.mdp_reward.proofs.Kept.{no-better}
+use Rattle.mdp_reward.specs.{Problem.{may_take, is_transient, reward_problem}, Query.{rewards_of}}
+use Rattle.mdp_reward.proofs.{Nodes.{reward-count}, Values.{given-value, transient-value, nonneg}, Kept.{no-better}}
 use Rattle.mdp_reward.proofs.Certificate.{reward-finite, transient-state, some-value, finite-part}
 
 -- goals and infinite states aren't transient

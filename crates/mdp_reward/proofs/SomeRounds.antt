@@ -1,23 +1,14 @@
 -- The rounds of the states outside the greatest sure set exist.
 use Rattle.std.proofs.Common.{◌≡◌, ℕ, zero, suc, ◌+◌, ◌-◌, ◌<◌, ◌↔◌, inl, inr, Bool, true, false, not}
 use Rattle.std.proofs.Common.{◌||◌, ◌==◌, nat_lt, lt-ltb, List, map, is_some, refl, sym, ◌∙◌, ap, arith, zero-add}
+use Rattle.std.proofs.{lemmas.Bool.{false≢true, cases_Bool, cases_lt, ne_eqb}, lemmas.List.FromFn.{get_or-map-range_with_len, length-map-range_with_len}}
 use Rattle.std.specs.List.{range_with_len}
-use Rattle.std.proofs.lemmas.Bool.{false≢true, cases_Bool, cases_lt, ne_eqb}
-use Rattle.std.proofs.lemmas.List.FromFn.{get_or-map-range_with_len, length-map-range_with_len}
 use Rattle.mdp_math.proofs.Booleans.{not-not, not_true, same_truth}
-use Rattle.mdp_spec.specs.Mdp.{Mdp, states_of}
-use Rattle.mdp_spec.specs.Row.{IsMdp}
-use Rattle.mdp_graph.specs.Sets.{marked}
-use Rattle.mdp_graph.specs.Layers.{rank_at}
-use Rattle.mdp_graph.specs.Rounds.{left_after, CanStay, AreRounds}
-use Rattle.mdp_graph.specs.Sure.{inside_step}
-use Rattle.mdp_graph.proofs.LeftAfter.{stays-alike}
-use Rattle.mdp_graph.proofs.Passes.{has_rank}
-use Rattle.mdp_graph.proofs.Reached.{rank_of, at_most-some}
-use Rattle.mdp_graph.proofs.StepsInside.{reached-more}
-use Rattle.mdp_graph.proofs.Rising.{inside_rises}
-use Rattle.mdp_reward.proofs.Rows.{lt_of_test}
+use Rattle.mdp_spec.specs.{Mdp.{Mdp, states_of}, Row.{IsMdp}}
+use Rattle.mdp_graph.specs.{Sets.{marked}, Layers.{rank_at}, Rounds.{left_after, CanStay, AreRounds}, Sure.{inside_step}}
+use Rattle.mdp_graph.proofs.{LeftAfter.{stays-alike}, Passes.{has_rank}, Reached.{rank_of, at_most-some}, StepsInside.{reached-more}, Rising.{inside_rises}}
 use Rattle.mdp_graph.proofs.Settling.{NoneOrLeast, least_below, ranks_exist, settles}
+use Rattle.mdp_reward.proofs.Rows.{lt_of_test}
 
 not_false : (b : Bool) → not b ≡ false → b ≡ true
 not_false b e = sym (not-not b) ∙ ap not e

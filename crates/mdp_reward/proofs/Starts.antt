@@ -1,27 +1,17 @@
 -- The start of a query is a policy of its problem and leaves its transient states: for the greatest reward as each policy does, by the ranks of
 -- `must_meet`; for the least one by the ranks of `sure_some`, and so does each next policy, since what is earned is at least 0.
 use Rattle.std.proofs.Common.{◌≡◌, ℕ, ◌<◌, ◌⊎◌, inl, inr, Bool, false, List, length, refl, sym, ◌∙◌, subst}
-use Rattle.std.specs.Prelude.{slice_index}
-use Rattle.std.specs.List.{Any}
-use Rattle.mdp_spec.specs.Mdp.{Mdp, states_of, row_at}
-use Rattle.mdp_spec.specs.Row.{IsMdp}
+use Rattle.std.specs.{Prelude.{slice_index}, List.{Any}}
+use Rattle.mdp_spec.specs.{Mdp.{Mdp, states_of, row_at}, Row.{IsMdp}}
 use Rattle.mdp_spec.specs.Tree as tree
-use Rattle.mdp_rows.specs.Negative.{has_negative}
-use Rattle.mdp_rows.specs.declared.dir.Dir.{Dir}
-use Rattle.mdp_rows.specs.declared.dir.Dir.TheVariants.{Max, Min}
+use Rattle.mdp_rows.specs.{Negative.{has_negative}, declared.dir.Dir.{Dir}, declared.dir.Dir.TheVariants.{Max, Min}}
 use Rattle.mdp_graph.specs.Laws.{StaysSure, RestAvoids}
 use Rattle.mdp_elim.specs.System.{is_active}
-use Rattle.mdp_policy_iteration.specs.Problem.{Choice, active_of, IsPolicy}
-use Rattle.mdp_policy_iteration.specs.Values.{CanLeave, EarnsNoGood, AllLeave, NoneHelps}
-use Rattle.mdp_policy_iteration.specs.Laws.{IsSolvable}
-use Rattle.mdp_reward.specs.Problem.{reward_problem}
-use Rattle.mdp_reward.specs.Query.{IsMaxStart, IsMinStart, IsStart}
+use Rattle.mdp_policy_iteration.specs.{Problem.{Choice, active_of, IsPolicy}, Values.{CanLeave, EarnsNoGood, AllLeave, NoneHelps}, Laws.{IsSolvable}}
+use Rattle.mdp_reward.specs.{Problem.{reward_problem}, Query.{IsMaxStart, IsMinStart, IsStart}}
 use Rattle.mdp_reward.proofs.Nodes.{reward-count, reward-choice, reward-known}
-use Rattle.mdp_reward.proofs.Policies.{is-policy, IsOpen, active-open, open-row, is_state, transient-choice}
-use Rattle.mdp_reward.proofs.Rows.{any_mono}
-use Rattle.mdp_reward.proofs.Values.{reward-nonneg}
-use Rattle.mdp_reward.proofs.MaxFacts.{max_policy, falls-finite, known-count, finite-count}
-use Rattle.mdp_reward.proofs.MinFacts.{min_policy, start-stays, start-falls}
+use Rattle.mdp_reward.proofs.{Policies.{is-policy, IsOpen, active-open, open-row, is_state, transient-choice}, Rows.{any_mono}, Values.{reward-nonneg}}
+use Rattle.mdp_reward.proofs.{MaxFacts.{max_policy, falls-finite, known-count, finite-count}, MinFacts.{min_policy, start-stays, start-falls}}
 
 -- a policy whose choices at transient states lead to smaller ranks leaves them
 pub leaves_by : (dir : Dir) (m : Mdp) (r : ℕ) (goals finite : List Bool) (policy ranks : List ℕ) (is : IsPolicy (reward_problem dir m r goals finite) policy) → length ranks ≡ states_of m

@@ -1,32 +1,17 @@
 -- The values of a policy that leaves its transient states: 0 at all others, at a transient state what it earns and what its row sums to; and at least
 -- 0 where no reward is below 0.
 use Rattle.std.proofs.Common.{◌≡◌, ℕ, ◌<◌, ◌≤◌, ◌⊎◌, inl, inr, Bool, true, false, List, [], ◌∷◌, length, refl, sym, ◌∙◌, ap, subst, arith, pos}
-use Rattle.std.specs.List.{list_any}
-use Rattle.std.specs.Prelude.{slice_index, slice_index_or}
-use Rattle.std.proofs.Math.ListN.{get_or-eq_default}
-use Rattle.std.proofs.lemmas.List.Folds.{list_any_at}
-use Rattle.mdp_math.specs.Rational.{ℚ, ◌≤ℚ◌}
-use Rattle.mdp_math.specs.Sum.{sum_of}
-use Rattle.mdp_math.specs.Kernel.{weigh}
-use Rattle.mdp_math.proofs.Ring.{◌⊕◌, ◌⊗◌, lit}
-use Rattle.mdp_math.proofs.Linear.{linear, equal, known}
-use Rattle.mdp_math.proofs.Booleans.{false_of_not}
-use Rattle.mdp_math.proofs.Extremes.{le_of_no_test}
-use Rattle.mdp_math.proofs.Numbers.{le_or}
-use Rattle.mdp_math.proofs.Order.{0ℚ, ≤ℚ_of_eq}
-use Rattle.mdp_math.proofs.Kernel.{weigh-const}
-use Rattle.mdp_math.proofs.Solutions.{le_of_rows}
-use Rattle.mdp_spec.specs.Mdp.{Mdp, Entry, State, Choice, no_state, no_choice, states_of, choices_at, choice_at, value_at}
-use Rattle.mdp_spec.specs.Row.{IsMdp}
-use Rattle.mdp_spec.specs.RewardRules.{backup}
+use Rattle.std.proofs.{Math.ListN.{get_or-eq_default}, lemmas.List.Folds.{list_any_at}}
+use Rattle.std.specs.{List.{list_any}, Prelude.{slice_index, slice_index_or}}
+use Rattle.mdp_math.specs.{Rational.{ℚ, ◌≤ℚ◌}, Sum.{sum_of}, Kernel.{weigh}}
+use Rattle.mdp_math.proofs.{Ring.{◌⊕◌, ◌⊗◌, lit}, Linear.{linear, equal, known}, Booleans.{false_of_not}, Extremes.{le_of_no_test}, Numbers.{le_or}}
+use Rattle.mdp_math.proofs.{Order.{0ℚ, ≤ℚ_of_eq}, Kernel.{weigh-const}, Solutions.{le_of_rows}}
+use Rattle.mdp_spec.specs.{Mdp.{Mdp, Entry, State, Choice, no_state, no_choice, states_of, choices_at, choice_at, value_at}, Row.{IsMdp}, RewardRules.{backup}}
 use Rattle.mdp_spec.specs.Unit.{reward_of}
-use Rattle.mdp_rows.specs.Negative.{any_negative, is_negative, has_negative}
-use Rattle.mdp_rows.specs.declared.dir.Dir.{Dir}
+use Rattle.mdp_rows.specs.{Negative.{any_negative, is_negative, has_negative}, declared.dir.Dir.{Dir}}
 use Rattle.mdp_elim.specs.System.{is_active, row_of}
-use Rattle.mdp_policy_iteration.specs.Problem.{Problem, count, active_of, rows_of, taken, amount, IsProblem, IsPolicy, worth}
-use Rattle.mdp_policy_iteration.specs.Values.{IsValue, CanLeave}
-use Rattle.mdp_policy_iteration.proofs.Chain.{target, prob, active-below, ChainShrinks, chain-shrinks}
-use Rattle.mdp_policy_iteration.proofs.Exact.{value-active}
+use Rattle.mdp_policy_iteration.specs.{Problem.{Problem, count, active_of, rows_of, taken, amount, IsProblem, IsPolicy, worth}, Values.{IsValue, CanLeave}}
+use Rattle.mdp_policy_iteration.proofs.{Chain.{target, prob, active-below, ChainShrinks, chain-shrinks}, Exact.{value-active}}
 use Rattle.mdp_reward.specs.Problem.{reward_problem}
 use Rattle.mdp_reward.proofs.Nodes.{reward-count, reward-known}
 use Rattle.mdp_reward.proofs.Policies.{transient, is_node, transient-choice, transient-active, given-move, transient-move, active-open, open-amount}

@@ -1,11 +1,7 @@
 -- What a query of the reward until a goal ends with.
 use Rattle.std.specs.Prelude.{◌≡◌, ℕ, ◌<◌, Bool, false, List, length, Result, Ok}
-use Rattle.mdp_spec.specs.Mdp.{Mdp}
-use Rattle.mdp_spec.specs.Bounds.{RewardMax, RewardMin}
-use Rattle.mdp_spec.specs.Row.{IsMdp}
-use Rattle.mdp_rows.specs.Negative.{has_negative}
-use Rattle.mdp_rows.specs.declared.dir.Dir.{Dir}
-use Rattle.mdp_rows.specs.declared.dir.Dir.TheVariants.{Max, Min}
+use Rattle.mdp_spec.specs.{Mdp.{Mdp}, Bounds.{RewardMax, RewardMin}, Row.{IsMdp}}
+use Rattle.mdp_rows.specs.{Negative.{has_negative}, declared.dir.Dir.{Dir}, declared.dir.Dir.TheVariants.{Max, Min}}
 use Rattle.mdp_wide.specs.Term.{WideTerm}
 use Rattle.mdp_farkas.specs.Reward.{IsReward}
 use Rattle.mdp_reward.specs.Query.{Answer, EndsSo}

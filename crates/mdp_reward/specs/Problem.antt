@@ -2,14 +2,10 @@
 -- is no goal: it goes on by each of its choices, and earns the choice's reward. Goals and states of infinite value are worth 0. No policy comes
 -- from a transient state to one of infinite value: where the least reward is meant, the candidates are the choices whose successors all have finite
 -- values, and where the greatest is meant, all choices are of that kind.
-use Rattle.std.specs.Prelude.{ℕ, Bool, true, false, not, ◌&&◌, List, length, map, pos}
-use Rattle.std.specs.List.{range_with_len}
+use Rattle.std.specs.{Prelude.{ℕ, Bool, true, false, not, ◌&&◌, List, length, map, pos}, List.{range_with_len}}
 use Rattle.mdp_math.specs.Rational.{of_int}
-use Rattle.mdp_spec.specs.Mdp.{Mdp, Entry, states_of, choices_at, choice_at, row_at}
-use Rattle.mdp_spec.specs.Unit.{reward_of}
-use Rattle.mdp_spec.specs.Tree.{is_marked}
-use Rattle.mdp_rows.specs.declared.dir.Dir.{Dir}
-use Rattle.mdp_rows.specs.declared.dir.Dir.TheVariants.{Max, Min}
+use Rattle.mdp_spec.specs.{Mdp.{Mdp, Entry, states_of, choices_at, choice_at, row_at}, Unit.{reward_of}, Tree.{is_marked}}
+use Rattle.mdp_rows.specs.{declared.dir.Dir.{Dir}, declared.dir.Dir.TheVariants.{Max, Min}}
 use Rattle.mdp_graph.specs.Sets.{stays_in}
 use Rattle.mdp_policy_iteration.specs.Problem.{Problem, Node, given, decision, Choice, go, plain}
 

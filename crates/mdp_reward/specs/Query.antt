@@ -1,29 +1,14 @@
 -- The query of the greatest or the least reward of name r until a goal: its start, its path, its certificate.
-use Rattle.std.specs.Prelude.{◌≡◌, ℕ, Bool, not, List, length, map, slice_index, if◌then◌else◌, Option, Some, None, Result, Ok, Err}
-use Rattle.std.specs.List.{range_with_len}
+use Rattle.std.specs.{Prelude.{◌≡◌, ℕ, Bool, not, List, length, map, slice_index, if◌then◌else◌, Option, Some, None, Result, Ok, Err}, List.{range_with_len}}
 use Rattle.mdp_math.specs.Rational.{ℚ}
-use Rattle.mdp_spec.specs.Mdp.{Mdp, Entry, states_of, row_at, value_at}
-use Rattle.mdp_spec.specs.Tree.{is_marked}
-use Rattle.mdp_rows.specs.declared.dir.Dir.{Dir}
-use Rattle.mdp_rows.specs.declared.dir.Dir.TheVariants.{Max, Min}
-use Rattle.mdp_graph.specs.Layers.{AreReached, AreLeastRanks}
-use Rattle.mdp_graph.specs.Choices.{AreLeast}
-use Rattle.mdp_graph.specs.Reach.{may_step, row_step, falls}
-use Rattle.mdp_graph.specs.Meet.{must_step}
-use Rattle.mdp_graph.specs.Sure.{inside_step, IsGreatestSure, stays_and_falls}
-use Rattle.mdp_graph.specs.Rounds.{AreRounds}
-use Rattle.mdp_graph.specs.Avoid.{IsGreatestAvoiding, keeps}
-use Rattle.mdp_wide.specs.declared.too_wide.Part.TheVariants.{Whole}
-use Rattle.mdp_policy_iteration.specs.Iteration.{EndsWith}
-use Rattle.mdp_policy_iteration.specs.Path.{Found, Refusal, path_step}
-use Rattle.mdp_policy_iteration.specs.Laws.{first}
-use Rattle.mdp_wide.specs.Term.{WideTerm}
-use Rattle.mdp_policy_iteration.specs.Queries.{term_of, term_of_check}
-use Rattle.mdp_farkas.specs.Verdict.{verdict_of}
-use Rattle.mdp_farkas.specs.Reward.{reward_checks}
-use Rattle.mdp_claims.specs.declared.verdict.Verdict.{Verdict}
-use Rattle.mdp_claims.specs.declared.verdict.Verdict.TheVariants.{Yes, No, Wide}
-use Rattle.mdp_claims.specs.declared.exact.RewardCert.{RewardCert}
+use Rattle.mdp_spec.specs.{Mdp.{Mdp, Entry, states_of, row_at, value_at}, Tree.{is_marked}}
+use Rattle.mdp_rows.specs.{declared.dir.Dir.{Dir}, declared.dir.Dir.TheVariants.{Max, Min}}
+use Rattle.mdp_graph.specs.{Layers.{AreReached, AreLeastRanks}, Choices.{AreLeast}, Reach.{may_step, row_step, falls}, Meet.{must_step}}
+use Rattle.mdp_graph.specs.{Sure.{inside_step, IsGreatestSure, stays_and_falls}, Rounds.{AreRounds}, Avoid.{IsGreatestAvoiding, keeps}}
+use Rattle.mdp_wide.specs.{declared.too_wide.Part.TheVariants.{Whole}, Term.{WideTerm}}
+use Rattle.mdp_policy_iteration.specs.{Iteration.{EndsWith}, Path.{Found, Refusal, path_step}, Laws.{first}, Queries.{term_of, term_of_check}}
+use Rattle.mdp_farkas.specs.{Verdict.{verdict_of}, Reward.{reward_checks}}
+use Rattle.mdp_claims.specs.{declared.verdict.Verdict.{Verdict}, declared.verdict.Verdict.TheVariants.{Yes, No, Wide}, declared.exact.RewardCert.{RewardCert}}
 use Rattle.mdp_reward.specs.Problem.{reward_problem}
 
 -- ---- the start

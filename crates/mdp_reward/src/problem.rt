@@ -1,6 +1,5 @@
 ghost use Rattle.std.specs.Prelude.{◌≡◌, ◌<◌, length};
-ghost use Rattle.mdp_spec.specs.Mdp.{states_of};
-ghost use Rattle.mdp_spec.specs.Tree.{is_marked};
+ghost use Rattle.mdp_spec.specs.{Mdp.{states_of}, Tree.{is_marked}};
 ghost use Rattle.mdp_reward.specs.Problem.{is_transient, reward_problem};
 
 use mdp_farkas::{StateTest, each_target};

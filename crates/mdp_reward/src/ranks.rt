@@ -1,6 +1,5 @@
 ghost use Rattle.std.specs.Prelude.{◌≡◌, ◌<◌, length, slice_index, if◌then◌else◌, IfOk};
-ghost use Rattle.mdp_spec.specs.Mdp.{states_of};
-ghost use Rattle.mdp_spec.specs.Tree.{IsPolicy, is_marked};
+ghost use Rattle.mdp_spec.specs.{Mdp.{states_of}, Tree.{IsPolicy, is_marked}};
 ghost use Rattle.mdp_reward.specs.Query.{split, AreMinRanks, AreRanks};
 
 use mdp_graph::along;

@@ -1,8 +1,6 @@
 ghost use Rattle.std.specs.Prelude.{◌≡◌, ◌<◌, false, length, IfOk};
-ghost use Rattle.mdp_spec.specs.Mdp.{states_of};
-ghost use Rattle.mdp_spec.specs.Bounds.{RewardMax, RewardMin};
-ghost use Rattle.mdp_rows.specs.Negative.{has_negative};
-ghost use Rattle.mdp_rows.specs.declared.dir.Dir.TheVariants.{Max, Min};
+ghost use Rattle.mdp_spec.specs.{Mdp.{states_of}, Bounds.{RewardMax, RewardMin}};
+ghost use Rattle.mdp_rows.specs.{Negative.{has_negative}, declared.dir.Dir.TheVariants.{Max, Min}};
 ghost use Rattle.mdp_farkas.specs.Reward.{IsReward};
 ghost use Rattle.mdp_policy_iteration.specs.Queries.{Solves};
 ghost use Rattle.mdp_reward.specs.Query.{plain, HasOneEach, EndsSo};

@@ -5,11 +5,8 @@ pub mod Kept
 pub mod Opens
 pub mod Steps
 use Rattle.std.proofs.Common.{◌≡◌, Option, Some, None, refl, sym, subst, ◌∙◌}
-use Rattle.std.specs.Prelude.{Result, Ok, Err, OnOk}
-use Rattle.std.specs.Option.{IfSome}
-use Rattle.mdp_rows.specs.Draft.{Draft, IsCall, IsUnrefused}
-use Rattle.mdp_rows.specs.Sound.{IsSound, IsGood}
-use Rattle.mdp_rows.specs.declared.error.RowsError.{RowsError}
+use Rattle.std.specs.{Prelude.{Result, Ok, Err, OnOk}, Option.{IfSome}}
+use Rattle.mdp_rows.specs.{Draft.{Draft, IsCall, IsUnrefused}, Sound.{IsSound, IsGood}, declared.error.RowsError.{RowsError}}
 
 -- a builder that answers Ok hasn't refused before
 unrefused_before : (u : Unit {0}) (old new : Draft) (o : Option RowsError) → old.refused ≡ o → IfSome o (λ e. ((let r : Result (Unit {0}) RowsError = Ok u in r) ≡ Err e) × (new ≡ old))

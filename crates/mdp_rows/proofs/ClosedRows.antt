@@ -5,27 +5,18 @@ pub mod Quotients
 pub mod Scaling
 pub mod Within
 use Rattle.std.proofs.Common.{◌≡◌, ◌≢◌, ℕ, ◌+◌, ◌*◌, ◌/◌, ◌<◌, ◌≤◌, Bool, true, false, ◌&&◌, T}
-use Rattle.std.proofs.Common.{lt-ltb, le-ltb, eqb, eq-eqb, List, pos, refl, sym, ap, subst, ◌∙◌, arith, if◌then◌else◌}
-use Rattle.std.specs.Prelude.{Result, Ok, Err}
+use Rattle.std.proofs.{Common.{lt-ltb, le-ltb, eqb, eq-eqb, List, pos, refl, sym, ap, subst, ◌∙◌, arith, if◌then◌else◌}, lemmas.Bool.{ne_eqb}}
+use Rattle.std.proofs.Math.Nat.{div-mul-le_self, lt-div-mul-add}
+use Rattle.std.specs.{Prelude.{Result, Ok, Err}, Int.{abs_diff}}
 use Rattle.mdp_math.specs.Rational.{ℚ, ratio, le_ℚ, ◌≤ℚ◌}
 use Rattle.mdp_math.proofs.Order.{ratio-le, le-ratio}
 use Rattle.mdp_num.specs.Numeral.{limit}
-use Rattle.mdp_spec.specs.Mdp.{Entry}
-use Rattle.mdp_spec.specs.Unit.{row_den}
-use Rattle.mdp_rows.specs.Draft.{is_one, is_near_one, kept, row_total, scaled_row, within_limit, ruled_row, closed_row, ◌>>=◌}
-use Rattle.mdp_rows.specs.Given.{row_of}
-use Rattle.mdp_rows.specs.Parts.{parts}
-use Rattle.mdp_rows.specs.declared.given.Given.{Given}
-use Rattle.mdp_rows.specs.declared.error.RowsError.{RowsError}
-use Rattle.mdp_rows.specs.declared.error.RowsError.TheVariants.{RowSum, RowWide}
-use Rattle.mdp_rows.specs.declared.rule.RowRule.{RowRule}
-use Rattle.mdp_rows.specs.declared.rule.RowRule.TheVariants.{Exact, Scaled}
-use Rattle.mdp_rows.proofs.ClosedRows.Parts.{is_one-parts}
+use Rattle.mdp_spec.specs.{Mdp.{Entry}, Unit.{row_den}}
+use Rattle.mdp_rows.specs.{Draft.{is_one, is_near_one, kept, row_total, scaled_row, within_limit, ruled_row, closed_row, ◌>>=◌}, Given.{row_of}, Parts.{parts}}
+use Rattle.mdp_rows.specs.{declared.given.Given.{Given}, declared.error.RowsError.{RowsError}, declared.error.RowsError.TheVariants.{RowSum, RowWide}}
+use Rattle.mdp_rows.specs.{declared.rule.RowRule.{RowRule}, declared.rule.RowRule.TheVariants.{Exact, Scaled}}
+use Rattle.mdp_rows.proofs.{ClosedRows.Parts.{is_one-parts}, ClosedRows.Scaling.{total_is}}
 use Rattle.mdp_spec.proofs.Units.{row_den-pos}
-use Rattle.std.proofs.lemmas.Bool.{ne_eqb}
-use Rattle.std.proofs.Math.Nat.{div-mul-le_self, lt-div-mul-add}
-use Rattle.std.specs.Int.{abs_diff}
-use Rattle.mdp_rows.proofs.ClosedRows.Scaling.{total_is}
 
 -- ---- a row that is too wide, or not
 

@@ -1,36 +1,20 @@
 -- A subsystem of a model is a model.
 pub mod Handing
 use Rattle.std.proofs.Common.{◌≡◌, ℕ, zero, suc, ◌+◌, ◌≤◌, ◌<◌, ◌^◌, Bool, true, false, ◌||◌, ◌&&◌, le-leb}
-use Rattle.std.proofs.Common.{List, [], ◌∷◌, length, map, sum_by, drop, get_or, pos, refl, sym, ap, subst, ◌∙◌, arith}
-use Rattle.std.specs.List.{All, AllByRecursion}
-use Rattle.std.proofs.lemmas.Int.{ints}
-use Rattle.std.specs.Prelude.{Result, Ok}
-use Rattle.std.proofs.lemmas.List.{length-map, drop_more, drop_all}
-use Rattle.std.proofs.lemmas.List.Elements.{All-from_recursion, recursion_from_All, All-get_or}
+use Rattle.std.proofs.{Common.{List, [], ◌∷◌, length, map, sum_by, drop, get_or, pos, refl, sym, ap, subst, ◌∙◌, arith}, lemmas.Int.{ints}}
+use Rattle.std.proofs.{lemmas.List.{length-map, drop_more, drop_all}, lemmas.List.Elements.{All-from_recursion, recursion_from_All, All-get_or}}
 use Rattle.std.proofs.lemmas.List.Sums.{sum_by-cons}
-use Rattle.mdp_math.specs.Gcd.{gcd, gcd_with_fuel}
-use Rattle.mdp_math.specs.Rational.{ℚ, of_int, ratio, lt_ℚ, le_ℚ, ◌+ℚ◌, ◌<ℚ◌}
-use Rattle.mdp_math.specs.Sum.{sum_of}
-use Rattle.mdp_math.proofs.Laws.{num-of_int}
-use Rattle.mdp_math.proofs.Order.{0ℚ}
-use Rattle.mdp_num.specs.Meaning.{IsWithinLimit}
-use Rattle.mdp_num.specs.Numeral.{limit}
+use Rattle.std.specs.{List.{All, AllByRecursion}, Prelude.{Result, Ok}}
+use Rattle.mdp_math.specs.{Gcd.{gcd, gcd_with_fuel}, Rational.{ℚ, of_int, ratio, lt_ℚ, le_ℚ, ◌+ℚ◌, ◌<ℚ◌}, Sum.{sum_of}}
+use Rattle.mdp_math.proofs.{Laws.{num-of_int}, Order.{0ℚ}}
+use Rattle.mdp_num.specs.{Meaning.{IsWithinLimit}, Numeral.{limit}}
 use borrow.Author.Tests.{leb-true}
-use Rattle.mdp_spec.specs.Mdp.{Entry, Choice, State, Mdp, no_state, no_choice, states_of, state_at, choices_at, row_at}
-use Rattle.mdp_spec.specs.Row.{IsDistribution, IsRow, IsMdp}
-use Rattle.mdp_spec.specs.Sub.{loop_at, cut_from, sub_of}
-use Rattle.mdp_spec.specs.Tree.{is_marked}
-use Rattle.mdp_spec.specs.Unit.{row_den}
-use Rattle.mdp_rows.specs.Limits.{known_after, all_below, in_order_of_sight, HasSmallTerms, IsChoiceWithin, IsStateWithin, IsModel}
-use Rattle.mdp_rows.specs.Cut.{cut_state}
-use Rattle.mdp_rows.specs.Draft.{Draft, new_draft, after_finish, ◌>>=◌}
-use Rattle.mdp_rows.specs.Replay.{with_states, replayed}
-use Rattle.mdp_rows.specs.declared.error.RowsError.{RowsError}
-use Rattle.mdp_rows.specs.declared.rule.RowRule.TheVariants.{Exact}
-use Rattle.mdp_rows.specs.Sound.{IsClosedState, choice_count, entry_count}
-use Rattle.mdp_rows.proofs.SoundCalls.Rewards.{small_by}
-use Rattle.mdp_rows.proofs.ReplayStates.{closed_at, row_count, is_replayed}
-use Rattle.mdp_rows.proofs.ClosedRows.Within.{probs_within}
+use Rattle.mdp_spec.specs.{Mdp.{Entry, Choice, State, Mdp, no_state, no_choice, states_of, state_at, choices_at, row_at}, Row.{IsDistribution, IsRow, IsMdp}}
+use Rattle.mdp_spec.specs.{Sub.{loop_at, cut_from, sub_of}, Tree.{is_marked}, Unit.{row_den}}
+use Rattle.mdp_rows.specs.{Limits.{known_after, all_below, in_order_of_sight, HasSmallTerms, IsChoiceWithin, IsStateWithin, IsModel}, Cut.{cut_state}}
+use Rattle.mdp_rows.specs.{Draft.{Draft, new_draft, after_finish, ◌>>=◌}, Replay.{with_states, replayed}, declared.error.RowsError.{RowsError}}
+use Rattle.mdp_rows.specs.{declared.rule.RowRule.TheVariants.{Exact}, Sound.{IsClosedState, choice_count, entry_count}}
+use Rattle.mdp_rows.proofs.{SoundCalls.Rewards.{small_by}, ReplayStates.{closed_at, row_count, is_replayed}, ClosedRows.Within.{probs_within}}
 use Rattle.mdp_rows.proofs.Calls.Steps.{ok_same}
 
 -- ---- a loop

@@ -2,31 +2,20 @@
 pub mod Cut
 pub mod Words
 use Rattle.std.proofs.Common.{◌≡◌, ℕ, zero, suc, ◌<◌, arith, length, true, false, List, [], ◌∷◌, Some, None, refl, pos, neg_ℤ}
-use Rattle.std.specs.Prelude.{Result, Ok, Err}
-use Rattle.std.specs.List.{All, concat}
 use Rattle.std.proofs.lemmas.List.Elements.{All-from_recursion}
+use Rattle.std.specs.{Prelude.{Result, Ok, Err}, List.{All, concat}}
 use borrow.Author.Tests.{leb-true}
-use Rattle.mdp_math.specs.Gcd.{gcd, gcd_with_fuel}
-use Rattle.mdp_math.specs.Rational.{ℚ, of_int, ratio, inv_ℚ, le_ℚ, lt_ℚ, ◌<ℚ◌, ◌+ℚ◌, ◌*ℚ◌}
-use Rattle.mdp_math.specs.Written.{narrow, narrow_ℚ, written_add}
-use Rattle.mdp_math.proofs.Order.{0ℚ}
-use Rattle.mdp_math.proofs.Tables.{AreEqual}
+use Rattle.mdp_math.specs.{Gcd.{gcd, gcd_with_fuel}, Rational.{ℚ, of_int, ratio, inv_ℚ, le_ℚ, lt_ℚ, ◌<ℚ◌, ◌+ℚ◌, ◌*ℚ◌}, Written.{narrow, narrow_ℚ, written_add}}
+use Rattle.mdp_math.proofs.{Order.{0ℚ}, Tables.{AreEqual}}
 use Rattle.mdp_num.specs.Numeral.{limit}
-use Rattle.mdp_spec.specs.Mdp.{Entry, Choice, Mdp, choices_at, row_at}
-use Rattle.mdp_spec.specs.Row.{IsRow, IsMdp}
+use Rattle.mdp_spec.specs.{Mdp.{Entry, Choice, Mdp, choices_at, row_at}, Row.{IsRow, IsMdp}}
 use Rattle.mdp_spec.proofs.Small.{entry, half, one, third, two_thirds}
-use Rattle.mdp_rows.specs.Name.{IsName, IsRewardName}
-use Rattle.mdp_rows.specs.Limits.{in_order_of_sight, HasSmallTerms, IsChoiceWithin, IsStateWithin, IsModel}
-use Rattle.mdp_rows.proofs.SoundCalls.Rewards.{small_by}
+use Rattle.mdp_rows.specs.{Name.{IsName, IsRewardName}, Limits.{in_order_of_sight, HasSmallTerms, IsChoiceWithin, IsStateWithin, IsModel}}
 use Rattle.mdp_rows.specs.Draft.{Draft, new_draft, ◌>>=◌, closed_row, kept_sum, after_state, after_label, after_choice, after_entry, after_finish}
-use Rattle.mdp_rows.specs.GivenRow.{in_order}
-use Rattle.mdp_rows.specs.Negative.{has_negative}
-use Rattle.mdp_rows.proofs.Examples.Words.{minus_half, cost, init, goal, of_states}
-use Rattle.mdp_rows.specs.Replay.{replayed}
-use Rattle.mdp_rows.specs.declared.error.RowsError.{RowsError}
+use Rattle.mdp_rows.specs.{GivenRow.{in_order}, Negative.{has_negative}, Replay.{replayed}, declared.error.RowsError.{RowsError}}
 use Rattle.mdp_rows.specs.declared.error.RowsError.TheVariants.{RowSum, RowWide, Twice, NoChoice, TooMany, Target, Large, Count}
-use Rattle.mdp_rows.specs.declared.rule.RowRule.{RowRule}
-use Rattle.mdp_rows.specs.declared.rule.RowRule.TheVariants.{Exact, Scaled}
+use Rattle.mdp_rows.specs.{declared.rule.RowRule.{RowRule}, declared.rule.RowRule.TheVariants.{Exact, Scaled}}
+use Rattle.mdp_rows.proofs.{SoundCalls.Rewards.{small_by}, Examples.Words.{minus_half, cost, init, goal, of_states}}
 
 -- ---- the calls, and numbers
 

@@ -1,10 +1,7 @@
 -- Names that are found in a list, and the names of reward models.
 use Rattle.std.proofs.Common.{◌≡◌, ℕ, Bool, true, false, not, ◌&&◌, ◌||◌, eqb, List, [], ◌∷◌, get_or, Some, refl, sym, subst, ap₂}
-use Rattle.std.specs.List.{All, list_any}
-use Rattle.std.specs.Str.{bytes_eq}
-use Rattle.std.proofs.lemmas.List.Elements.{All-get_or}
-use Rattle.std.proofs.lemmas.List.Quantifiers.{position-Some}
-use Rattle.std.proofs.lemmas.Slice.Eq.{bytes_eq-Decides}
+use Rattle.std.proofs.{lemmas.List.Elements.{All-get_or}, lemmas.List.Quantifiers.{position-Some}, lemmas.Slice.Eq.{bytes_eq-Decides}}
+use Rattle.std.specs.{List.{All, list_any}, Str.{bytes_eq}}
 use Rattle.mdp_math.proofs.Booleans.{and-parts}
 use Rattle.mdp_spec.specs.Labels.{place_of}
 use Rattle.mdp_rows.specs.Name.{IsName, IsRewardName}

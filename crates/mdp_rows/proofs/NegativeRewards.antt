@@ -1,11 +1,9 @@
 -- A model has a reward below 0 exactly where one of its choices does.
-use Rattle.std.proofs.Common.{◌≡◌, ℕ, ◌<◌, Bool, true, false, T, List, length, get_or, refl, subst, inl, inr}
+use Rattle.std.proofs.{Common.{◌≡◌, ℕ, ◌<◌, Bool, true, false, T, List, length, get_or, refl, subst, inl, inr}, lemmas.List.Folds.{list_any_at}}
 use Rattle.std.specs.List.{list_any}
-use Rattle.std.proofs.lemmas.List.Folds.{list_any_at}
 use Rattle.mdp_math.specs.Rational.{ℚ, ◌≤ℚ◌, ◌<ℚ◌}
 use Rattle.mdp_math.proofs.Order.{0ℚ, ≤ℚ_or_gt}
-use Rattle.mdp_spec.specs.Mdp.{Choice, State, Mdp, no_choice, no_state, states_of, choices_at}
-use Rattle.mdp_spec.specs.Unit.{reward_of}
+use Rattle.mdp_spec.specs.{Mdp.{Choice, State, Mdp, no_choice, no_state, states_of, choices_at}, Unit.{reward_of}}
 use Rattle.mdp_rows.specs.Negative.{is_negative, any_negative, has_negative}
 
 none_at : {X : Type 0} (test : X → Bool) (xs : List X) (i : ℕ) (d : X) → i < length xs → list_any test xs ≡ false → test (get_or xs i d) ≡ false

@@ -3,29 +3,19 @@ pub mod Labels
 pub mod Rewards
 pub mod Rows
 use Rattle.std.proofs.Common.{◌≡◌, ℕ, ◌+◌, ◌≤◌, ◌<◌, ◌^◌, Bool, IsTrue, le-ltb, eq-eqb, List, [], ◌∷◌, ◌++◌, length, take, sum_by, get_or, Some, None, refl, sym, ap, ap₂}
-use Rattle.std.proofs.Common.{◌∙◌, subst, arith, if◌then◌else◌, append_assoc, append-nil, length-append}
-use Rattle.std.specs.Prelude.{Result, Ok, Err}
-use Rattle.std.specs.List.{All, AllByRecursion}
-use Rattle.std.proofs.lemmas.Bool.{ne_eqb}
-use Rattle.std.proofs.lemmas.List.{get_or_default}
-use Rattle.std.proofs.lemmas.List.Elements.{recursion_from_All}
-use Rattle.std.proofs.lemmas.List.Sums.{sum_by-cons, sum_by_push}
-use Rattle.std.proofs.Math.Seq.{take-length}
+use Rattle.std.proofs.{Common.{◌∙◌, subst, arith, if◌then◌else◌, append_assoc, append-nil, length-append}, lemmas.Bool.{ne_eqb}, lemmas.List.{get_or_default}}
+use Rattle.std.proofs.{lemmas.List.Elements.{recursion_from_All}, lemmas.List.Sums.{sum_by-cons, sum_by_push}, Math.Seq.{take-length}}
+use Rattle.std.specs.{Prelude.{Result, Ok, Err}, List.{All, AllByRecursion}}
 use Rattle.mdp_math.proofs.Booleans.{and-left, and-right}
 use Rattle.mdp_math.specs.Rational.{ℚ}
-use Rattle.mdp_spec.specs.Mdp.{Entry, Choice, State, Mdp, no_state, no_choice, states_of}
-use Rattle.mdp_spec.specs.Row.{IsRow}
-use Rattle.mdp_rows.specs.Name.{are_different}
-use Rattle.mdp_rows.specs.Limits.{known_after, all_below, in_order_of_sight, HasSmallTerms, IsChoiceWithin, IsStateWithin, IsModel}
+use Rattle.mdp_spec.specs.{Mdp.{Entry, Choice, State, Mdp, no_state, no_choice, states_of}, Row.{IsRow}}
+use Rattle.mdp_rows.specs.{Name.{are_different}, Limits.{known_after, all_below, in_order_of_sight, HasSmallTerms, IsChoiceWithin, IsStateWithin, IsModel}}
 use Rattle.mdp_rows.specs.Draft.{Draft, choice_closed, state_closed, all_closed, state_opened, after_state, summed_rewards, choice_opened, after_choice, finished, after_finish, ◌>>=◌}
 use Rattle.mdp_rows.specs.Sound.{IsClosedState, choice_count, entry_count}
-use Rattle.mdp_rows.specs.Replay.{no_rewards, with_labels, with_entries, with_choices, with_states, IsReplayed}
-use Rattle.mdp_rows.specs.declared.error.RowsError.{RowsError}
+use Rattle.mdp_rows.specs.{Replay.{no_rewards, with_labels, with_entries, with_choices, with_states, IsReplayed}, declared.error.RowsError.{RowsError}}
 use Rattle.mdp_rows.specs.declared.error.RowsError.TheVariants.{TooMany, NoChoice, Count}
-use Rattle.mdp_rows.proofs.SoundCalls.Labels.{known_by, known_by-le, known_by-total}
-use Rattle.mdp_rows.proofs.ReplayStates.Rewards.{summed-zeros}
-use Rattle.mdp_rows.proofs.ReplayStates.Rows.{draft_of, all_entries, closed_row-same}
-use Rattle.mdp_rows.proofs.ReplayStates.Labels.{all_labels}
+use Rattle.mdp_rows.proofs.{SoundCalls.Labels.{known_by, known_by-le, known_by-total}, ReplayStates.Rewards.{summed-zeros}}
+use Rattle.mdp_rows.proofs.{ReplayStates.Rows.{draft_of, all_entries, closed_row-same}, ReplayStates.Labels.{all_labels}}
 
 -- what is known of a choice of a model
 record IsChoiceOf (announced names : ℕ) (c : Choice) : Type 0 where

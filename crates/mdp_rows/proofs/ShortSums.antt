@@ -1,19 +1,12 @@
 -- Sums over shared denominators, as code computes them with numerators of 64 bits.
 use Rattle.std.proofs.Common.{◌≡◌, ℕ, ◌+◌, ◌*◌, ◌<◌, ◌≤◌, ◌^◌, sym, ◌∙◌, refl, ap, ap₂, subst, ℤ, pos, ◌+ℤ◌, ◌*ℤ◌, unsigned_abs, to_z, of_z, to_z-of_z, mul-pos, Some, Option, List, length, drop, get_or}
+use Rattle.std.proofs.{lemmas.Int.{fits_signed_from_abs}, lemmas.List.{drop_more, drop_all}}
 use lib.Signed.{mag}
 use mir.Syntax.{w128}
-use Rattle.std.proofs.lemmas.Int.{fits_signed_from_abs}
-use Rattle.std.proofs.lemmas.List.{drop_more, drop_all}
-use Rattle.mdp_math.specs.Rational.{ℚ, ratio}
-use Rattle.mdp_math.specs.Written.{narrow, written_add, written_mul, ◌>>=◌}
-use Rattle.mdp_math.proofs.IntegerRing.{int_ring}
-use Rattle.mdp_math.proofs.Laws.{is_ratio, same_is}
-use Rattle.mdp_math.proofs.Ring.{◌⊗◌, ring₃}
-use Rattle.mdp_math.proofs.Shared.{written_add-ratios, written_mul-ratios}
+use Rattle.mdp_math.specs.{Rational.{ℚ, ratio}, Written.{narrow, written_add, written_mul, ◌>>=◌}}
+use Rattle.mdp_math.proofs.{IntegerRing.{int_ring}, Laws.{is_ratio, same_is}, Ring.{◌⊗◌, ring₃}, Shared.{written_add-ratios, written_mul-ratios}}
 use Rattle.mdp_math.proofs.Written.{narrow-some}
-use Rattle.mdp_spec.specs.Mdp.{value_at}
-use Rattle.mdp_spec.specs.Row.{entries}
-use Rattle.mdp_spec.specs.Written.{written_sum}
+use Rattle.mdp_spec.specs.{Mdp.{value_at}, Row.{entries}, Written.{written_sum}}
 use Rattle.mdp_num.proofs.Values.{narrow-bits, result-bits}
 
 -- a product in width of numbers that were read at 128 bits

@@ -5,36 +5,25 @@ pub mod Names
 pub mod Rewards
 pub mod Rows
 use Rattle.std.proofs.Common.{◌≡◌, ℕ, ◌+◌, ◌≤◌, ◌<◌, ◌^◌, Bool, true, false, ◌||◌, IsTrue, leb, ltb, eqb, eqb→eq, T, List, [], ◌∷◌, ◌++◌, length, sum_by, Option, Some}
-use Rattle.std.proofs.Common.{None, refl, sym, ap, subst, arith, if◌then◌else◌, length-append, append-nil}
-use Rattle.std.specs.Prelude.{Result, Ok, Err, slice_index_or}
-use Rattle.std.specs.List.{All, list_any, position_or_len}
-use Rattle.std.specs.Str.{bytes_eq}
-use Rattle.std.proofs.lemmas.Bool.{or_parts}
-use Rattle.std.proofs.lemmas.List.Elements.{All-nil, All-push, All-weaker}
-use Rattle.std.proofs.lemmas.List.Sums.{sum_by_push}
+use Rattle.std.proofs.{Common.{None, refl, sym, ap, subst, arith, if◌then◌else◌, length-append, append-nil}, lemmas.Bool.{or_parts}}
+use Rattle.std.proofs.{lemmas.List.Elements.{All-nil, All-push, All-weaker}, lemmas.List.Sums.{sum_by_push}}
+use Rattle.std.specs.{Prelude.{Result, Ok, Err, slice_index_or}, List.{All, list_any, position_or_len}, Str.{bytes_eq}}
 use borrow.Author.Tests.{leb-false, ltb-false, eqb-false}
 use Rattle.mdp_math.specs.Rational.{ℚ, ◌≤ℚ◌}
 use Rattle.mdp_math.proofs.Order.{0ℚ}
 use Rattle.mdp_num.specs.Meaning.{IsWithinLimit}
-use Rattle.mdp_spec.specs.Mdp.{Entry, Choice, State, Mdp, no_state, no_choice}
-use Rattle.mdp_spec.specs.Row.{IsRow, IsMdp}
-use Rattle.mdp_rows.specs.Name.{IsName, AreRewardNames, are_different}
-use Rattle.mdp_rows.specs.Limits.{places_ascend, in_order_of_sight, IsChoiceWithin, IsStateWithin, IsModel}
+use Rattle.mdp_spec.specs.{Mdp.{Entry, Choice, State, Mdp, no_state, no_choice}, Row.{IsRow, IsMdp}}
+use Rattle.mdp_rows.specs.{Name.{IsName, AreRewardNames, are_different}, Limits.{places_ascend, in_order_of_sight, IsChoiceWithin, IsStateWithin, IsModel}}
 use Rattle.mdp_rows.specs.Head.{IsSameHead}
 use Rattle.mdp_rows.specs.Draft.{Draft, OpenState, OpenChoice, new_draft, new_state, closed_row, closed_choices, with_choice_closed, choice_closed_in, choice_closed}
 use Rattle.mdp_rows.specs.Draft.{state_closed_in, state_closed, all_closed, state_opened, after_state, summed_rewards, choice_opened_in, choice_opened, after_choice}
 use Rattle.mdp_rows.specs.Draft.{has_target, with_entry, with_choice_entry, entry_in, after_entry, with_name, with_place, label_in, after_label, finished, after_finish}
-use Rattle.mdp_rows.specs.Draft.{◌>>=◌}
-use Rattle.mdp_rows.specs.Sound.{IsOpenChoice, IsOpenState, IsClosedState, IsSound, choice_count, entry_count, opened_choices, opened_entries}
-use Rattle.mdp_rows.specs.declared.error.RowsError.{RowsError}
-use Rattle.mdp_rows.specs.declared.error.RowsError.TheVariants.{NoChoice, Count, TooMany, Target, Twice}
+use Rattle.mdp_rows.specs.{Draft.{◌>>=◌}, Sound.{IsOpenChoice, IsOpenState, IsClosedState, IsSound, choice_count, entry_count, opened_choices, opened_entries}}
+use Rattle.mdp_rows.specs.{declared.error.RowsError.{RowsError}, declared.error.RowsError.TheVariants.{NoChoice, Count, TooMany, Target, Twice}}
 use Rattle.mdp_rows.specs.declared.rule.RowRule.{RowRule}
-use Rattle.mdp_rows.proofs.Calls.Closes.{all_are_closed}
-use Rattle.mdp_rows.proofs.Calls.Steps.{done, ok_same, then_ok, else_ok, if_ok}
-use Rattle.mdp_rows.proofs.Calls.Kept.{IsKept, choice_closed-kept, all_closed-kept}
-use Rattle.mdp_rows.proofs.SoundCalls.Rows.{AreValues, IsClosedRow, closed_row-sound}
-use Rattle.mdp_rows.proofs.SoundCalls.Rewards.{summed-sound}
-use Rattle.mdp_rows.proofs.SoundCalls.Entries.{ascends-with, all_with, length-with_entry}
+use Rattle.mdp_rows.proofs.{Calls.Closes.{all_are_closed}, Calls.Steps.{done, ok_same, then_ok, else_ok, if_ok}}
+use Rattle.mdp_rows.proofs.{Calls.Kept.{IsKept, choice_closed-kept, all_closed-kept}, SoundCalls.Rows.{AreValues, IsClosedRow, closed_row-sound}}
+use Rattle.mdp_rows.proofs.{SoundCalls.Rewards.{summed-sound}, SoundCalls.Entries.{ascends-with, all_with, length-with_entry}}
 use Rattle.mdp_rows.proofs.SoundCalls.Labels.{ascend-with, length-with_place, sight_changed, IsLast, is_last, last_is, last_old, last_new}
 use Rattle.mdp_rows.proofs.SoundCalls.Names.{place_found, place_missed, known_name, length-new_name, names_with, different-with}
 

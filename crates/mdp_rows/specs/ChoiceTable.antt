@@ -1,7 +1,6 @@
 -- The choices of all states one after the other, under their reward names.
 use Rattle.std.specs.Prelude.{◌≡◌, ℕ, List, length}
-use Rattle.mdp_spec.specs.Mdp.{Choice}
-use Rattle.mdp_spec.specs.Row.{IsDistribution}
+use Rattle.mdp_spec.specs.{Mdp.{Choice}, Row.{IsDistribution}}
 
 pub record ChoiceTable : Type 0 where
   pub names : List (List ℕ)

@@ -1,10 +1,8 @@
 -- How the values that contracts see of this crate's types are told apart: each as a list or tuple that gives it back.
-use Rattle.std.specs.Prelude.{ℕ, List, refl}
-use Rattle.std.specs.Coded.{Coded, code_by, coded×, coded_ℕ, coded_list}
+use Rattle.std.specs.{Prelude.{ℕ, List, refl}, Coded.{Coded, code_by, coded×, coded_ℕ, coded_list}}
 use Rattle.mdp_math.specs.Rational.{ℚ}
 use Rattle.mdp_num.specs.Code.{rational_code}
-use Rattle.mdp_rows.specs.ChoiceTable.{ChoiceTable}
-use Rattle.mdp_rows.specs.Labelling.{Labelling}
+use Rattle.mdp_rows.specs.{ChoiceTable.{ChoiceTable}, Labelling.{Labelling}}
 use Rattle.mdp_spec.specs.Mdp.{Entry, Choice, State, Mdp}
 
 abbrev pub entry_code : Coded Entry

@@ -1,22 +1,14 @@
 -- A model while it is made, and what each call of a builder makes of it.
 use Rattle.std.specs.Prelude.{false, ◌≡◌, ◌⊎◌, ℕ, ◌+◌, Bool, not, ◌||◌, ◌&&◌, List, [], ◌∷◌, ◌++◌, length, sum_by, filter, map, unsigned_abs, pos, Option, Some, None}
-use Rattle.std.specs.Prelude.{Result, Ok, Err, OnOk, IfErr, ◌==◌, nat_lt, nat_le, if◌then◌else◌}
-use Rattle.std.specs.List.{list_any, position_or_len}
-use Rattle.std.specs.Option.{IfSome, is_some}
-use Rattle.std.specs.Result.{MatchResult, result_err}
-use Rattle.std.specs.Str.{bytes_eq}
-use Rattle.mdp_math.specs.Rational.{ℚ, of_int, ratio, le_ℚ, ◌*ℚ◌, inv_ℚ}
+use Rattle.std.specs.{Prelude.{Result, Ok, Err, OnOk, IfErr, ◌==◌, nat_lt, nat_le, if◌then◌else◌}, List.{list_any, position_or_len}, Option.{IfSome, is_some}}
+use Rattle.std.specs.{Result.{MatchResult, result_err}, Str.{bytes_eq}}
+use Rattle.mdp_math.specs.{Rational.{ℚ, of_int, ratio, le_ℚ, ◌*ℚ◌, inv_ℚ}, Written.{written_add}, Sum.{sum_of}}
 pub use Rattle.mdp_math.specs.Result.{◌>>=◌}
-use Rattle.mdp_math.specs.Written.{written_add}
-use Rattle.mdp_math.specs.Sum.{sum_of}
-use Rattle.mdp_spec.specs.Mdp.{Entry, Choice, State, Mdp}
-use Rattle.mdp_spec.specs.Unit.{row_den}
+use Rattle.mdp_spec.specs.{Mdp.{Entry, Choice, State, Mdp}, Unit.{row_den}}
 use Rattle.mdp_num.specs.Numeral.{limit}
-use Rattle.mdp_rows.specs.Limits.{max_choices, max_entries, max_labels, max_labels_of_state}
-use Rattle.mdp_rows.specs.declared.error.RowsError.{RowsError}
+use Rattle.mdp_rows.specs.{Limits.{max_choices, max_entries, max_labels, max_labels_of_state}, declared.error.RowsError.{RowsError}}
 use Rattle.mdp_rows.specs.declared.error.RowsError.TheVariants.{RowSum, RowWide, Twice, NoChoice, TooMany, Target, Large, Count, Memory}
-use Rattle.mdp_rows.specs.declared.rule.RowRule.{RowRule}
-use Rattle.mdp_rows.specs.declared.rule.RowRule.TheVariants.{Exact, Scaled}
+use Rattle.mdp_rows.specs.{declared.rule.RowRule.{RowRule}, declared.rule.RowRule.TheVariants.{Exact, Scaled}}
 
 -- ---- rows
 

@@ -1,15 +1,11 @@
 -- How drafts are told apart.
-use Rattle.std.specs.Prelude.{◌≡◌, ℕ, List, Option, refl, ◌==◌, if◌then◌else◌}
-use Rattle.std.specs.Coded.{Coded, code_by, coded×, coded_ℕ, coded_list, coded_option}
+use Rattle.std.specs.{Prelude.{◌≡◌, ℕ, List, Option, refl, ◌==◌, if◌then◌else◌}, Coded.{Coded, code_by, coded×, coded_ℕ, coded_list, coded_option}}
 use Rattle.mdp_math.specs.Rational.{ℚ}
 use Rattle.mdp_num.specs.Code.{rational_code}
 use Rattle.mdp_spec.specs.Mdp.{Entry, Choice, State}
-use Rattle.mdp_rows.specs.Code.{entry_code, choice_code, state_code, names_code}
-use Rattle.mdp_rows.specs.Draft.{Draft, OpenState, OpenChoice}
-use Rattle.mdp_rows.specs.declared.error.RowsError.{RowsError}
+use Rattle.mdp_rows.specs.{Code.{entry_code, choice_code, state_code, names_code}, Draft.{Draft, OpenState, OpenChoice}, declared.error.RowsError.{RowsError}}
 use Rattle.mdp_rows.specs.declared.error.RowsError.TheVariants.{RowSum, RowWide, Twice, NoChoice, TooMany, Target, Large, Count, Memory}
-use Rattle.mdp_rows.specs.declared.rule.RowRule.{RowRule}
-use Rattle.mdp_rows.specs.declared.rule.RowRule.TheVariants.{Exact, Scaled}
+use Rattle.mdp_rows.specs.{declared.rule.RowRule.{RowRule}, declared.rule.RowRule.TheVariants.{Exact, Scaled}}
 
 abbrev pub open_choice_code : Coded OpenChoice
 open_choice_code =

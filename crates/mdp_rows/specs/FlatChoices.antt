@@ -1,11 +1,8 @@
 -- The choices that flat vectors hold.
-use Rattle.std.specs.Prelude.{◌≡◌, ℕ, ◌*◌, List, [], ◌∷◌, length, map, take, drop}
-use Rattle.std.specs.Global.{Vec}
+use Rattle.std.specs.{Prelude.{◌≡◌, ℕ, ◌*◌, List, [], ◌∷◌, length, map, take, drop}, Global.{Vec}}
 use Rattle.mdp_math.specs.Rational.{ℚ}
 use Rattle.mdp_spec.specs.Mdp.{Entry, Choice}
-use Rattle.mdp_rows.specs.ChoiceTable.{ChoiceTable}
-use Rattle.mdp_rows.specs.Name.{AreRewardNames}
-use Rattle.mdp_rows.specs.declared.choices.Choices.TheInside.{Inside}
+use Rattle.mdp_rows.specs.{ChoiceTable.{ChoiceTable}, Name.{AreRewardNames}, declared.choices.Choices.TheInside.{Inside}}
 
 abbrev pub bytes_of : List (Vec ℕ) → List (List ℕ)
 bytes_of names = map (λ n. n.items) names

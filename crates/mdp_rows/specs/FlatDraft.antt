@@ -2,15 +2,9 @@
 use Rattle.std.specs.Prelude.{◌≡◌, ◌≢◌, ℕ, ◌+◌, ◌*◌, ◌<◌, ◌≤◌, Bool, List, [], length, drop, sum_by, slice_index, All, Option, Some, None}
 use Rattle.mdp_math.specs.Rational.{ℚ}
 use Rattle.mdp_spec.specs.Mdp.{Choice}
-use Rattle.mdp_rows.specs.Limits.{max_states, max_choices, max_entries, max_labels_of_state}
-use Rattle.mdp_rows.specs.Pieces.{pieces, ArePlaces}
-use Rattle.mdp_rows.specs.FlatModel.{states_from}
-use Rattle.mdp_rows.specs.Given.{row_of}
-use Rattle.mdp_rows.specs.GivenRow.{in_order, IsGivenRow}
-use Rattle.mdp_rows.specs.Draft.{Draft, OpenState, OpenChoice}
-use Rattle.mdp_rows.specs.declared.given.Given.{Given}
-use Rattle.mdp_rows.specs.declared.assembly.Stage.{Stage}
-use Rattle.mdp_rows.specs.declared.assembly.Stage.TheVariants.{Between, InState, InRow}
+use Rattle.mdp_rows.specs.{Limits.{max_states, max_choices, max_entries, max_labels_of_state}, Pieces.{pieces, ArePlaces}, FlatModel.{states_from}}
+use Rattle.mdp_rows.specs.{Given.{row_of}, GivenRow.{in_order, IsGivenRow}, Draft.{Draft, OpenState, OpenChoice}, declared.given.Given.{Given}}
+use Rattle.mdp_rows.specs.{declared.assembly.Stage.{Stage}, declared.assembly.Stage.TheVariants.{Between, InState, InRow}}
 use Rattle.mdp_rows.specs.declared.assembly.Assembly.TheInside.{Inside}
 
 -- the open state, where there is one, with its open choice, where there is one

@@ -1,10 +1,7 @@
 -- The labels that flat vectors hold.
-use Rattle.std.specs.Prelude.{ℕ, ◌<◌, ◌≤◌, ◌^◌, List, length, map}
-use Rattle.std.specs.Global.{Vec}
+use Rattle.std.specs.{Prelude.{ℕ, ◌<◌, ◌≤◌, ◌^◌, List, length, map}, Global.{Vec}}
 use Rattle.indexmap.specs.IndexSet.{IndexSet}
-use Rattle.mdp_rows.specs.Labelling.{Labelling}
-use Rattle.mdp_rows.specs.Pieces.{pieces, ArePlaces}
-use Rattle.mdp_rows.specs.declared.labels.Labels.TheInside.{Inside}
+use Rattle.mdp_rows.specs.{Labelling.{Labelling}, Pieces.{pieces, ArePlaces}, declared.labels.Labels.TheInside.{Inside}}
 
 abbrev pub names_of : {S : Type 0} → IndexSet (Vec ℕ) S → List (List ℕ)
 names_of s = map (λ v. v.items) s.keys

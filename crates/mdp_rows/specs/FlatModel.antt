@@ -1,9 +1,7 @@
 -- The model that flat vectors hold.
 use Rattle.std.specs.Prelude.{◌≡◌, ℕ, ◌+◌, ◌-◌, ◌<◌, ◌≤◌, List, [], ◌∷◌, length, slice_index, All}
 use Rattle.mdp_spec.specs.Mdp.{Choice, State, Mdp}
-use Rattle.mdp_rows.specs.Limits.{max_states, max_choices, IsModel}
-use Rattle.mdp_rows.specs.Pieces.{pieces, ArePlaces}
-use Rattle.mdp_rows.specs.declared.model.Model.TheInside.{Inside}
+use Rattle.mdp_rows.specs.{Limits.{max_states, max_choices, IsModel}, Pieces.{pieces, ArePlaces}, declared.model.Model.TheInside.{Inside}}
 
 -- the states, from the choices and from the labels of each
 abbrev pub states_from : List (List Choice) → List (List ℕ) → List State

@@ -1,9 +1,7 @@
 -- The rows that flat vectors hold.
 use Rattle.std.specs.Prelude.{◌≡◌, ◌<◌, ◌^◌, List, length, All}
-use Rattle.mdp_spec.specs.Mdp.{Entry}
-use Rattle.mdp_spec.specs.Row.{entries, IsDistribution}
-use Rattle.mdp_rows.specs.Pieces.{pieces, ArePlaces}
-use Rattle.mdp_rows.specs.declared.rows.Rows.TheInside.{Inside}
+use Rattle.mdp_spec.specs.{Mdp.{Entry}, Row.{entries, IsDistribution}}
+use Rattle.mdp_rows.specs.{Pieces.{pieces, ArePlaces}, declared.rows.Rows.TheInside.{Inside}}
 
 abbrev pub all_entries : Inside → List Entry
 all_entries r = entries r.targets.items r.probs.items

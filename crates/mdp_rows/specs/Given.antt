@@ -1,8 +1,7 @@
 -- The entries that were given, as a row.
 use Rattle.std.specs.Prelude.{List, map, filter, not}
 use Rattle.mdp_spec.specs.Mdp.{Entry}
-use Rattle.mdp_rows.specs.Draft.{is_zero}
-use Rattle.mdp_rows.specs.declared.given.Given.{Given}
+use Rattle.mdp_rows.specs.{Draft.{is_zero}, declared.given.Given.{Given}}
 
 abbrev pub entry_of : Given → Entry
 entry_of g = record { target = g.target; prob = g.value }

@@ -1,7 +1,6 @@
 -- The row that is open: its entries in the order in which they were given, and for each state whether one of them leads to it.
 use Rattle.std.specs.Prelude.{◌≡◌, ℕ, ◌<◌, Bool, false, IsTrue, List, [], ◌∷◌, length, slice_index_or, All}
-use Rattle.mdp_spec.specs.Mdp.{Entry}
-use Rattle.mdp_spec.specs.Row.{ascends_from}
+use Rattle.mdp_spec.specs.{Mdp.{Entry}, Row.{ascends_from}}
 use Rattle.mdp_rows.specs.Draft.{with_entry, has_target}
 
 -- a row with these entries put in one after the other

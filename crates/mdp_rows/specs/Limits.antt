@@ -3,9 +3,7 @@ use Rattle.std.specs.Prelude.{◌≡◌, ℕ, ◌+◌, ◌≤◌, ◌^◌, Bool,
 use Rattle.std.specs.List.{All}
 use Rattle.mdp_math.specs.Rational.{ℚ}
 use Rattle.mdp_num.specs.Numeral.{limit}
-use Rattle.mdp_spec.specs.Mdp.{Choice, State, Mdp}
-use Rattle.mdp_spec.specs.Row.{IsMdp}
-use Rattle.mdp_spec.specs.Unit.{row_den}
+use Rattle.mdp_spec.specs.{Mdp.{Choice, State, Mdp}, Row.{IsMdp}, Unit.{row_den}}
 use Rattle.mdp_rows.specs.Name.{IsName, AreRewardNames, are_different}
 
 -- the most states, choices, entries (those of value 0 that were given among them), label names, and labels of a state

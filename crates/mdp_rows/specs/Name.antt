@@ -1,7 +1,5 @@
 -- Names of labels and of reward models.
-use Rattle.std.specs.Prelude.{ℕ, ◌≤◌, Bool, true, not, ◌&&◌, ◌||◌, ◌==◌, IsTrue, nat_le, List, [], ◌∷◌, length}
-use Rattle.std.specs.List.{All, list_any}
-use Rattle.std.specs.Str.{bytes_eq}
+use Rattle.std.specs.{Prelude.{ℕ, ◌≤◌, Bool, true, not, ◌&&◌, ◌||◌, ◌==◌, IsTrue, nat_le, List, [], ◌∷◌, length}, List.{All, list_any}, Str.{bytes_eq}}
 
 -- 1 to 255 bytes, no `"` and no LF among them
 abbrev pub is_name : List ℕ → Bool

@@ -1,9 +1,7 @@
 -- Rewards below 0.
-use Rattle.std.specs.Prelude.{ℕ, Bool, List, pos}
-use Rattle.std.specs.List.{list_any}
+use Rattle.std.specs.{Prelude.{ℕ, Bool, List, pos}, List.{list_any}}
 use Rattle.mdp_math.specs.Rational.{ℚ, of_int, lt_ℚ}
-use Rattle.mdp_spec.specs.Mdp.{Choice, Mdp}
-use Rattle.mdp_spec.specs.Unit.{reward_of}
+use Rattle.mdp_spec.specs.{Mdp.{Choice, Mdp}, Unit.{reward_of}}
 
 abbrev pub is_negative : ℚ → Bool
 is_negative x = lt_ℚ x (of_int (pos 0))

@@ -1,6 +1,5 @@
 -- How lists of predecessors are told apart: each as a list of pairs that gives it back.
-use Rattle.std.specs.Prelude.{ℕ, List, refl}
-use Rattle.std.specs.Coded.{Coded, code_by, coded×, coded_ℕ, coded_list}
+use Rattle.std.specs.{Prelude.{ℕ, List, refl}, Coded.{Coded, code_by, coded×, coded_ℕ, coded_list}}
 use Rattle.mdp_rows.specs.declared.preds.Pred.{Pred}
 
 abbrev pub pred_code : Coded Pred

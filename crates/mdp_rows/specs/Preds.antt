@@ -1,6 +1,5 @@
 -- The choices that lead to a state.
-use Rattle.std.specs.Prelude.{ℕ, Bool, ◌==◌, List, map, length}
-use Rattle.std.specs.List.{list_any, filter, flat_map, range_with_len}
+use Rattle.std.specs.{Prelude.{ℕ, Bool, ◌==◌, List, map, length}, List.{list_any, filter, flat_map, range_with_len}}
 use Rattle.mdp_spec.specs.Mdp.{Entry, Mdp, states_of, choices_at, row_at}
 use Rattle.mdp_rows.specs.declared.preds.Pred.{Pred}
 

@@ -2,10 +2,8 @@
 use Rattle.std.specs.Prelude.{◌≡◌, ℕ, List, [], ◌∷◌, map, slice_index_or, pos, Result, Ok}
 use Rattle.mdp_math.specs.Rational.{ℚ, of_int}
 use Rattle.mdp_spec.specs.Mdp.{Entry, Choice, State, Mdp, states_of}
-use Rattle.mdp_rows.specs.Draft.{Draft, new_draft, ◌>>=◌, after_state, after_label, after_choice, after_entry, after_finish}
-use Rattle.mdp_rows.specs.Limits.{IsModel}
-use Rattle.mdp_rows.specs.declared.error.RowsError.{RowsError}
-use Rattle.mdp_rows.specs.declared.rule.RowRule.TheVariants.{Exact}
+use Rattle.mdp_rows.specs.{Draft.{Draft, new_draft, ◌>>=◌, after_state, after_label, after_choice, after_entry, after_finish}, Limits.{IsModel}}
+use Rattle.mdp_rows.specs.{declared.error.RowsError.{RowsError}, declared.rule.RowRule.TheVariants.{Exact}}
 
 -- a reward of 0 for each name
 abbrev pub no_rewards : List (List ℕ) → List ℚ

@@ -1,14 +1,10 @@
 -- What each draft keeps, so that the model it ends as is an `IsModel`.
-use Rattle.std.specs.Prelude.{◌≡◌, ℕ, ◌+◌, ◌<◌, ◌≤◌, IsTrue, List, [], ◌∷◌, ◌++◌, length, sum_by, Option, Some, None, Result, Ok}
-use Rattle.std.specs.List.{All}
-use Rattle.std.specs.Option.{IfSome}
+use Rattle.std.specs.{Prelude.{◌≡◌, ℕ, ◌+◌, ◌<◌, ◌≤◌, IsTrue, List, [], ◌∷◌, ◌++◌, length, sum_by, Option, Some, None, Result, Ok}, List.{All}, Option.{IfSome}}
 use Rattle.mdp_num.specs.Meaning.{IsWithinLimit}
-use Rattle.mdp_spec.specs.Mdp.{State, Mdp}
-use Rattle.mdp_spec.specs.Row.{ascends_from, IsRow}
+use Rattle.mdp_spec.specs.{Mdp.{State, Mdp}, Row.{ascends_from, IsRow}}
 use Rattle.mdp_rows.specs.Name.{IsName, AreRewardNames, are_different}
 use Rattle.mdp_rows.specs.Limits.{max_states, max_choices, max_entries, max_labels, max_labels_of_state, places_ascend, in_order_of_sight, HasSmallTerms, IsChoiceWithin, IsStateWithin, IsModel}
-use Rattle.mdp_rows.specs.Draft.{Draft, OpenState, OpenChoice}
-use Rattle.mdp_rows.specs.declared.error.RowsError.{RowsError}
+use Rattle.mdp_rows.specs.{Draft.{Draft, OpenState, OpenChoice}, declared.error.RowsError.{RowsError}}
 
 -- the open choice: its rewards, and its row with all values given
 pub record IsOpenChoice (announced names : ℕ) (c : OpenChoice) : Type 0 where

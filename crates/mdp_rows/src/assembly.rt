@@ -1,13 +1,10 @@
-ghost use Rattle.std.specs.Prelude.{◌≡◌, ◌==◌, ◌⊎◌, ◌≤◌, true, None, Some, IfOk, IfErr, OnOk, OnErr, length, map, nat_le};
-ghost use Rattle.std.specs.List.{position_or_len};
+ghost use Rattle.std.specs.{Prelude.{◌≡◌, ◌==◌, ◌⊎◌, ◌≤◌, true, None, Some, IfOk, IfErr, OnOk, OnErr, length, map, nat_le}, List.{position_or_len}};
 ghost use Rattle.std.specs.Option.{IfSome};
 ghost use Rattle.mdp_num.specs.Meaning.{IsWithinLimit};
 ghost use Rattle.mdp_rows.specs.Draft.{new_draft, choice_closed, state_closed, all_closed, state_opened, choice_opened, finished};
 ghost use Rattle.mdp_rows.specs.Draft.{after_state, after_label, after_choice, after_entry, after_finish, with_place};
 ghost use Rattle.mdp_rows.specs.Draft.{Follows, IsCall, IsUnrefused, IsChoiceClosed, has_state, has_choice, has_open_target, states_opened};
-ghost use Rattle.mdp_rows.specs.Limits.{max_states};
-ghost use Rattle.mdp_rows.specs.Name.{AreRewardNames};
-ghost use Rattle.mdp_rows.specs.Sound.{FinishesModel};
+ghost use Rattle.mdp_rows.specs.{Limits.{max_states}, Name.{AreRewardNames}, Sound.{FinishesModel}};
 
 use crate::choices::Choices;
 use crate::closing::close_row;
@@ -83,8 +80,7 @@ fn add_place(places: &mut Vec<u32>, label: u32) -> Result<(), AllocError>
 }
 
 impl Model for Assembly {
-    ghost use Rattle.mdp_rows.specs.Draft.{Draft};
-    ghost use Rattle.mdp_rows.specs.DraftCode.{draft_code};
+    ghost use Rattle.mdp_rows.specs.{Draft.{Draft}, DraftCode.{draft_code}};
 
     ghost Value = { Draft };
 

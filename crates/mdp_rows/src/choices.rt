@@ -1,14 +1,7 @@
-ghost use Rattle.std.specs.Prelude.{◌≡◌, ◌+◌, ◌<◌, ◌-◌, ◌^◌, ◌++◌, ◌∷◌, [], length, map, sum_by, slice_index_or, IfOk, OnOk, OnErr};
-ghost use Rattle.std.specs.List.{All, position};
+ghost use Rattle.std.specs.{Prelude.{◌≡◌, ◌+◌, ◌<◌, ◌-◌, ◌^◌, ◌++◌, ◌∷◌, [], length, map, sum_by, slice_index_or, IfOk, OnOk, OnErr}, List.{All, position}};
 ghost use Rattle.std.specs.Str.{bytes_eq};
-ghost use Rattle.mdp_rows.specs.ChoiceTable.{IsChoice};
-ghost use Rattle.mdp_rows.specs.Draft.{kept};
-ghost use Rattle.mdp_rows.specs.Given.{row_of};
-ghost use Rattle.mdp_rows.specs.Name.{AreRewardNames};
-ghost use Rattle.mdp_spec.specs.Labels.{place_of};
-ghost use Rattle.mdp_spec.specs.Mdp.{no_choice};
-ghost use Rattle.mdp_spec.specs.Row.{entries, IsDistribution};
-ghost use Rattle.mdp_spec.specs.Unit.{reward_of};
+ghost use Rattle.mdp_rows.specs.{ChoiceTable.{IsChoice}, Draft.{kept}, Given.{row_of}, Name.{AreRewardNames}};
+ghost use Rattle.mdp_spec.specs.{Labels.{place_of}, Mdp.{no_choice}, Row.{entries, IsDistribution}, Unit.{reward_of}};
 
 use crate::given::Given;
 use crate::row::Row;
@@ -38,8 +31,7 @@ pub struct Choices {
 }
 
 impl Model for Choices {
-    ghost use Rattle.mdp_rows.specs.ChoiceTable.{ChoiceTable};
-    ghost use Rattle.mdp_rows.specs.Code.{table_code};
+    ghost use Rattle.mdp_rows.specs.{ChoiceTable.{ChoiceTable}, Code.{table_code}};
 
     ghost Value = { ChoiceTable };
 

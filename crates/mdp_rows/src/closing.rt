@@ -1,12 +1,8 @@
-ghost use Rattle.std.specs.Prelude.{◌≡◌, ◌<◌, ◌≤◌, ◌*◌, ◌/◌, Some, None, IsTrue, nat_lt, if◌then◌else◌, map, MatchOption, OnOk, IfErr, false};
+ghost use Rattle.std.specs.Prelude.{◌≡◌, ◌<◌, ◌≤◌, ◌*◌, ◌/◌, Some, None, IsTrue, nat_lt, if◌then◌else◌, map, MatchOption, OnOk, IfErr, false, pos};
 ghost use Rattle.mdp_math.specs.Rational.{ratio, inv_ℚ, ◌*ℚ◌};
-ghost use Rattle.std.specs.Prelude.{pos};
-ghost use Rattle.mdp_num.specs.Meaning.{IsWithinLimit};
-ghost use Rattle.mdp_num.specs.Numeral.{limit};
-ghost use Rattle.mdp_rows.specs.Given.{row_of};
-ghost use Rattle.mdp_rows.specs.Parts.{part, parts as row_parts};
+ghost use Rattle.mdp_num.specs.{Meaning.{IsWithinLimit}, Numeral.{limit}};
+ghost use Rattle.mdp_rows.specs.{Given.{row_of}, Parts.{part, parts as row_parts}, Draft.{kept, closed_row, scaled_row}};
 ghost use Rattle.mdp_spec.specs.Unit.{lcm, row_den};
-ghost use Rattle.mdp_rows.specs.Draft.{kept, closed_row, scaled_row};
 
 use crate::error::RowsError;
 use crate::given::Given;

@@ -1,5 +1,4 @@
-ghost use Rattle.std.specs.Prelude.{◌≡◌, ◌+◌, ◌-◌, ◌<◌, ◌≤◌, ◌^◌, length, sum_by, slice_index_or, [], ◌∷◌, ◌++◌, IfOk, OnOk, OnErr};
-ghost use Rattle.std.specs.List.{position_or_len};
+ghost use Rattle.std.specs.{Prelude.{◌≡◌, ◌+◌, ◌-◌, ◌<◌, ◌≤◌, ◌^◌, length, sum_by, slice_index_or, [], ◌∷◌, ◌++◌, IfOk, OnOk, OnErr}, List.{position_or_len}};
 ghost use Rattle.std.specs.Str.{bytes_eq};
 ghost use Rattle.mdp_rows.specs.Draft.{with_name};
 ghost use Rattle.mdp_spec.specs.Labels.{place_of};
@@ -18,8 +17,7 @@ pub struct Labels {
 }
 
 impl Model for Labels {
-    ghost use Rattle.mdp_rows.specs.Code.{labels_code};
-    ghost use Rattle.mdp_rows.specs.Labelling.{Labelling};
+    ghost use Rattle.mdp_rows.specs.{Code.{labels_code}, Labelling.{Labelling}};
 
     ghost Value = { Labelling };
 

@@ -1,11 +1,7 @@
-ghost use Rattle.std.specs.Prelude.{◌≡◌, ◌<◌, [], length, sum_by, slice_index_or, IfOk, codes};
-ghost use Rattle.std.specs.List.{All};
-ghost use Rattle.mdp_spec.specs.Mdp.{states_of, state_at, choices_at, row_at, has_label, no_choice};
-ghost use Rattle.mdp_spec.specs.Unit.{reward_of};
-ghost use Rattle.mdp_spec.specs.Row.{entries, IsMdp};
-ghost use Rattle.mdp_rows.specs.Limits.{IsModel};
-ghost use Rattle.mdp_rows.specs.Negative.{any_negative, has_negative};
+ghost use Rattle.std.specs.{Prelude.{◌≡◌, ◌<◌, [], length, sum_by, slice_index_or, IfOk, codes}, List.{All}};
+ghost use Rattle.mdp_spec.specs.{Mdp.{states_of, state_at, choices_at, row_at, has_label, no_choice}, Unit.{reward_of}, Row.{entries, IsMdp}};
 ghost use Rattle.mdp_spec.specs.Labels.{place_of, marks_of, initial_of};
+ghost use Rattle.mdp_rows.specs.{Limits.{IsModel}, Negative.{any_negative, has_negative}};
 
 use crate::choices::Choices;
 use crate::labels::Labels;

@@ -1,7 +1,5 @@
-ghost use Rattle.std.specs.Prelude.{map, slice_index};
-ghost use Rattle.std.specs.List.{range_with_len};
-ghost use Rattle.mdp_spec.specs.Mdp.{states_of, row_at};
-ghost use Rattle.mdp_spec.specs.Tree.{IsPolicy};
+ghost use Rattle.std.specs.{Prelude.{map, slice_index}, List.{range_with_len}};
+ghost use Rattle.mdp_spec.specs.{Mdp.{states_of, row_at}, Tree.{IsPolicy}};
 
 use crate::model::Model;
 use crate::row::Row;

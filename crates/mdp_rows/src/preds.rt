@@ -22,8 +22,7 @@ struct PredList {
 
 impl std::marker::Model for PredList {
     ghost use Rattle.std.specs.Prelude.{List};
-    ghost use Rattle.mdp_rows.specs.declared.preds.Pred.{Pred};
-    ghost use Rattle.mdp_rows.specs.PredCode.{pred_list_code};
+    ghost use Rattle.mdp_rows.specs.{declared.preds.Pred.{Pred}, PredCode.{pred_list_code}};
 
     ghost Value = { List Pred };
 

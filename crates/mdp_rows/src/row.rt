@@ -1,9 +1,6 @@
-ghost use Rattle.std.specs.Prelude.{◌≡◌, ◌<◌, ◌*◌, ◌^◌, pos, unsigned_abs, Some, length, All, IfSome};
-ghost use Rattle.std.specs.Result.{result_ok};
-ghost use Rattle.mdp_math.specs.Rational.{ratio};
-ghost use Rattle.mdp_math.specs.Written.{written_mul};
-ghost use Rattle.mdp_spec.specs.Written.{written_sum};
-ghost use Rattle.mdp_spec.specs.Row.{entries, IsDistribution};
+ghost use Rattle.std.specs.{Prelude.{◌≡◌, ◌<◌, ◌*◌, ◌^◌, pos, unsigned_abs, Some, length, All, IfSome}, Result.{result_ok}};
+ghost use Rattle.mdp_math.specs.{Rational.{ratio}, Written.{written_mul}};
+ghost use Rattle.mdp_spec.specs.{Written.{written_sum}, Row.{entries, IsDistribution}};
 
 use crate::values_of::{GivenValues, ValuesOf};
 use mdp_num::{Frac, Wide, plus, times};

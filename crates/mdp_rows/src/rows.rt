@@ -1,8 +1,6 @@
-ghost use Rattle.std.specs.Prelude.{◌≡◌, ◌+◌, ◌-◌, ◌<◌, ◌^◌, ◌++◌, ◌∷◌, [], length, map, sum_by, slice_index_or, IfOk, OnOk, OnErr};
-ghost use Rattle.mdp_rows.specs.Draft.{kept};
-ghost use Rattle.mdp_rows.specs.Given.{row_of, kept_given};
+ghost use Rattle.std.specs.{Prelude.{◌≡◌, ◌+◌, ◌-◌, ◌<◌, ◌^◌, ◌++◌, ◌∷◌, [], length, map, sum_by, slice_index_or, IfOk, OnOk, OnErr}, List.{All}};
+ghost use Rattle.mdp_rows.specs.{Draft.{kept}, Given.{row_of, kept_given}};
 ghost use Rattle.mdp_spec.specs.Row.{entries, IsDistribution};
-ghost use Rattle.std.specs.List.{All};
 
 use crate::given::Given;
 use crate::row::Row;

@@ -1,7 +1,5 @@
-ghost use Rattle.std.specs.Prelude.{◌≡◌, ◌<◌, List, [], length, slice_index_or};
-ghost use Rattle.std.specs.List.{All};
-ghost use Rattle.mdp_spec.specs.Mdp.{Entry};
-ghost use Rattle.mdp_spec.specs.Row.{entries, AreRows};
+ghost use Rattle.std.specs.{Prelude.{◌≡◌, ◌<◌, List, [], length, slice_index_or}, List.{All}};
+ghost use Rattle.mdp_spec.specs.{Mdp.{Entry}, Row.{entries, AreRows}};
 
 use crate::row::Row;
 

@@ -3,11 +3,8 @@
 //! A subsystem of a model is a model, and a builder takes each model that is handed over (`replay_law`). So it refuses no call for
 //! anything but want of memory, and each refusal is answered as that.
 ghost use Rattle.std.specs.Prelude.{◌≡◌, ◌<◌, ◌∷◌, [], IsTrue, IfOk, OnOk, length, map, slice_index_or};
-ghost use Rattle.mdp_spec.specs.Mdp.{states_of, state_at, choices_at, row_at, no_choice};
-ghost use Rattle.mdp_spec.specs.Sub.{loop_at, sub_of};
-ghost use Rattle.mdp_rows.specs.Cut.{cut_state};
-ghost use Rattle.mdp_rows.specs.Draft.{has_state, has_choice};
-ghost use Rattle.mdp_rows.specs.Head.{IsSameHead};
+ghost use Rattle.mdp_spec.specs.{Mdp.{states_of, state_at, choices_at, row_at, no_choice}, Sub.{loop_at, sub_of}};
+ghost use Rattle.mdp_rows.specs.{Cut.{cut_state}, Draft.{has_state, has_choice}, Head.{IsSameHead}};
 ghost use Rattle.mdp_rows.specs.Replay.{no_rewards, with_labels, with_entries, with_choices, with_states};
 
 use crate::builder::Builder;

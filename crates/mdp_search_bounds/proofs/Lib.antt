@@ -1,1 +1,11 @@
 pub mod Outermost
+pub mod Nothing
+pub mod Best
+pub mod Zeros
+pub mod Parts
+pub mod Greatest
+pub mod Least
+pub mod TrivialBounds
+pub mod Means
+pub mod Accepted
+mod Examples

@@ -1,12 +1,9 @@
 -- 0 and 1 for each state, and 1 and 1 at a goal, with first choices and ranks of 0, are the bounds that say nothing.
 use Rattle.std.proofs.Common.{◌≡◌, ◌∙◌, ℕ, ◌<◌, Bool, List, length, map, replicate, slice_index, if◌then◌else◌, sym, ap, subst, zero-add}
+use Rattle.std.proofs.{lemmas.List.{get_or-replicate, length-replicate}, lemmas.List.FromFn.{get_or-map-range_with_len}}
 use Rattle.std.specs.List.{range_with_len}
-use Rattle.std.proofs.lemmas.List.{get_or-replicate, length-replicate}
-use Rattle.std.proofs.lemmas.List.FromFn.{get_or-map-range_with_len}
 use Rattle.mdp_math.specs.Rational.{ℚ}
-use Rattle.mdp_spec.specs.Mdp.{Mdp, states_of, choices_at, value_at}
-use Rattle.mdp_spec.specs.Row.{IsMdp}
-use Rattle.mdp_spec.specs.Tree.{is_marked}
+use Rattle.mdp_spec.specs.{Mdp.{Mdp, states_of, choices_at, value_at}, Row.{IsMdp}, Tree.{is_marked}}
 use Rattle.mdp_farkas.specs.Compare.{0ℚ, 1ℚ}
 use Rattle.mdp_bounds.specs.Reach.{IsTrivialReach}
 

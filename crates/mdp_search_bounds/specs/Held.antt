@@ -2,11 +2,8 @@
 use Rattle.std.specs.Prelude.{◌≡◌, ℕ, Bool, List, length}
 use Rattle.mdp_spec.specs.Mdp.{Mdp, states_of}
 use Rattle.mdp_rows.specs.declared.dir.Dir.{Dir}
-use Rattle.mdp_bounds.specs.Reach.{IsReachBounds}
-use Rattle.mdp_bounds.specs.Reward.{IsRewardBounds}
-use Rattle.mdp_bounds.specs.Mean.{IsMeanBounds}
-use Rattle.mdp_claims.specs.declared.bounds.ReachBoundsCert.{ReachBoundsCert}
-use Rattle.mdp_claims.specs.declared.bounds.RewardBoundsCert.{RewardBoundsCert}
+use Rattle.mdp_bounds.specs.{Reach.{IsReachBounds}, Reward.{IsRewardBounds}, Mean.{IsMeanBounds}}
+use Rattle.mdp_claims.specs.{declared.bounds.ReachBoundsCert.{ReachBoundsCert}, declared.bounds.RewardBoundsCert.{RewardBoundsCert}}
 use Rattle.mdp_claims.specs.declared.bounds.MeanBoundsCert.{MeanBoundsCert}
 
 -- ---- reaching a goal

@@ -1,1 +1,4 @@
 pub mod Held
+pub mod DiscountHeld
+pub mod Extent
+pub mod Values

@@ -3,6 +3,7 @@ ghost use Rattle.mdp_spec.specs.Mdp.{states_of};
 ghost use Rattle.mdp_bounds.specs.Mean.{IsMeanBounds};
 ghost use Rattle.mdp_search_bounds.specs.Held.{HasMeanSizes, IsHeldMean};
 
+use crate::mean_trivial::trivial_mean;
 use crate::simplest::simplest_mean;
 use mdp_bounds::{MeanBoundsCert, holds_bounds_mean, mean_bounds_at_state};
 use mdp_claims::Verdict;
@@ -10,7 +11,6 @@ use mdp_ladder::{Search, bounds_by, fractions, numbers};
 use mdp_near_mean::{NearMean, near_mean, nearer_mean};
 use mdp_num::Memory;
 use mdp_rows::{Dir, Model};
-use mdp_trivial_bounds::trivial_mean;
 use std::alloc::Global;
 
 /// The search for bounds of the mean payoff of a name.

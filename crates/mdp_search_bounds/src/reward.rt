@@ -4,6 +4,7 @@ ghost use Rattle.mdp_rows.specs.Negative.{has_negative};
 ghost use Rattle.mdp_bounds.specs.Reward.{IsRewardBounds};
 ghost use Rattle.mdp_search_bounds.specs.Held.{HasRewardSizes, IsHeldReward};
 
+use crate::reward_trivial::trivial_reward;
 use crate::simplest::simplest_rewards_of;
 use mdp_bounds::{RewardBoundsCert, holds_bounds_reward, reward_bounds_at_state};
 use mdp_claims::Verdict;
@@ -11,7 +12,6 @@ use mdp_ladder::{Search, bounds_by, listed, numbers};
 use mdp_near_reward::{NearReward, near_reward};
 use mdp_num::Memory;
 use mdp_rows::{Dir, Marks, Model};
-use mdp_trivial_bounds::trivial_reward;
 use std::alloc::Global;
 
 /// The search for bounds of the reward of a name until a goal.

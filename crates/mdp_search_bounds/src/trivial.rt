@@ -1,7 +1,5 @@
-ghost use Rattle.std.specs.Prelude.{◌≡◌, ◌<◌, length, map, if◌then◌else◌, IfOk};
-ghost use Rattle.std.specs.List.{range_with_len};
-ghost use Rattle.mdp_spec.specs.Mdp.{states_of};
-ghost use Rattle.mdp_spec.specs.Tree.{is_marked};
+ghost use Rattle.std.specs.{Prelude.{◌≡◌, ◌<◌, length, map, if◌then◌else◌, IfOk}, List.{range_with_len}};
+ghost use Rattle.mdp_spec.specs.{Mdp.{states_of}, Tree.{is_marked}};
 ghost use Rattle.mdp_farkas.specs.Compare.{0ℚ, 1ℚ};
 ghost use Rattle.mdp_bounds.specs.Reach.{IsTrivialReach};
 

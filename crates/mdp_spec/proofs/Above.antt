@@ -1,17 +1,10 @@
 -- Values that no tree passes: at a goal they are at least 1, and elsewhere at least the sum over the row of each choice that the trees use.
 use Rattle.std.proofs.Common.{◌≡◌, ℕ, ◌<◌, ◌≤◌, Bool, true, false, List, length, sym, subst}
 use Rattle.mdp_math.specs.Rational.{ℚ, ◌≤ℚ◌}
-use Rattle.mdp_math.proofs.Order.{0ℚ, 1ℚ, ≤ℚ_trans, ≤ℚ_refl, ≤ℚ_of_eq, ≤ℚ_of_lt, ratio-nonneg}
-use Rattle.mdp_spec.specs.Mdp.{Mdp, states_of, choices_at, row_at}
-use Rattle.mdp_spec.specs.Row.{IsMdp}
-use Rattle.mdp_spec.specs.Tree.{Tree, Fits, is_marked}
-use Rattle.mdp_spec.specs.Hit.{hit}
+use Rattle.mdp_math.proofs.{Order.{0ℚ, 1ℚ, ≤ℚ_trans, ≤ℚ_refl, ≤ℚ_of_eq, ≤ℚ_of_lt, ratio-nonneg}, Laws.{zero-+ℚ}, Whole.{one-pos}}
+use Rattle.mdp_spec.specs.{Mdp.{Mdp, states_of, choices_at, row_at}, Row.{IsMdp}, Tree.{Tree, Fits, is_marked}, Hit.{hit}}
 pub use Rattle.mdp_spec.proofs.Rows.{row_weigh, row_sum-le}
-use Rattle.mdp_spec.proofs.Rows.{row_weigh-const}
-use Rattle.mdp_spec.proofs.Steps.{at_most_by_steps, keeping_uses, hit_goes}
-use Rattle.mdp_spec.proofs.Hits.{hit-goal, hit-end, paths-pos}
-use Rattle.mdp_math.proofs.Laws.{zero-+ℚ}
-use Rattle.mdp_math.proofs.Whole.{one-pos}
+use Rattle.mdp_spec.proofs.{Rows.{row_weigh-const}, Steps.{at_most_by_steps, keeping_uses, hit_goes}, Hits.{hit-goal, hit-end, paths-pos}}
 use Rattle.mdp_spec.proofs.Keeping.{Keeps, HasChoice, keeps_of_Fits}
 
 pub hit-nonneg : (m : Mdp) (goals : List Bool) (u n : ℕ) (t : Tree) (s : ℕ) → 1 ≤ u → 0ℚ ≤ℚ hit m goals u n t s

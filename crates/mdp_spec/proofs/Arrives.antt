@@ -2,23 +2,11 @@
 -- each deep tree that keeps the rule meets a goal with nearly all its paths: the share of those that haven't met one fades.
 use Rattle.std.proofs.Common.{◌≡◌, ℕ, ◌<◌, ◌≤◌, Bool, true, false, cond, ltb, lt-ltb, ltb-true, List, length, refl, sym, ◌∙◌, ap, subst, pos}
 use Rattle.std.specs.List.{All, Any}
-use Rattle.mdp_math.specs.Rational.{ℚ, of_int, ratio, ◌+ℚ◌, ◌*ℚ◌, ◌-ℚ◌, ◌≤ℚ◌}
-use Rattle.mdp_math.specs.Power.{pow_ℚ}
-use Rattle.mdp_math.proofs.Weight.{Shrinks}
-use Rattle.mdp_math.proofs.Order.{0ℚ, 1ℚ, ≤ℚ_refl, ≤ℚ_of_eq, ≤ℚ_of_lt, ≤ℚ_trans}
-use Rattle.mdp_math.proofs.Ring.{◌⊕◌, ⊖, lit, ring}
-use Rattle.mdp_math.proofs.Laws.{rat_ring, one-*ℚ}
-use Rattle.mdp_math.proofs.Whole.{one-pos}
-use Rattle.mdp_math.proofs.Kernel.{weigh-ge_const}
-use Rattle.mdp_spec.specs.Mdp.{Entry, Mdp, states_of, choices_at, row_at}
-use Rattle.mdp_spec.specs.Row.{IsRow, IsMdp}
-use Rattle.mdp_spec.specs.Tree.{Tree, is_marked}
-use Rattle.mdp_spec.specs.Hit.{hit}
-use Rattle.mdp_spec.proofs.Rows.{probs_nonneg}
-use Rattle.mdp_spec.proofs.Keeping.{Keeps}
-use Rattle.mdp_spec.proofs.Rows.{row_weigh}
-use Rattle.mdp_spec.proofs.Close.{RowsShrink, deficit-le, deficit-fades}
-use Rattle.mdp_spec.proofs.Reach.{all_three, third}
+use Rattle.mdp_math.specs.{Rational.{ℚ, of_int, ratio, ◌+ℚ◌, ◌*ℚ◌, ◌-ℚ◌, ◌≤ℚ◌}, Power.{pow_ℚ}}
+use Rattle.mdp_math.proofs.{Weight.{Shrinks}, Order.{0ℚ, 1ℚ, ≤ℚ_refl, ≤ℚ_of_eq, ≤ℚ_of_lt, ≤ℚ_trans}, Ring.{◌⊕◌, ⊖, lit, ring}, Laws.{rat_ring, one-*ℚ}}
+use Rattle.mdp_math.proofs.{Whole.{one-pos}, Kernel.{weigh-ge_const}}
+use Rattle.mdp_spec.specs.{Mdp.{Entry, Mdp, states_of, choices_at, row_at}, Row.{IsRow, IsMdp}, Tree.{Tree, is_marked}, Hit.{hit}}
+use Rattle.mdp_spec.proofs.{Rows.{probs_nonneg, row_weigh}, Keeping.{Keeps}, Close.{RowsShrink, deficit-le, deficit-fades}, Reach.{all_three, third}}
 use Rattle.mdp_spec.proofs.Ranks.{shrinks_of_ranks}
 
 -- the share of the paths of a tree that haven't met a goal

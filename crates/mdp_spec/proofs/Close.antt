@@ -2,26 +2,12 @@
 -- weight shrinks, and no value passes the sum over such a row.
 use Rattle.std.proofs.Common.{◌≡◌, ℕ, ◌<◌, ◌≤◌, ⊎_elim, Bool, true, false, true≢false, cond, not, List, [], ◌∷◌, length, refl, sym, arith, pos}
 use Rattle.std.proofs.lemmas.Bool.{cases_Bool}
-use Rattle.mdp_math.specs.Rational.{ℚ, of_int, ratio, ◌+ℚ◌, ◌*ℚ◌, ◌-ℚ◌, neg_ℚ, ◌≤ℚ◌}
-use Rattle.mdp_math.specs.Power.{pow_ℚ}
-use Rattle.mdp_math.proofs.Ring.{◌⊕◌, ◌⊗◌, ⊖, lit}
-use Rattle.mdp_math.proofs.Linear.{linear, equal, at_most, known}
-use Rattle.mdp_math.proofs.Order.{0ℚ, 1ℚ, mul-nonneg}
-use Rattle.mdp_math.proofs.Whole.{of_nat-nonneg, ratio-pos}
-use Rattle.mdp_math.proofs.Division.{half, half_twice}
-use Rattle.mdp_math.proofs.Powers.{pow_ℚ-nonneg}
-use Rattle.mdp_math.proofs.Weight.{Shrinks}
-use Rattle.mdp_math.proofs.Leaving.{weight-nonneg, shrinks-fades}
-use Rattle.mdp_spec.specs.Mdp.{Entry, Mdp, states_of, choices_at, row_at}
-use Rattle.mdp_spec.specs.Row.{IsMdp}
-use Rattle.mdp_spec.specs.Tree.{Tree, is_marked}
-use Rattle.mdp_spec.specs.Hit.{hit}
-use Rattle.mdp_spec.proofs.Rows.{row_weigh-sub_scaled}
-use Rattle.mdp_spec.proofs.Steps.{at_most_by_steps, keeping_uses, goes-scale, hit_goes}
-use Rattle.mdp_spec.proofs.Hits.{hit-goal, hit-end}
-use Rattle.mdp_spec.proofs.Keeping.{Keeps}
-use Rattle.mdp_spec.proofs.Above.{hit-nonneg}
-use Rattle.mdp_spec.proofs.Rows.{row_weigh}
+use Rattle.mdp_math.specs.{Rational.{ℚ, of_int, ratio, ◌+ℚ◌, ◌*ℚ◌, ◌-ℚ◌, neg_ℚ, ◌≤ℚ◌}, Power.{pow_ℚ}}
+use Rattle.mdp_math.proofs.{Ring.{◌⊕◌, ◌⊗◌, ⊖, lit}, Linear.{linear, equal, at_most, known}, Order.{0ℚ, 1ℚ, mul-nonneg}, Whole.{of_nat-nonneg, ratio-pos}}
+use Rattle.mdp_math.proofs.{Division.{half, half_twice}, Powers.{pow_ℚ-nonneg}, Weight.{Shrinks}, Leaving.{weight-nonneg, shrinks-fades}}
+use Rattle.mdp_spec.specs.{Mdp.{Entry, Mdp, states_of, choices_at, row_at}, Row.{IsMdp}, Tree.{Tree, is_marked}, Hit.{hit}}
+use Rattle.mdp_spec.proofs.{Rows.{row_weigh-sub_scaled, row_weigh}, Steps.{at_most_by_steps, keeping_uses, goes-scale, hit_goes}, Hits.{hit-goal, hit-end}}
+use Rattle.mdp_spec.proofs.{Keeping.{Keeps}, Above.{hit-nonneg}}
 
 -- the rows of the choices that meet a rule
 abbrev pub Allowed : Mdp → (ℕ → ℕ → Type 0) → ℕ → List Entry → Type 0

@@ -1,25 +1,15 @@
 -- What a tree earns, by its first step: nothing at a goal or where the tree ends, and at a node the average over the choices, by the
 -- weights, of the choice's reward and the sum over the row of probability times what the entry's tree earns.
 use Rattle.std.proofs.Common.{◌≡◌, ℕ, zero, suc, ◌*◌, ◌<◌, ◌≤◌, Bool, true, false, cond, List, [], ◌∷◌, get_or, refl, sym, ◌∙◌, ap, arith, ℤ, pos, ◌*ℤ◌}
+use Rattle.std.proofs.{lemmas.Int.{ints}, Math.Nat.{dvd_refl, dvd_trans, dvd-mul_left, dvd-mul_right, mul-div_cancel', one-le-mul}}
 use Rattle.std.specs.Int.{◌∣◌}
-use Rattle.std.proofs.lemmas.Int.{ints}
-use Rattle.std.proofs.Math.Nat.{dvd_refl, dvd_trans, dvd-mul_left, dvd-mul_right, mul-div_cancel', one-le-mul}
-use Rattle.mdp_math.specs.Integers.{*ℤ_assoc}
-use Rattle.mdp_math.specs.Rational.{ℚ, of_int, ratio, ◌+ℚ◌, ◌*ℚ◌, ◌≤ℚ◌}
-use Rattle.mdp_math.specs.Sum.{sum_at, EachAt}
-use Rattle.mdp_math.proofs.Ring.{◌⊕◌, ◌⊗◌, ring}
-use Rattle.mdp_math.proofs.Laws.{rat_ring, den-pos, is_self, is_of_int, is_mul, same_is, of_int-+ℤ, of_int-*ℤ}
-use Rattle.mdp_math.proofs.Order.{0ℚ, div-of_int}
-use Rattle.mdp_math.proofs.Whole.{of_nat-mul}
-use Rattle.mdp_math.proofs.SumsAt.{sum_at-same, sum_at-scale_right, EachAt_mono, EachAt_both}
-use Rattle.mdp_spec.specs.Mdp.{Entry, Choice, State, Mdp, states_of, choices_at, no_state}
-use Rattle.mdp_spec.specs.Row.{IsRow, IsMdp}
+use Rattle.mdp_math.specs.{Integers.{*ℤ_assoc}, Rational.{ℚ, of_int, ratio, ◌+ℚ◌, ◌*ℚ◌, ◌≤ℚ◌}, Sum.{sum_at, EachAt}}
+use Rattle.mdp_math.proofs.{Ring.{◌⊕◌, ◌⊗◌, ring}, Laws.{rat_ring, den-pos, is_self, is_of_int, is_mul, same_is, of_int-+ℤ, of_int-*ℤ}, Order.{0ℚ, div-of_int}}
+use Rattle.mdp_math.proofs.{Whole.{of_nat-mul}, SumsAt.{sum_at-same, sum_at-scale_right, EachAt_mono, EachAt_both}}
+use Rattle.mdp_spec.specs.{Mdp.{Entry, Choice, State, Mdp, states_of, choices_at, no_state}, Row.{IsRow, IsMdp}}
 use Rattle.mdp_spec.specs.Unit.{unit_of, weight_of, reward_of, scale_of_choices, scale_of_states, scale_of, whole_reward, total_at}
-use Rattle.mdp_spec.specs.Tree.{Tree, paths, is_marked}
-use Rattle.mdp_spec.specs.Tree.Tree.{leaf, node}
-use Rattle.mdp_spec.specs.Pay.{earned, pays, pay, totals, total}
-use Rattle.mdp_spec.proofs.Units.{den-divides_unit, of_nat-weight_of}
-use Rattle.mdp_spec.proofs.Rows.{rows_known, nonneg_at}
+use Rattle.mdp_spec.specs.{Tree.{Tree, paths, is_marked}, Tree.Tree.{leaf, node}, Pay.{earned, pays, pay, totals, total}}
+use Rattle.mdp_spec.proofs.{Units.{den-divides_unit, of_nat-weight_of}, Rows.{rows_known, nonneg_at}}
 use Rattle.mdp_spec.proofs.Hits.{share, paths-pos, of_nat-paths_suc, ratio-is, ratio-none}
 
 -- ---- the scale of the rewards

@@ -4,13 +4,9 @@ use Rattle.std.proofs.lemmas.Bool.{cases_Bool}
 use Rattle.std.specs.List.{All}
 use Rattle.mdp_math.specs.Sum.{EachAt, AnyAt}
 use Rattle.mdp_math.proofs.SumsAt.{EachAt_mono, EachAt_both, places_from_EachAt}
-use Rattle.mdp_spec.specs.Mdp.{Entry, Mdp, states_of, choices_at, row_at}
-use Rattle.mdp_spec.specs.Row.{IsRow, IsMdp}
-use Rattle.mdp_spec.specs.Tree.{Tree, Fits, is_marked}
-use Rattle.mdp_spec.specs.Tree.Tree.{leaf, node}
+use Rattle.mdp_spec.specs.{Mdp.{Entry, Mdp, states_of, choices_at, row_at}, Row.{IsRow, IsMdp}, Tree.{Tree, Fits, is_marked}, Tree.Tree.{leaf, node}}
 use Rattle.mdp_spec.specs.Pay.{Enters}
-use Rattle.mdp_spec.proofs.Rows.{rows_known, placed, targets_at}
-use Rattle.mdp_spec.proofs.Steps.{Uses}
+use Rattle.mdp_spec.proofs.{Rows.{rows_known, placed, targets_at}, Steps.{Uses}}
 
 marked_or_not : (b : Bool) → (b ≡ true) ⊎ (b ≡ true → ⊥)
 marked_or_not true = inl refl

@@ -1,18 +1,9 @@
 -- Small models, trees and policies, computed.
 use Rattle.std.proofs.Common.{◌≡◌, ℕ, Bool, true, false, List, [], ◌∷◌, refl, pos, inl, inr, arith, Some}
-use Rattle.mdp_math.specs.Gcd.{gcd, gcd_with_fuel}
-use Rattle.mdp_math.specs.Rational.{ℚ, of_int, ratio, ◌+ℚ◌, ◌*ℚ◌}
-use Rattle.mdp_math.specs.Written.{narrow, narrow_ℚ, written_add, written_mul}
+use Rattle.mdp_math.specs.{Gcd.{gcd, gcd_with_fuel}, Rational.{ℚ, of_int, ratio, ◌+ℚ◌, ◌*ℚ◌}, Written.{narrow, narrow_ℚ, written_add, written_mul}}
 use Rattle.mdp_math.proofs.Tables.{AreEqual}
-use Rattle.mdp_spec.specs.Mdp.{Entry, Choice, State, Mdp, row_at}
-use Rattle.mdp_spec.specs.Row.{row_sum}
-use Rattle.mdp_spec.specs.Labels.{initial_of, marks_of}
-use Rattle.mdp_spec.specs.Unit.{unit_of, weight_of, scale_of}
-use Rattle.mdp_spec.specs.Tree.{Tree, Fits, unfolded}
-use Rattle.mdp_spec.specs.Tree.Tree.{leaf, node}
-use Rattle.mdp_spec.specs.Hit.{hit}
-use Rattle.mdp_spec.specs.Pay.{pay, total, Enters}
-use Rattle.mdp_spec.specs.Sub.{sub_of, policy_on}
+use Rattle.mdp_spec.specs.{Mdp.{Entry, Choice, State, Mdp, row_at}, Row.{row_sum}, Labels.{initial_of, marks_of}, Unit.{unit_of, weight_of, scale_of}}
+use Rattle.mdp_spec.specs.{Tree.{Tree, Fits, unfolded}, Tree.Tree.{leaf, node}, Hit.{hit}, Pay.{pay, total, Enters}, Sub.{sub_of, policy_on}}
 use Rattle.mdp_spec.specs.Written.{written_sum}
 use Rattle.mdp_spec.proofs.Small.{entry, one, third, two_thirds}
 

@@ -1,11 +1,8 @@
 -- Lower and upper values that meet the rules, where no value is both: so the exact values lie between them; and values that don't.
 use Rattle.std.proofs.Common.{ℕ, Bool, true, false, List, [], ◌∷◌, Option, Some, None, pos, arith}
-use Rattle.mdp_math.specs.Gcd.{gcd, gcd_with_fuel}
-use Rattle.mdp_math.specs.Rational.{ℚ, of_int, ratio, ◌+ℚ◌, ◌*ℚ◌, le_ℚ, lt_ℚ, ◌≤ℚ◌}
-use Rattle.mdp_spec.specs.Between.{ReachMaxBetween, ReachMinBetween, RewardMaxBetween, RewardMinBetween, MeanMaxBetween}
-use Rattle.mdp_spec.specs.BetweenRules.{MeetsReachMaxBetween}
-use Rattle.mdp_spec.proofs.Reach.{reach_max_between_of_rules, reach_max_lies, reach_min_lies}
-use Rattle.mdp_spec.proofs.Unique.{reward_max_lies, reward_min_lies, mean_max_lies}
+use Rattle.mdp_math.specs.{Gcd.{gcd, gcd_with_fuel}, Rational.{ℚ, of_int, ratio, ◌+ℚ◌, ◌*ℚ◌, le_ℚ, lt_ℚ, ◌≤ℚ◌}}
+use Rattle.mdp_spec.specs.{Between.{ReachMaxBetween, ReachMinBetween, RewardMaxBetween, RewardMinBetween, MeanMaxBetween}, BetweenRules.{MeetsReachMaxBetween}}
+use Rattle.mdp_spec.proofs.{Reach.{reach_max_between_of_rules, reach_max_lies, reach_min_lies}, Unique.{reward_max_lies, reward_min_lies, mean_max_lies}}
 use Rattle.mdp_spec.proofs.Examples.{three, goals}
 use Rattle.mdp_spec.proofs.ExamplesBounds.{chances, goes_on, goes_on_rules, three_model, greatest_chances, three_max, least_chances, loops, three_min}
 use Rattle.mdp_spec.proofs.ExamplesRules.{trip, trip_model, most, pays, trip_most, least, tries, trip_least, job, job_model, gains, job_gains}

@@ -3,26 +3,14 @@
 use Rattle.std.proofs.Common.{◌≡◌, ℕ, zero, suc, ◌<◌, ◌⊎◌, Bool, true, false, true≢false, List, [], ◌∷◌, length, slice_index, Option, Some, None, pos, refl, sym, subst, arith, inl, inr}
 use Rattle.std.proofs.lemmas.List.Elements.{All-from_recursion}
 use Rattle.std.specs.List.{Any}
-use Rattle.mdp_math.specs.Gcd.{gcd, gcd_with_fuel}
-use Rattle.mdp_math.specs.Rational.{ℚ, of_int, ratio, ◌+ℚ◌, ◌*ℚ◌, ◌-ℚ◌, neg_ℚ, le_ℚ, lt_ℚ, ◌≤ℚ◌, ◌<ℚ◌}
-use Rattle.mdp_math.proofs.Order.{≤ℚ_of_eq, ≤ℚ_of_lt, ≤ℚ_trans, ratio-nonneg}
-use Rattle.mdp_math.proofs.Ring.{◌⊕◌, lit}
-use Rattle.mdp_math.proofs.Linear.{linear, known}
-use Rattle.mdp_spec.specs.Mdp.{Mdp, states_of, choices_at, row_at, value_at}
-use Rattle.mdp_spec.specs.Row.{IsRow, IsMdp, row_sum}
-use Rattle.mdp_spec.specs.Unit.{unit_of, scale_of}
-use Rattle.mdp_spec.specs.Tree.{IsStrategy, IsPolicy, unfolded, is_marked}
-use Rattle.mdp_spec.specs.Hit.{hit}
-use Rattle.mdp_spec.specs.Pay.{pay, total, Enters}
-use Rattle.mdp_spec.specs.Sub.{sub_of, policy_on}
-use Rattle.mdp_spec.specs.Rules.{AreProbabilities, MeetsReachMax, MeetsReachMin}
-use Rattle.mdp_spec.specs.BetweenRules.{MeetsReachMaxBetween}
+use Rattle.mdp_math.specs.{Gcd.{gcd, gcd_with_fuel}, Rational.{ℚ, of_int, ratio, ◌+ℚ◌, ◌*ℚ◌, ◌-ℚ◌, neg_ℚ, le_ℚ, lt_ℚ, ◌≤ℚ◌, ◌<ℚ◌}}
+use Rattle.mdp_math.proofs.{Order.{≤ℚ_of_eq, ≤ℚ_of_lt, ≤ℚ_trans, ratio-nonneg}, Ring.{◌⊕◌, lit}, Linear.{linear, known}}
+use Rattle.mdp_spec.specs.{Mdp.{Mdp, states_of, choices_at, row_at, value_at}, Row.{IsRow, IsMdp, row_sum}, Unit.{unit_of, scale_of}}
+use Rattle.mdp_spec.specs.{Tree.{IsStrategy, IsPolicy, unfolded, is_marked}, Hit.{hit}, Pay.{pay, total, Enters}, Sub.{sub_of, policy_on}}
+use Rattle.mdp_spec.specs.{Rules.{AreProbabilities, MeetsReachMax, MeetsReachMin}, BetweenRules.{MeetsReachMaxBetween}}
 use Rattle.mdp_spec.specs.Bounds.{ReachMax, ReachMin, RewardMax, RewardMin, MaxFinite, MinFinite, MeanMax, MeanMin, SubMax, SubMaxWithin, SubMin, Above, greatest_finite, infinite, part, whole}
-use Rattle.mdp_spec.proofs.Keeping.{unfolded_is_strategy}
-use Rattle.mdp_spec.proofs.Reach.{reach_max_of_rules, reach_min_of_rules, reach_max_unique, reach_min_unique, above_of_rules}
-use Rattle.mdp_spec.proofs.Subsystem.{loop_is_row, sub-states, sub_is_mdp, policy_on_sub}
-use Rattle.mdp_spec.proofs.Examples.{choice, three, goals}
-use Rattle.mdp_spec.proofs.Small.{entry, nought, one, third}
+use Rattle.mdp_spec.proofs.{Keeping.{unfolded_is_strategy}, Reach.{reach_max_of_rules, reach_min_of_rules, reach_max_unique, reach_min_unique, above_of_rules}}
+use Rattle.mdp_spec.proofs.{Subsystem.{loop_is_row, sub-states, sub_is_mdp, policy_on_sub}, Examples.{choice, three, goals}, Small.{entry, nought, one, third}}
 
 pub below_3 : (P : ℕ → Type 0) → P 0 → P 1 → P 2 → (s : ℕ) → s < 3 → P s
 below_3 P a b c zero h = a

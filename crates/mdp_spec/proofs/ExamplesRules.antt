@@ -1,23 +1,16 @@
 -- Certificates of two small models that meet the rules of rewards and of the mean payoff, so they meet the bounds; and other values that don't.
 use Rattle.std.proofs.Common.{◌≡◌, ℕ, zero, suc, ◌<◌, ◌⊎◌, Bool, true, false, true≢false, List, [], ◌∷◌, length, get_or, slice_index, Option, Some, None, is_some}
-use Rattle.std.proofs.Common.{refl, sym, ap, subst, arith, pos, inl, inr}
+use Rattle.std.proofs.{Common.{refl, sym, ap, subst, arith, pos, inl, inr}, lemmas.List.Elements.{All-from_recursion}}
 use Rattle.std.specs.Prelude.{unwrap_or}
-use Rattle.std.proofs.lemmas.List.Elements.{All-from_recursion}
-use Rattle.mdp_math.specs.Gcd.{gcd, gcd_with_fuel}
-use Rattle.mdp_math.specs.Rational.{ℚ, of_int, ratio, ◌+ℚ◌, ◌*ℚ◌, neg_ℚ, le_ℚ, lt_ℚ, ◌≤ℚ◌, ◌<ℚ◌}
-use Rattle.mdp_math.proofs.Order.{0ℚ, ≤ℚ_of_eq}
-use Rattle.mdp_math.proofs.Options.{Some_same}
+use Rattle.mdp_math.specs.{Gcd.{gcd, gcd_with_fuel}, Rational.{ℚ, of_int, ratio, ◌+ℚ◌, ◌*ℚ◌, neg_ℚ, le_ℚ, lt_ℚ, ◌≤ℚ◌, ◌<ℚ◌}}
+use Rattle.mdp_math.proofs.{Order.{0ℚ, ≤ℚ_of_eq}, Options.{Some_same}}
 use Rattle.mdp_spec.specs.Mdp.{Entry, Choice, State, Mdp, choices_at, row_at, value_at}
-use Rattle.mdp_spec.specs.Bounds.{RewardMax, RewardMin, MeanMax, greatest_finite, finite_part, reward_at, infinite}
-use Rattle.mdp_spec.specs.Row.{IsRow, IsMdp, row_sum}
+use Rattle.mdp_spec.specs.{Bounds.{RewardMax, RewardMin, MeanMax, greatest_finite, finite_part, reward_at, infinite}, Row.{IsRow, IsMdp, row_sum}}
 use Rattle.mdp_spec.specs.Tree.{is_marked}
 use Rattle.mdp_spec.specs.RewardRules.{backup, IsTransient, StaysFinite, Falls, FallsInfinite, StaysInfinite, MeetsRewardMax, MeetsRewardMin}
 use Rattle.mdp_spec.specs.MeanRules.{spread_of, MeetsMeanMax}
-use Rattle.mdp_spec.proofs.Subsystem.{loop_is_row}
-use Rattle.mdp_spec.proofs.Reward.{reward_max_of_rules, reward_min_of_rules}
-use Rattle.mdp_spec.proofs.Mean.{mean_max_of_rules}
-use Rattle.mdp_spec.proofs.Unique.{reward_max_unique, reward_min_unique, mean_max_unique}
-use Rattle.mdp_spec.proofs.Small.{entry, number, state}
+use Rattle.mdp_spec.proofs.{Subsystem.{loop_is_row}, Reward.{reward_max_of_rules, reward_min_of_rules}, Mean.{mean_max_of_rules}}
+use Rattle.mdp_spec.proofs.{Unique.{reward_max_unique, reward_min_unique, mean_max_unique}, Small.{entry, number, state}}
 
 abbrev choice : List Entry → ℚ → Choice
 choice row reward = record { row = row; rewards = reward ∷ [] }

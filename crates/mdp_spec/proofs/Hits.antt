@@ -1,24 +1,14 @@
 -- What a tree hits, by its first step: 1 at a goal, 0 at a leaf, and at a node the average over the choices, by the weights, of the sum
 -- over the row of probability times what the entry's tree hits.
 use Rattle.std.proofs.Common.{◌≡◌, ℕ, zero, suc, ◌*◌, ◌^◌, ◌<◌, ◌≤◌, Bool, true, false, cond, List, refl, sym, ◌∙◌, ap, arith, ℤ, pos}
-use Rattle.std.specs.Int.{◌∣◌}
 use Rattle.std.proofs.Math.Nat.{pow-zero, pow-suc, one-le-mul}
-use Rattle.mdp_math.specs.Rational.{ℚ, of_int, ratio, ◌*ℚ◌, ◌≤ℚ◌}
-use Rattle.mdp_math.specs.Sum.{sum_at, EachAt}
-use Rattle.mdp_math.proofs.Ring.{◌⊗◌, lit, ring}
-use Rattle.mdp_math.proofs.Laws.{rat_ring}
-use Rattle.mdp_math.proofs.Order.{0ℚ, 1ℚ, div-of_int, ne-zero_of_pos}
-use Rattle.mdp_math.proofs.Whole.{of_nat-mul, of_nat-pos}
-use Rattle.mdp_math.proofs.Division.{ratio-div, div-unique}
-use Rattle.mdp_math.proofs.SumsAt.{sum_at-same, sum_at-scale_right, EachAt_mono, EachAt_both}
-use Rattle.mdp_spec.specs.Mdp.{Entry, Mdp, choices_at, states_of}
-use Rattle.mdp_spec.specs.Row.{IsRow, IsMdp}
-use Rattle.mdp_spec.specs.Unit.{unit_of, weight_of, count_at}
-use Rattle.mdp_spec.specs.Tree.{Tree, paths, is_marked}
-use Rattle.mdp_spec.specs.Tree.Tree.{leaf, node}
-use Rattle.mdp_spec.specs.Hit.{hits, hit}
-use Rattle.mdp_spec.proofs.Units.{unit_of-pos, den-divides_unit, of_nat-weight_of, of_nat-count_at}
-use Rattle.mdp_spec.proofs.Rows.{rows_known, nonneg_at}
+use Rattle.std.specs.Int.{◌∣◌}
+use Rattle.mdp_math.specs.{Rational.{ℚ, of_int, ratio, ◌*ℚ◌, ◌≤ℚ◌}, Sum.{sum_at, EachAt}}
+use Rattle.mdp_math.proofs.{Ring.{◌⊗◌, lit, ring}, Laws.{rat_ring}, Order.{0ℚ, 1ℚ, div-of_int, ne-zero_of_pos}, Whole.{of_nat-mul, of_nat-pos}}
+use Rattle.mdp_math.proofs.{Division.{ratio-div, div-unique}, SumsAt.{sum_at-same, sum_at-scale_right, EachAt_mono, EachAt_both}}
+use Rattle.mdp_spec.specs.{Mdp.{Entry, Mdp, choices_at, states_of}, Row.{IsRow, IsMdp}, Unit.{unit_of, weight_of, count_at}, Tree.{Tree, paths, is_marked}}
+use Rattle.mdp_spec.specs.{Tree.Tree.{leaf, node}, Hit.{hits, hit}}
+use Rattle.mdp_spec.proofs.{Units.{unit_of-pos, den-divides_unit, of_nat-weight_of, of_nat-count_at}, Rows.{rows_known, nonneg_at}}
 
 -- ---- all paths
 

@@ -1,23 +1,13 @@
 -- Trees that keep a rule: each choice of weight above 0 meets it. Each tree keeps a rule that all choices meet, and the tree that follows a
 -- policy keeps the rule of the policy's choices. So a bound is proved once, for trees that keep a rule.
 use Rattle.std.proofs.Common.{◌≡◌, ℕ, zero, suc, ◌<◌, ◌≤◌, ⊎_elim, Bool, true, false, cond, eqb, List, [], ◌∷◌, length, get_or, refl, sym, ◌∙◌, ap, subst, arith, pos}
-use Rattle.std.proofs.lemmas.List.{get_or_default}
-use Rattle.std.proofs.lemmas.Bool.{cases_eq, eqb-true, eq-eqb, ne_eqb}
-use Rattle.mdp_math.specs.Rational.{ℚ, of_int, ratio, ◌*ℚ◌, inv_ℚ, ◌≤ℚ◌, ◌<ℚ◌}
-use Rattle.mdp_math.specs.Sum.{sum_at, EachAt}
-use Rattle.mdp_math.proofs.Laws.{one-*ℚ}
-use Rattle.mdp_math.proofs.Order.{0ℚ, 1ℚ, <ℚ_irrefl, ratio-nonneg}
-use Rattle.mdp_math.proofs.Whole.{of_nat-pos}
-use Rattle.mdp_math.proofs.Division.{ratio-div, mul-inv_pos}
+use Rattle.std.proofs.{lemmas.List.{get_or_default}, lemmas.Bool.{cases_eq, eqb-true, eq-eqb, ne_eqb}}
+use Rattle.mdp_math.specs.{Rational.{ℚ, of_int, ratio, ◌*ℚ◌, inv_ℚ, ◌≤ℚ◌, ◌<ℚ◌}, Sum.{sum_at, EachAt}}
+use Rattle.mdp_math.proofs.{Laws.{one-*ℚ}, Order.{0ℚ, 1ℚ, <ℚ_irrefl, ratio-nonneg}, Whole.{of_nat-pos}, Division.{ratio-div, mul-inv_pos}}
 use Rattle.mdp_math.proofs.SumsAt.{sum_at-same, sum_at-scale_right, sum_at-weighted_le, EachAt_all, EachAt_mono, EachAt_both, EachAt-from_places}
-use Rattle.mdp_spec.specs.Mdp.{Entry, Choice, Mdp, states_of, choices_at, row_at}
-use Rattle.mdp_spec.specs.Row.{IsRow, IsMdp}
-use Rattle.mdp_spec.specs.Unit.{count_at}
-use Rattle.mdp_spec.specs.Tree.{Tree, Fits, IsStrategy, IsPolicy, unfolded, target_at}
-use Rattle.mdp_spec.specs.Tree.Tree.{leaf, node}
-use Rattle.mdp_spec.proofs.Units.{of_nat-count_at}
-use Rattle.mdp_spec.proofs.Rows.{rows_known, placed, targets_at}
-use Rattle.mdp_spec.proofs.Hits.{share, mixed, ratio-none}
+use Rattle.mdp_spec.specs.{Mdp.{Entry, Choice, Mdp, states_of, choices_at, row_at}, Row.{IsRow, IsMdp}, Unit.{count_at}}
+use Rattle.mdp_spec.specs.{Tree.{Tree, Fits, IsStrategy, IsPolicy, unfolded, target_at}, Tree.Tree.{leaf, node}}
+use Rattle.mdp_spec.proofs.{Units.{of_nat-count_at}, Rows.{rows_known, placed, targets_at}, Hits.{share, mixed, ratio-none}}
 
 abbrev pub Keeps : Mdp → (ℕ → ℕ → Type 0) → ℕ → ℕ → Tree → ℕ → Type 0
 Keeps m P u zero t s = Unit {0}

@@ -1,28 +1,15 @@
 -- What the rules of a mean payoff certificate say of trees: for a lower and an upper gain at each state, and for gains that are both. Both
 -- directions are one induction, over the total times a sign.
 use Rattle.std.proofs.Common.{◌≡◌, ℕ, suc, ◌<◌, ◌≤◌, false, true≢false, List, [], ◌∷◌, length, get_or, refl, sym, subst, arith, pos}
-use Rattle.mdp_math.specs.Rational.{ℚ, ◌+ℚ◌, ◌*ℚ◌, ◌-ℚ◌, neg_ℚ, ◌≤ℚ◌}
-use Rattle.mdp_math.specs.Extremes.{least, greatest}
-use Rattle.mdp_math.proofs.Ring.{◌⊕◌, ◌⊗◌, ⊖, lit}
-use Rattle.mdp_math.proofs.Linear.{linear, equal, at_most, known}
-use Rattle.mdp_math.proofs.Order.{0ℚ, 1ℚ, ≤ℚ_of_eq}
-use Rattle.mdp_math.proofs.Whole.{of_nat-nonneg, of_nat-suc}
+use Rattle.mdp_math.specs.{Rational.{ℚ, ◌+ℚ◌, ◌*ℚ◌, ◌-ℚ◌, neg_ℚ, ◌≤ℚ◌}, Extremes.{least, greatest}}
+use Rattle.mdp_math.proofs.{Ring.{◌⊕◌, ◌⊗◌, ⊖, lit}, Linear.{linear, equal, at_most, known}, Order.{0ℚ, 1ℚ, ≤ℚ_of_eq}, Whole.{of_nat-nonneg, of_nat-suc}}
 use Rattle.mdp_math.proofs.Extremes.{least-le, greatest-ge}
-use Rattle.mdp_spec.specs.Mdp.{choice_at, Mdp, states_of, choices_at, row_at, value_at}
-use Rattle.mdp_spec.specs.Row.{IsMdp}
-use Rattle.mdp_spec.specs.Unit.{reward_of}
-use Rattle.mdp_spec.specs.Tree.{IsPolicy, Tree, unfolded}
-use Rattle.mdp_spec.specs.Pay.{total}
-use Rattle.mdp_spec.specs.Bounds.{MeanMax, MeanMin, whole}
-use Rattle.mdp_spec.specs.Between.{MeanMaxBetween, MeanMinBetween}
-use Rattle.mdp_spec.specs.BetweenRules.{MeetsMeanMaxBetween, MeetsMeanMinBetween}
-use Rattle.mdp_spec.specs.RewardRules.{backup}
-use Rattle.mdp_spec.proofs.Keeping.{Keeps, HasChoice, Follows, keeps_of_Fits, keeps_unfolded, unfolded_is_strategy}
-use Rattle.mdp_spec.proofs.Earnings.{total-end}
-use Rattle.mdp_spec.proofs.Rows.{row_weigh}
+use Rattle.mdp_spec.specs.{Mdp.{choice_at, Mdp, states_of, choices_at, row_at, value_at}, Row.{IsMdp}, Unit.{reward_of}, Tree.{IsPolicy, Tree, unfolded}}
+use Rattle.mdp_spec.specs.{Pay.{total}, Bounds.{MeanMax, MeanMin, whole}, Between.{MeanMaxBetween, MeanMinBetween}}
+use Rattle.mdp_spec.specs.{BetweenRules.{MeetsMeanMaxBetween, MeetsMeanMinBetween}, RewardRules.{backup}}
 use Rattle.mdp_spec.specs.MeanRules.{width_of, spread_of, IsEvaluation, HasSpread, MeetsMeanMax, MeetsMeanMin}
-use Rattle.mdp_spec.proofs.Rows.{row_weigh-scale, row_weigh-line}
-use Rattle.mdp_spec.proofs.Steps.{Uses, at_most_by_steps, keeping_uses, goes-scale, total_goes}
+use Rattle.mdp_spec.proofs.{Keeping.{Keeps, HasChoice, Follows, keeps_of_Fits, keeps_unfolded, unfolded_is_strategy}, Earnings.{total-end}}
+use Rattle.mdp_spec.proofs.{Rows.{row_weigh, row_weigh-scale, row_weigh-line}, Steps.{Uses, at_most_by_steps, keeping_uses, goes-scale, total_goes}}
 
 mean_step : (sign q w v n next g a c : ℚ) → next ≡ n +ℚ 1ℚ → 0ℚ ≤ℚ n → sign *ℚ w ≤ℚ sign *ℚ g → sign *ℚ (q +ℚ v) ≤ℚ sign *ℚ (g +ℚ a)
     → sign *ℚ q +ℚ (n *ℚ (sign *ℚ w) +ℚ (sign *ℚ v -ℚ c)) ≤ℚ next *ℚ (sign *ℚ g) +ℚ (sign *ℚ a -ℚ c)

@@ -4,25 +4,13 @@
 use Rattle.std.proofs.Common.{◌≡◌, ℕ, zero, suc, ◌<◌, ◌≤◌, ◌⊎◌, ⊎_elim, Bool, true, false, cond, List, [], ◌∷◌, length, refl, sym, ◌∙◌, ap, subst, arith, pos}
 use Rattle.std.proofs.lemmas.Bool.{cases_Bool}
 use Rattle.std.specs.List.{All, Any}
-use Rattle.mdp_math.specs.Rational.{ℚ, ratio, ◌+ℚ◌, ◌*ℚ◌, ◌-ℚ◌, ◌≤ℚ◌, ◌<ℚ◌}
-use Rattle.mdp_math.specs.Sum.{sum_of}
-use Rattle.mdp_math.specs.Power.{pow_ℚ}
-use Rattle.mdp_math.proofs.Ring.{◌⊕◌, ◌⊗◌, ⊖, lit, ring}
-use Rattle.mdp_math.proofs.Linear.{linear, known, equal}
-use Rattle.mdp_math.proofs.Laws.{rat_ring, one-*ℚ, den-pos}
-use Rattle.mdp_math.proofs.Order.{0ℚ, 1ℚ, ≤ℚ_refl, ≤ℚ_of_eq, ≤ℚ_of_lt}
-use Rattle.mdp_math.proofs.Whole.{one-pos}
+use Rattle.mdp_math.specs.{Rational.{ℚ, ratio, ◌+ℚ◌, ◌*ℚ◌, ◌-ℚ◌, ◌≤ℚ◌, ◌<ℚ◌}, Sum.{sum_of}, Power.{pow_ℚ}}
+use Rattle.mdp_math.proofs.{Ring.{◌⊕◌, ◌⊗◌, ⊖, lit, ring}, Linear.{linear, known, equal}, Laws.{rat_ring, one-*ℚ, den-pos}}
+use Rattle.mdp_math.proofs.{Order.{0ℚ, 1ℚ, ≤ℚ_refl, ≤ℚ_of_eq, ≤ℚ_of_lt}, Whole.{one-pos}}
 use Rattle.mdp_math.proofs.Powers.{pow_ℚ-nonneg, pow_ℚ-pos, pow_ℚ-le_one, pow_ℚ-antitone, pow_ℚ-suc, unit_fraction-le}
 use Rattle.mdp_math.proofs.Kernel.{weigh-le_const, weigh-below_mass, Any-and}
-use Rattle.mdp_spec.specs.Mdp.{Entry, Mdp, states_of, choices_at, row_at}
-use Rattle.mdp_spec.specs.Row.{IsRow, IsMdp}
-use Rattle.mdp_spec.specs.Tree.{Tree, is_marked}
-use Rattle.mdp_spec.specs.Hit.{hit}
-use Rattle.mdp_spec.proofs.Rows.{probs_nonneg}
-use Rattle.mdp_spec.proofs.Keeping.{Keeps}
-use Rattle.mdp_spec.proofs.Above.{hit-le_by}
-use Rattle.mdp_spec.proofs.Rows.{row_weigh}
-use Rattle.mdp_spec.proofs.Ranks.{smallest_prob}
+use Rattle.mdp_spec.specs.{Mdp.{Entry, Mdp, states_of, choices_at, row_at}, Row.{IsRow, IsMdp}, Tree.{Tree, is_marked}, Hit.{hit}}
+use Rattle.mdp_spec.proofs.{Rows.{probs_nonneg, row_weigh}, Keeping.{Keeps}, Above.{hit-le_by}, Ranks.{smallest_prob}}
 
 -- 1 - e^k in the set, 1 elsewhere
 abbrev bound : ℚ → Bool → ℕ → ℚ

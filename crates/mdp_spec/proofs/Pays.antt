@@ -2,23 +2,10 @@
 -- arrived: by one step each.
 use Rattle.std.proofs.Common.{◌≡◌, ℕ, ◌<◌, ◌≤◌, Bool, true, false, List, [], ◌∷◌, length, refl, sym, subst, arith, pos}
 use Rattle.mdp_math.specs.Rational.{ℚ, ratio, ◌+ℚ◌, ◌*ℚ◌, ◌-ℚ◌, neg_ℚ, inv_ℚ, ◌≤ℚ◌, ◌<ℚ◌}
-use Rattle.mdp_math.proofs.Ring.{◌⊕◌, ◌⊗◌, ⊖, lit}
-use Rattle.mdp_math.proofs.Linear.{linear, linear_lt, equal, at_most, known}
-use Rattle.mdp_math.proofs.Laws.{den-pos}
-use Rattle.mdp_math.proofs.Order.{0ℚ, 1ℚ, ≤ℚ_of_lt, mul-pos_ℚ}
-use Rattle.mdp_math.proofs.Whole.{one-pos, ratio-pos}
-use Rattle.mdp_math.proofs.Division.{inv-pos, mul-inv_pos}
-use Rattle.mdp_math.proofs.Powers.{unit_fraction-le}
-use Rattle.mdp_spec.specs.Mdp.{choice_at, Mdp, states_of, choices_at, row_at}
-use Rattle.mdp_spec.specs.Row.{IsMdp}
-use Rattle.mdp_spec.specs.Unit.{reward_of}
-use Rattle.mdp_spec.specs.Tree.{Tree, is_marked}
-use Rattle.mdp_spec.specs.Hit.{hit}
-use Rattle.mdp_spec.specs.Pay.{pay}
-use Rattle.mdp_spec.proofs.Hits.{hit-goal, hit-end}
-use Rattle.mdp_spec.proofs.Earnings.{pay-goal, pay-end}
-use Rattle.mdp_spec.proofs.Rows.{row_weigh}
-use Rattle.mdp_spec.proofs.Rows.{row_weigh-from}
+use Rattle.mdp_math.proofs.{Ring.{◌⊕◌, ◌⊗◌, ⊖, lit}, Linear.{linear, linear_lt, equal, at_most, known}, Laws.{den-pos}, Order.{0ℚ, 1ℚ, ≤ℚ_of_lt, mul-pos_ℚ}}
+use Rattle.mdp_math.proofs.{Whole.{one-pos, ratio-pos}, Division.{inv-pos, mul-inv_pos}, Powers.{unit_fraction-le}}
+use Rattle.mdp_spec.specs.{Mdp.{choice_at, Mdp, states_of, choices_at, row_at}, Row.{IsMdp}, Unit.{reward_of}, Tree.{Tree, is_marked}, Hit.{hit}, Pay.{pay}}
+use Rattle.mdp_spec.proofs.{Hits.{hit-goal, hit-end}, Earnings.{pay-goal, pay-end}, Rows.{row_weigh, row_weigh-from}}
 use Rattle.mdp_spec.proofs.Steps.{Uses, at_most_by_steps, goes-scale, goes-add, hit_goes, pay_goes}
 
 covers_stop : (most h p z : ℚ) → h ≡ 1ℚ → p ≡ 0ℚ → z ≤ℚ 0ℚ → most *ℚ h +ℚ neg_ℚ 1ℚ *ℚ p ≤ℚ most -ℚ z

@@ -1,16 +1,11 @@
 -- Ranks that fall give a weight: where each choice that meets a rule has, from each active state, an entry at a state of smaller rank.
 use Rattle.std.proofs.Common.{◌≡◌, ℕ, suc, ◌<◌, ◌⊎◌, inr, Bool, true, false, List, length, subst, arith}
 use Rattle.std.specs.List.{All, Any}
-use Rattle.mdp_math.specs.Rational.{ℚ, ◌≤ℚ◌}
-use Rattle.mdp_math.specs.Sum.{sum_of}
-use Rattle.mdp_math.proofs.Order.{0ℚ, 1ℚ, ≤ℚ_trans, ≤ℚ_of_eq}
-use Rattle.mdp_math.proofs.Floors.{ForSmall, small_for_below, positive_floor, greatest_rank}
-use Rattle.mdp_math.proofs.Kernel.{Any-and}
+use Rattle.mdp_math.specs.{Rational.{ℚ, ◌≤ℚ◌}, Sum.{sum_of}}
+use Rattle.mdp_math.proofs.{Order.{0ℚ, 1ℚ, ≤ℚ_trans, ≤ℚ_of_eq}, Floors.{ForSmall, small_for_below, positive_floor, greatest_rank}, Kernel.{Any-and}}
 use Rattle.mdp_math.proofs.Weight.{shrinks_by_ranks}
-use Rattle.mdp_spec.specs.Mdp.{Entry, Mdp, states_of, choices_at, row_at}
-use Rattle.mdp_spec.specs.Row.{IsMdp}
-use Rattle.mdp_spec.proofs.Rows.{probs_nonneg}
-use Rattle.mdp_spec.proofs.Close.{Allowed, RowsShrink}
+use Rattle.mdp_spec.specs.{Mdp.{Entry, Mdp, states_of, choices_at, row_at}, Row.{IsMdp}}
+use Rattle.mdp_spec.proofs.{Rows.{probs_nonneg}, Close.{Allowed, RowsShrink}}
 
 abbrev AllAtLeast : Mdp → ℕ → ℕ → ℚ → Type 0
 AllAtLeast m s c e = All (λ y. e ≤ℚ y.prob) (row_at m s c)

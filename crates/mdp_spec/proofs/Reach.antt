@@ -3,26 +3,13 @@
 use Rattle.std.proofs.Common.{◌≡◌, ℕ, ◌<◌, ◌≤◌, Bool, true, false, true≢false, cond, ltb, lt-ltb, ltb-true, List, [], ◌∷◌, get_or, refl, sym, subst, arith, pos}
 use Rattle.std.specs.List.{Any}
 use Rattle.mdp_math.specs.Rational.{ℚ, ratio, lt_ℚ, ◌+ℚ◌, ◌≤ℚ◌, ◌<ℚ◌}
-use Rattle.mdp_math.proofs.Order.{0ℚ, ≤ℚ_of_eq, ≤ℚ_antisymm}
-use Rattle.mdp_math.proofs.Extremes.{lt_of_test, le_of_no_test}
-use Rattle.mdp_math.proofs.Division.{le_of_bounds}
-use Rattle.mdp_math.proofs.Powers.{unit_fraction-le}
-use Rattle.mdp_math.proofs.Laws.{den-pos}
-use Rattle.mdp_math.proofs.Ring.{◌⊕◌}
-use Rattle.mdp_math.proofs.Linear.{linear, known}
-use Rattle.mdp_spec.specs.Mdp.{Mdp, states_of, row_at, value_at}
-use Rattle.mdp_spec.specs.Row.{IsMdp}
-use Rattle.mdp_spec.specs.Tree.{is_marked, unfolded}
-use Rattle.mdp_spec.specs.Hit.{hit}
-use Rattle.mdp_spec.specs.Rules.{AreProbabilities, Covers, MeetsReachMax, MeetsReachMin}
-use Rattle.mdp_spec.specs.Bounds.{Above, ReachMax, ReachMin, part}
-use Rattle.mdp_spec.specs.Between.{ReachMaxBetween, ReachMinBetween}
-use Rattle.mdp_spec.specs.BetweenRules.{MeetsReachMaxBetween, MeetsReachMinBetween}
-use Rattle.mdp_spec.proofs.Keeping.{HasChoice, Follows, keeps_of_Fits, keeps_unfolded, unfolded_is_strategy}
-use Rattle.mdp_spec.proofs.Above.{hit-le_by}
-use Rattle.mdp_spec.proofs.Rows.{row_weigh}
-use Rattle.mdp_spec.proofs.Close.{RowsShrink, deficit-le, deficit-fades}
-use Rattle.mdp_spec.proofs.Ranks.{shrinks_of_ranks}
+use Rattle.mdp_math.proofs.{Order.{0ℚ, ≤ℚ_of_eq, ≤ℚ_antisymm}, Extremes.{lt_of_test, le_of_no_test}, Division.{le_of_bounds}, Powers.{unit_fraction-le}}
+use Rattle.mdp_math.proofs.{Laws.{den-pos}, Ring.{◌⊕◌}, Linear.{linear, known}}
+use Rattle.mdp_spec.specs.{Mdp.{Mdp, states_of, row_at, value_at}, Row.{IsMdp}, Tree.{is_marked, unfolded}, Hit.{hit}}
+use Rattle.mdp_spec.specs.{Rules.{AreProbabilities, Covers, MeetsReachMax, MeetsReachMin}, Bounds.{Above, ReachMax, ReachMin, part}}
+use Rattle.mdp_spec.specs.{Between.{ReachMaxBetween, ReachMinBetween}, BetweenRules.{MeetsReachMaxBetween, MeetsReachMinBetween}}
+use Rattle.mdp_spec.proofs.{Keeping.{HasChoice, Follows, keeps_of_Fits, keeps_unfolded, unfolded_is_strategy}, Above.{hit-le_by}, Rows.{row_weigh}}
+use Rattle.mdp_spec.proofs.{Close.{RowsShrink, deficit-le, deficit-fades}, Ranks.{shrinks_of_ranks}}
 
 -- ---- the states that are no goal and have a value above 0
 

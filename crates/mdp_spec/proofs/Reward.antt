@@ -1,25 +1,16 @@
 -- What the rules of a reward certificate say of trees: for a lower and an upper value for each state, and for values that are both.
 use Rattle.std.proofs.Common.{◌≡◌, ℕ, ◌<◌, ◌≤◌, ◌⊎◌, ⊎_elim, inl, inr, Bool, true, false, List, length, get_or, Option, Some, None, not, refl, sym, ap, subst, arith}
 use Rattle.mdp_math.specs.Rational.{ℚ, ◌+ℚ◌, ◌*ℚ◌, ◌-ℚ◌, ◌≤ℚ◌}
-use Rattle.mdp_math.proofs.Order.{0ℚ, 1ℚ, ≤ℚ_of_eq}
-use Rattle.mdp_math.proofs.Booleans.{not_true}
-use Rattle.mdp_math.proofs.SumsAt.{EachAt-from_All}
-use Rattle.mdp_spec.specs.Mdp.{Mdp, states_of, choices_at, row_at, value_at}
-use Rattle.mdp_spec.specs.Row.{IsMdp}
-use Rattle.mdp_spec.specs.Tree.{Tree, Fits, is_marked, unfolded}
-use Rattle.mdp_spec.specs.Hit.{hit}
-use Rattle.mdp_spec.specs.Pay.{pay, Enters}
-use Rattle.mdp_spec.specs.Bounds.{greatest_finite, finite_part, reward_at, infinite, part, MaxValue, MinValue, RewardMax, RewardMin}
+use Rattle.mdp_math.proofs.{Order.{0ℚ, 1ℚ, ≤ℚ_of_eq}, Booleans.{not_true}, SumsAt.{EachAt-from_All}}
+use Rattle.mdp_spec.specs.{Mdp.{Mdp, states_of, choices_at, row_at, value_at}, Row.{IsMdp}, Tree.{Tree, Fits, is_marked, unfolded}, Hit.{hit}}
+use Rattle.mdp_spec.specs.{Pay.{pay, Enters}, Bounds.{greatest_finite, finite_part, reward_at, infinite, part, MaxValue, MinValue, RewardMax, RewardMin}}
 use Rattle.mdp_spec.specs.Between.{MaxLower, MaxUpper, MinLower, MinUpper, RewardMaxBetween, RewardMinBetween}
 use Rattle.mdp_spec.specs.BetweenRules.{MeetsRewardMaxBetween, MeetsRewardMinBetween}
-use Rattle.mdp_spec.proofs.Keeping.{Keeps, HasChoice, Follows, keeps_of_Fits, keeps_unfolded}
 use Rattle.mdp_spec.specs.RewardRules.{backup, IsTransient, StaysFinite, Falls, FallsInfinite, StaysInfinite, AreRewards, MeetsRewardMax, MeetsRewardMin}
-use Rattle.mdp_spec.proofs.Steps.{Uses, staying_uses}
-use Rattle.mdp_spec.proofs.Arrives.{arrives_by_ranks}
+use Rattle.mdp_spec.proofs.{Keeping.{Keeps, HasChoice, Follows, keeps_of_Fits, keeps_unfolded}, Steps.{Uses, staying_uses}, Arrives.{arrives_by_ranks}}
 use Rattle.mdp_spec.proofs.Misses.{misses_by_ranks}
 use Rattle.mdp_spec.proofs.Values.{part_of_some, finite_of_some, infinite_of_none, part-nonneg, part-le_greatest, greatest_finite-nonneg}
-use Rattle.mdp_spec.proofs.Pays.{pay-le_by, pay-covers_by, near_enough}
-use Rattle.mdp_spec.proofs.Enters.{enters_or_not, avoiding_uses, Avoids}
+use Rattle.mdp_spec.proofs.{Pays.{pay-le_by, pay-covers_by, near_enough}, Enters.{enters_or_not, avoiding_uses, Avoids}}
 
 -- C at each choice of a transient state that meets P
 abbrev AtTransient : Mdp → List Bool → List (Option ℚ) → (ℕ → ℕ → Type 0) → (ℕ → ℕ → Type 0) → Type 0

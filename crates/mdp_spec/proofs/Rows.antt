@@ -1,18 +1,12 @@
 -- What is known of each row of a model, by the row's state and place, and what functions of the state weigh in a row.
-use Rattle.std.proofs.Common.{◌≡◌, ℕ, ◌<◌, ◌≤◌, ⊎_elim, List, [], length, get_or, refl, ◌∙◌, ap, subst, arith, pos}
-use Rattle.std.specs.List.{All}
-use Rattle.std.proofs.lemmas.List.{get_or_past, get_or_default}
+use Rattle.std.proofs.{Common.{◌≡◌, ℕ, ◌<◌, ◌≤◌, ⊎_elim, List, [], length, get_or, refl, ◌∙◌, ap, subst, arith, pos}, lemmas.List.{get_or_past, get_or_default}}
 use Rattle.std.proofs.lemmas.Bool.{cases_lt}
-use Rattle.mdp_math.specs.Rational.{ℚ, ◌+ℚ◌, ◌*ℚ◌, ◌-ℚ◌, ◌≤ℚ◌}
-use Rattle.mdp_math.specs.Sum.{sum_at, EachAt}
-use Rattle.mdp_math.specs.Kernel.{weigh}
-use Rattle.mdp_math.proofs.Ring.{◌⊗◌, lit, ring}
-use Rattle.mdp_math.proofs.Laws.{rat_ring}
+use Rattle.std.specs.List.{All}
+use Rattle.mdp_math.specs.{Rational.{ℚ, ◌+ℚ◌, ◌*ℚ◌, ◌-ℚ◌, ◌≤ℚ◌}, Sum.{sum_at, EachAt}, Kernel.{weigh}}
+use Rattle.mdp_math.proofs.{Ring.{◌⊗◌, lit, ring}, Laws.{rat_ring}}
 use Rattle.mdp_math.proofs.SumsAt.{sum_at-le, sum_at-sum_of, EachAt_mono, EachAt_both, EachAt-from_places, EachAt-from_All}
-use Rattle.mdp_math.proofs.Kernel.{weigh-add, weigh-sub, weigh-scale, weigh-const}
-use Rattle.mdp_math.proofs.Order.{0ℚ, ≤ℚ_of_lt, mul-le-mul_left_ℚ}
-use Rattle.mdp_spec.specs.Mdp.{Entry, Choice, State, Mdp, states_of, choices_at, row_at, no_choice, no_state}
-use Rattle.mdp_spec.specs.Row.{IsRow, IsMdp}
+use Rattle.mdp_math.proofs.{Kernel.{weigh-add, weigh-sub, weigh-scale, weigh-const}, Order.{0ℚ, ≤ℚ_of_lt, mul-le-mul_left_ℚ}}
+use Rattle.mdp_spec.specs.{Mdp.{Entry, Choice, State, Mdp, states_of, choices_at, row_at, no_choice, no_state}, Row.{IsRow, IsMdp}}
 
 -- past the last state there is no choice
 pub choices_at-past : (m : Mdp) (s : ℕ) → states_of m ≤ s → choices_at m s ≡ []

@@ -2,27 +2,14 @@
 -- the numbers behind it. Hit, pay and total do, and so do their combinations. Such a number is at most B, where B meets Bellman's
 -- inequality along the choices that the trees use.
 use Rattle.std.proofs.Common.{◌≡◌, ℕ, zero, suc, ◌<◌, ◌≤◌, ⊎_elim, Bool, true, false, List, [], ◌∷◌, length, refl, sym, ◌∙◌, ap, subst, pos}
-use Rattle.std.proofs.lemmas.Bool.{cases_Bool}
-use Rattle.std.proofs.lemmas.List.{get_or_default}
-use Rattle.mdp_math.specs.Rational.{ℚ, ◌+ℚ◌, ◌*ℚ◌, ◌≤ℚ◌, ◌<ℚ◌}
-use Rattle.mdp_math.specs.Sum.{sum_at, EachAt}
-use Rattle.mdp_math.proofs.Ring.{◌⊕◌, ◌⊗◌, lit, ring}
-use Rattle.mdp_math.proofs.Laws.{rat_ring, one-*ℚ}
-use Rattle.mdp_math.proofs.Linear.{linear, known}
-use Rattle.mdp_math.proofs.Order.{0ℚ}
+use Rattle.std.proofs.{lemmas.Bool.{cases_Bool}, lemmas.List.{get_or_default}}
+use Rattle.mdp_math.specs.{Rational.{ℚ, ◌+ℚ◌, ◌*ℚ◌, ◌≤ℚ◌, ◌<ℚ◌}, Sum.{sum_at, EachAt}}
+use Rattle.mdp_math.proofs.{Ring.{◌⊕◌, ◌⊗◌, lit, ring}, Laws.{rat_ring, one-*ℚ}, Linear.{linear, known}, Order.{0ℚ}}
 use Rattle.mdp_math.proofs.SumsAt.{sum_at-same, sum_at-add, sum_at-scale, sum_at-weighted_le, EachAt_all, EachAt_mono, EachAt_both, EachAt-from_places}
-use Rattle.mdp_spec.specs.Mdp.{choice_at, Entry, Choice, Mdp, no_choice, states_of, choices_at, row_at}
-use Rattle.mdp_spec.specs.Row.{IsRow, IsMdp}
-use Rattle.mdp_spec.specs.Unit.{count_at, reward_of}
-use Rattle.mdp_spec.specs.Tree.{Tree, is_marked}
-use Rattle.mdp_spec.specs.Tree.Tree.{leaf, node}
-use Rattle.mdp_spec.specs.Hit.{hit}
-use Rattle.mdp_spec.specs.Pay.{pay, total}
-use Rattle.mdp_spec.proofs.Rows.{rows_known, targets_at}
-use Rattle.mdp_spec.proofs.Hits.{share, hit-node}
-use Rattle.mdp_spec.proofs.Earnings.{pay-node, total-node}
+use Rattle.mdp_spec.specs.{Mdp.{choice_at, Entry, Choice, Mdp, no_choice, states_of, choices_at, row_at}, Row.{IsRow, IsMdp}, Unit.{count_at, reward_of}}
+use Rattle.mdp_spec.specs.{Tree.{Tree, is_marked}, Tree.Tree.{leaf, node}, Hit.{hit}, Pay.{pay, total}}
+use Rattle.mdp_spec.proofs.{Rows.{rows_known, targets_at, row_weigh, row_sum-le}, Hits.{share, hit-node}, Earnings.{pay-node, total-node}}
 use Rattle.mdp_spec.proofs.Keeping.{Keeps, share-nonneg, share-pos, shares-total}
-use Rattle.mdp_spec.proofs.Rows.{row_weigh, row_sum-le}
 
 -- the average over the choices of state s of the gain and the sum over the row of f at the choice's place and the entry's place
 abbrev pub average : Mdp → ℕ → (ℕ → ℕ) → (Choice → ℚ) → (ℕ → ℕ → Entry → ℚ) → ℕ → ℚ

@@ -1,18 +1,12 @@
 -- A subsystem of a model is a model: it has the states of the model, the choices of each kept state and goal, and a loop at any other state. A
 -- policy of the model, read on it, is a policy there.
 use Rattle.std.proofs.Common.{◌≡◌, ℕ, zero, suc, ◌+◌, ◌≤◌, ◌<◌, ⊎_elim, Bool, true, false, ◌||◌, ◌&&◌, le-leb}
-use Rattle.std.proofs.Common.{cond, List, [], ◌∷◌, length, get_or, pos, refl, sym, ap, subst, ◌∙◌, arith}
-use Rattle.std.proofs.lemmas.List.{get_or_past}
-use Rattle.std.proofs.lemmas.List.Elements.{All-from_recursion}
-use Rattle.std.proofs.lemmas.Bool.{cases_Bool}
+use Rattle.std.proofs.{Common.{cond, List, [], ◌∷◌, length, get_or, pos, refl, sym, ap, subst, ◌∙◌, arith}, lemmas.List.{get_or_past}}
+use Rattle.std.proofs.{lemmas.List.Elements.{All-from_recursion}, lemmas.Bool.{cases_Bool}}
 use Rattle.mdp_math.specs.Rational.{of_int, ◌<ℚ◌}
-use Rattle.mdp_math.proofs.Ring.{◌⊕◌, lit, ring}
-use Rattle.mdp_math.proofs.Laws.{rat_ring}
-use Rattle.mdp_math.proofs.Whole.{one-pos}
-use Rattle.mdp_spec.specs.Mdp.{Entry, Choice, State, Mdp, no_state, no_choice, states_of, state_at, choices_at, row_at}
-use Rattle.mdp_spec.specs.Row.{IsRow, IsMdp}
-use Rattle.mdp_spec.specs.Sub.{loop_at, cut_from, sub_of, policy_from, policy_on}
-use Rattle.mdp_spec.specs.Tree.{IsPolicy, is_marked}
+use Rattle.mdp_math.proofs.{Ring.{◌⊕◌, lit, ring}, Laws.{rat_ring}, Whole.{one-pos}}
+use Rattle.mdp_spec.specs.{Mdp.{Entry, Choice, State, Mdp, no_state, no_choice, states_of, state_at, choices_at, row_at}, Row.{IsRow, IsMdp}}
+use Rattle.mdp_spec.specs.{Sub.{loop_at, cut_from, sub_of, policy_from, policy_on}, Tree.{IsPolicy, is_marked}}
 
 -- whether a state stays as it is
 abbrev pub stays : List Bool → List Bool → ℕ → Bool

@@ -1,15 +1,9 @@
 -- A written sum is the sum, where none of its terms is past width.
 use Rattle.std.proofs.Common.{◌≡◌, List, [], ◌∷◌, Some, refl, ap, ◌∙◌, pos}
 use Rattle.std.specs.Option.{option_and_then}
-use Rattle.mdp_math.specs.Rational.{ℚ, ◌+ℚ◌, ◌*ℚ◌}
-use Rattle.mdp_math.specs.Written.{written_add, written_mul}
-use Rattle.mdp_math.proofs.Options.{step_told}
-use Rattle.mdp_math.proofs.Written.{written_mul-some, written_add-some}
-use Rattle.mdp_math.proofs.Ring.{◌⊕◌, lit, ring}
-use Rattle.mdp_math.proofs.Laws.{rat_ring, +ℚ_assoc}
-use Rattle.mdp_spec.specs.Mdp.{Entry, value_at}
-use Rattle.mdp_spec.specs.Row.{row_sum}
-use Rattle.mdp_spec.specs.Written.{written_sum}
+use Rattle.mdp_math.specs.{Rational.{ℚ, ◌+ℚ◌, ◌*ℚ◌}, Written.{written_add, written_mul}}
+use Rattle.mdp_math.proofs.{Options.{step_told}, Written.{written_mul-some, written_add-some}, Ring.{◌⊕◌, lit, ring}, Laws.{rat_ring, +ℚ_assoc}}
+use Rattle.mdp_spec.specs.{Mdp.{Entry, value_at}, Row.{row_sum}, Written.{written_sum}}
 
 pub written_sum-some : (z : List ℚ) (acc : ℚ) (row : List Entry) (v : ℚ) → Some v ≡ written_sum z acc row → v ≡ acc +ℚ row_sum row z
 written_sum-some z acc [] v e =

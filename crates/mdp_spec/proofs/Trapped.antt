@@ -3,23 +3,13 @@
 use Rattle.std.proofs.Common.{◌≡◌, ℕ, zero, suc, ◌<◌, ⊎_elim, inl, inr, Bool, true, false, cond, eqb, List, [], ◌∷◌, length, get_or, refl, sym, ◌∙◌, ap, subst, arith, pos}
 use Rattle.std.proofs.lemmas.Bool.{cases_eq, eq-eqb, ne_eqb}
 use Rattle.std.specs.List.{Any}
-use Rattle.mdp_math.specs.Rational.{ℚ, ◌+ℚ◌, ◌*ℚ◌, ◌-ℚ◌, ◌≤ℚ◌, ◌<ℚ◌}
-use Rattle.mdp_math.specs.Sum.{sum_of, sum_at, EachAt, AnyAt}
-use Rattle.mdp_math.proofs.Ring.{◌⊕◌, ◌⊗◌, ⊖, lit}
-use Rattle.mdp_math.proofs.Linear.{linear, equal, known}
-use Rattle.mdp_math.proofs.Order.{0ℚ, 1ℚ, ≤ℚ_refl, ≤ℚ_of_lt, ≤ℚ_trans, mul-pos_ℚ}
-use Rattle.mdp_math.proofs.Kernel.{weigh-below_mass}
-use Rattle.mdp_math.proofs.SumsAt.{EachAt_mono, EachAt_both}
-use Rattle.mdp_spec.specs.Mdp.{Entry, Mdp, states_of, choices_at, row_at}
-use Rattle.mdp_spec.specs.Row.{IsRow, IsMdp}
-use Rattle.mdp_spec.specs.Tree.{IsPolicy, is_marked, target_at, unfolded}
-use Rattle.mdp_spec.specs.Hit.{hit}
+use Rattle.mdp_math.specs.{Rational.{ℚ, ◌+ℚ◌, ◌*ℚ◌, ◌-ℚ◌, ◌≤ℚ◌, ◌<ℚ◌}, Sum.{sum_of, sum_at, EachAt, AnyAt}}
+use Rattle.mdp_math.proofs.{Ring.{◌⊕◌, ◌⊗◌, ⊖, lit}, Linear.{linear, equal, known}, Order.{0ℚ, 1ℚ, ≤ℚ_refl, ≤ℚ_of_lt, ≤ℚ_trans, mul-pos_ℚ}}
+use Rattle.mdp_math.proofs.{Kernel.{weigh-below_mass}, SumsAt.{EachAt_mono, EachAt_both}}
+use Rattle.mdp_spec.specs.{Mdp.{Entry, Mdp, states_of, choices_at, row_at}, Row.{IsRow, IsMdp}, Tree.{IsPolicy, is_marked, target_at, unfolded}, Hit.{hit}}
 use Rattle.mdp_spec.specs.Pay.{Enters}
-use Rattle.mdp_spec.proofs.Rows.{rows_known, placed, targets_at, probs_nonneg}
-use Rattle.mdp_spec.proofs.Hits.{hit-end, hit-node}
-use Rattle.mdp_spec.proofs.Keeping.{target_placed, Keeps, Follows, keeps_unfolded, unfolded_fits, mixed-le}
-use Rattle.mdp_spec.proofs.Above.{hit-nonneg, hit-le_one}
-use Rattle.mdp_spec.proofs.Rows.{row_weigh, row_sum-le}
+use Rattle.mdp_spec.proofs.{Rows.{rows_known, placed, targets_at, probs_nonneg, row_weigh, row_sum-le}, Hits.{hit-end, hit-node}}
+use Rattle.mdp_spec.proofs.{Keeping.{target_placed, Keeps, Follows, keeps_unfolded, unfolded_fits, mixed-le}, Above.{hit-nonneg, hit-le_one}}
 
 -- a chance to miss the goals that doesn't depend on the depth
 abbrev pub Misses : Mdp → List Bool → List ℕ → ℕ → Type 0

@@ -2,26 +2,14 @@
 -- are no other values.
 use Rattle.std.proofs.Common.{◌≡◌, ℕ, suc, ◌*◌, ◌<◌, ◌≤◌, ⊎_elim, Bool, List, [], ◌∷◌, Option, Some, None, is_some, true≢false, refl, ap, subst, arith, pos}
 use Rattle.mdp_math.specs.Rational.{ℚ, ◌+ℚ◌, ◌*ℚ◌, inv_ℚ, ◌≤ℚ◌, ◌<ℚ◌}
-use Rattle.mdp_math.proofs.Ring.{◌⊕◌, ◌⊗◌, ⊖, lit}
-use Rattle.mdp_math.proofs.Linear.{linear, linear_lt, equal, at_most, known}
-use Rattle.mdp_math.proofs.Laws.{den-pos}
-use Rattle.mdp_math.proofs.Order.{0ℚ, 1ℚ, ≤ℚ_of_lt, ≤ℚ_antisymm, mul-pos_ℚ, ratio-nonneg, le-ratio, div-of_int}
-use Rattle.mdp_math.proofs.Whole.{one-pos, ratio-pos}
-use Rattle.mdp_math.proofs.Division.{le_of_bounds, inv-pos, mul-inv_pos}
-use Rattle.mdp_math.proofs.Powers.{unit_fraction-le}
-use Rattle.mdp_spec.specs.Mdp.{Mdp, states_of, value_at}
-use Rattle.mdp_spec.specs.Row.{IsMdp}
-use Rattle.mdp_spec.specs.Tree.{IsPolicy, unfolded}
-use Rattle.mdp_spec.specs.Hit.{hit}
-use Rattle.mdp_spec.specs.Pay.{pay, total, Enters}
+use Rattle.mdp_math.proofs.{Ring.{◌⊕◌, ◌⊗◌, ⊖, lit}, Linear.{linear, linear_lt, equal, at_most, known}, Laws.{den-pos}}
+use Rattle.mdp_math.proofs.{Order.{0ℚ, 1ℚ, ≤ℚ_of_lt, ≤ℚ_antisymm, mul-pos_ℚ, ratio-nonneg, le-ratio, div-of_int}, Whole.{one-pos, ratio-pos}}
+use Rattle.mdp_math.proofs.{Division.{le_of_bounds, inv-pos, mul-inv_pos}, Powers.{unit_fraction-le}}
+use Rattle.mdp_spec.specs.{Mdp.{Mdp, states_of, value_at}, Row.{IsMdp}, Tree.{IsPolicy, unfolded}, Hit.{hit}, Pay.{pay, total, Enters}}
 use Rattle.mdp_spec.specs.Bounds.{greatest_finite, part, whole, reward_at, infinite, MaxInfinite, MinInfinite, RewardMax, RewardMin, MeanMax, MeanMin}
 use Rattle.mdp_spec.specs.Between.{AtMost, MaxAtLeast, MaxLower, MaxUpper, MinAtLeast, MinLower, MinUpper, RewardMaxBetween, RewardMinBetween, MeanMaxBetween, MeanMinBetween}
-use Rattle.mdp_spec.proofs.Keeping.{unfolded_is_strategy}
-use Rattle.mdp_spec.proofs.Values.{infinite_of_none, none_of_infinite, greatest_finite-nonneg}
-use Rattle.mdp_spec.proofs.Reach.{le_of_parts}
-use Rattle.mdp_spec.proofs.Reward.{reward_max_between, reward_min_between}
-use Rattle.mdp_spec.proofs.Mean.{mean_max_between, mean_min_between}
-use Rattle.mdp_spec.proofs.Pays.{near_enough}
+use Rattle.mdp_spec.proofs.{Keeping.{unfolded_is_strategy}, Values.{infinite_of_none, none_of_infinite, greatest_finite-nonneg}, Reach.{le_of_parts}}
+use Rattle.mdp_spec.proofs.{Reward.{reward_max_between, reward_min_between}, Mean.{mean_max_between, mean_min_between}, Pays.{near_enough}}
 use Rattle.mdp_spec.proofs.Trapped.{misses_of_enters}
 
 -- x is at most y, where n x is at most n y up to one number for all n

@@ -1,16 +1,10 @@
 -- The common unit is above 0, and each denominator of the model divides it; so a weight is a probability times the unit.
 use Rattle.std.proofs.Common.{◌≡◌, ℕ, zero, suc, ◌*◌, ◌/◌, ◌<◌, List, [], ◌∷◌, get_or, refl, ◌∙◌, ap, arith, ℤ, pos, negsuc, ◌*ℤ◌, ◌≤ℤ◌, unsigned_abs}
-use Rattle.std.proofs.lemmas.Int.{ints}
+use Rattle.std.proofs.{lemmas.Int.{ints}, Math.Nat.{dvd_refl, dvd_trans, dvd-mul_left, dvd-mul_right, mul-div_cancel', one-le-mul}}
 use Rattle.std.specs.Int.{◌∣◌}
-use Rattle.std.proofs.Math.Nat.{dvd_refl, dvd_trans, dvd-mul_left, dvd-mul_right, mul-div_cancel', one-le-mul}
-use Rattle.mdp_math.specs.Rational.{ℚ, of_int, ◌+ℚ◌, ◌*ℚ◌, ◌≤ℚ◌}
-use Rattle.mdp_math.specs.Sum.{sum_at, EachAt}
-use Rattle.mdp_math.proofs.Lcm.{lcm-left, lcm-right, lcm-pos}
-use Rattle.mdp_math.proofs.Laws.{den-pos, is_self, is_of_int, is_mul, same_is}
-use Rattle.mdp_math.proofs.Order.{0ℚ, nonneg}
-use Rattle.mdp_math.proofs.Whole.{of_nat-add}
-use Rattle.mdp_spec.specs.Mdp.{Entry, Choice, State, Mdp, choices_at, no_state}
-use Rattle.mdp_spec.specs.Unit.{row_den, unit_of_choices, unit_of_states, unit_of, weight_of, count_at}
+use Rattle.mdp_math.specs.{Rational.{ℚ, of_int, ◌+ℚ◌, ◌*ℚ◌, ◌≤ℚ◌}, Sum.{sum_at, EachAt}}
+use Rattle.mdp_math.proofs.{Lcm.{lcm-left, lcm-right, lcm-pos}, Laws.{den-pos, is_self, is_of_int, is_mul, same_is}, Order.{0ℚ, nonneg}, Whole.{of_nat-add}}
+use Rattle.mdp_spec.specs.{Mdp.{Entry, Choice, State, Mdp, choices_at, no_state}, Unit.{row_den, unit_of_choices, unit_of_states, unit_of, weight_of, count_at}}
 
 pub row_den-pos : (row : List Entry) → 0 < row_den row
 row_den-pos [] = omega arith

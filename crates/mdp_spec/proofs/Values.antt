@@ -1,15 +1,10 @@
 -- Values that may be infinite: which are, and the finite ones as numbers.
 use Rattle.std.proofs.Common.{◌≡◌, ℕ, zero, suc, ◌<◌, ⊎_elim, Bool, true, false, true≢false, List, [], ◌∷◌, length, Option, Some, None, is_some, not, refl, sym, ◌∙◌, ap, subst, arith}
+use Rattle.std.proofs.{lemmas.Bool.{cases_lt}, lemmas.List.{get_or_past}}
 use Rattle.std.specs.Prelude.{unwrap_or}
-use Rattle.std.proofs.lemmas.Bool.{cases_lt}
-use Rattle.std.proofs.lemmas.List.{get_or_past}
-use Rattle.mdp_math.specs.Rational.{ℚ, ◌≤ℚ◌}
-use Rattle.mdp_math.specs.Extremes.{greatest}
-use Rattle.mdp_math.proofs.Order.{0ℚ, ≤ℚ_of_eq}
-use Rattle.mdp_math.proofs.Extremes.{greatest-ge}
-use Rattle.mdp_spec.specs.Mdp.{Mdp, states_of, value_at}
-use Rattle.mdp_spec.specs.Tree.{is_marked}
-use Rattle.mdp_spec.specs.Bounds.{greatest_finite, finite_part, reward_at, infinite}
+use Rattle.mdp_math.specs.{Rational.{ℚ, ◌≤ℚ◌}, Extremes.{greatest}}
+use Rattle.mdp_math.proofs.{Order.{0ℚ, ≤ℚ_of_eq}, Extremes.{greatest-ge}}
+use Rattle.mdp_spec.specs.{Mdp.{Mdp, states_of, value_at}, Tree.{is_marked}, Bounds.{greatest_finite, finite_part, reward_at, infinite}}
 use Rattle.mdp_spec.specs.RewardRules.{AreRewards}
 
 marked_by : (v : List (Option ℚ)) (s : ℕ) → is_marked (infinite v) s ≡ not (is_some (reward_at v s))

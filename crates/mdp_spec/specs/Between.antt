@@ -3,10 +3,7 @@
 -- Bounds says of them.
 use Rattle.std.specs.Prelude.{◌≡◌, ℕ, ◌<◌, ◌≤◌, ◌⊎◌, Bool, true, List, length, Option, Some, None, pos}
 use Rattle.mdp_math.specs.Rational.{ℚ, of_int, ◌+ℚ◌, ◌*ℚ◌, ◌-ℚ◌, ◌≤ℚ◌}
-use Rattle.mdp_spec.specs.Mdp.{Mdp, states_of, value_at}
-use Rattle.mdp_spec.specs.Tree.{Tree, IsStrategy, IsPolicy, unfolded, is_marked}
-use Rattle.mdp_spec.specs.Hit.{hit}
-use Rattle.mdp_spec.specs.Pay.{pay, total, Enters}
+use Rattle.mdp_spec.specs.{Mdp.{Mdp, states_of, value_at}, Tree.{Tree, IsStrategy, IsPolicy, unfolded, is_marked}, Hit.{hit}, Pay.{pay, total, Enters}}
 use Rattle.mdp_spec.specs.Bounds.{part, whole, Above, PolicyConverges, TreesConverge, reward_at, greatest_finite, infinite, MaxInfinite, MinInfinite}
 
 -- ---- reaching a goal

@@ -4,10 +4,7 @@
 -- half on the policy's choice of the upper ones.
 use Rattle.std.specs.Prelude.{◌≡◌, ℕ, ◌<◌, Bool, true, false, List, length, slice_index, Option}
 use Rattle.mdp_math.specs.Rational.{ℚ, ◌+ℚ◌, ◌≤ℚ◌}
-use Rattle.mdp_spec.specs.Mdp.{Mdp, states_of, choices_at, row_at, value_at}
-use Rattle.mdp_spec.specs.Row.{row_sum}
-use Rattle.mdp_spec.specs.Tree.{IsPolicy, is_marked}
-use Rattle.mdp_spec.specs.Bounds.{finite_part, infinite}
+use Rattle.mdp_spec.specs.{Mdp.{Mdp, states_of, choices_at, row_at, value_at}, Row.{row_sum}, Tree.{IsPolicy, is_marked}, Bounds.{finite_part, infinite}}
 use Rattle.mdp_spec.specs.Rules.{AreProbabilities, Covers, IsCovered, RanksEnd, PolicyFalls, EachFalls}
 use Rattle.mdp_spec.specs.RewardRules.{backup, IsInfinite, IsTransient, StaysFinite, Falls, IsCoveredWhereFinite, InfiniteUnderPolicy, InfiniteOnEach, AreRewards}
 use Rattle.mdp_spec.specs.MeanRules.{HasSpread}

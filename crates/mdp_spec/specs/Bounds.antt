@@ -1,13 +1,8 @@
 -- What the values and the policy of a certificate mean, over every policy with history and rational mixing, at every depth. Each sentence
 -- has a name. `k` stands for any whole number of at least 1: what holds for 1/k holds for every fraction above 0.
 use Rattle.std.specs.Prelude.{◌≡◌, ℕ, ◌<◌, ◌≤◌, ◌⊎◌, Bool, List, ◌∷◌, length, map, slice_index_or, Option, Some, None, pos, is_some, not, unwrap_or}
-use Rattle.mdp_math.specs.Rational.{ℚ, of_int, ratio, ◌+ℚ◌, ◌*ℚ◌, ◌-ℚ◌, ◌≤ℚ◌}
-use Rattle.mdp_math.specs.Extremes.{greatest}
-use Rattle.mdp_spec.specs.Mdp.{Mdp, states_of, value_at}
-use Rattle.mdp_spec.specs.Tree.{Tree, IsStrategy, IsPolicy, unfolded}
-use Rattle.mdp_spec.specs.Hit.{hit}
-use Rattle.mdp_spec.specs.Pay.{pay, total, Enters}
-use Rattle.mdp_spec.specs.Sub.{sub_of}
+use Rattle.mdp_math.specs.{Rational.{ℚ, of_int, ratio, ◌+ℚ◌, ◌*ℚ◌, ◌-ℚ◌, ◌≤ℚ◌}, Extremes.{greatest}}
+use Rattle.mdp_spec.specs.{Mdp.{Mdp, states_of, value_at}, Tree.{Tree, IsStrategy, IsPolicy, unfolded}, Hit.{hit}, Pay.{pay, total, Enters}, Sub.{sub_of}}
 
 -- 1/k
 abbrev pub part : ℕ → ℚ

@@ -1,10 +1,7 @@
 -- The probability of meeting a goal within the depth of a tree.
 use Rattle.std.specs.Prelude.{ℕ, zero, suc, ◌*◌, Bool, List, pos, if◌then◌else◌}
 use Rattle.mdp_math.specs.Rational.{ℚ, ratio}
-use Rattle.mdp_spec.specs.Mdp.{Mdp, choices_at}
-use Rattle.mdp_spec.specs.Unit.{count_at, weight_of}
-use Rattle.mdp_spec.specs.Tree.{Tree, paths, is_marked}
-use Rattle.mdp_spec.specs.Tree.Tree.{leaf, node}
+use Rattle.mdp_spec.specs.{Mdp.{Mdp, choices_at}, Unit.{count_at, weight_of}, Tree.{Tree, paths, is_marked}, Tree.Tree.{leaf, node}}
 
 -- how many parts of all paths of n steps meet a goal: all where s is a goal, none at a leaf that is no goal, else those of the choices
 abbrev pub hits : Mdp → List Bool → ℕ → ℕ → Tree → ℕ → ℕ

@@ -1,6 +1,5 @@
 -- Labels, by the bytes of their names.
-use Rattle.std.specs.Prelude.{ℕ, Bool, false, List, [], ◌∷◌, map, filter, position, Option, Some, None, ◌==◌, codes}
-use Rattle.std.specs.List.{list_any, range_with_len}
+use Rattle.std.specs.{Prelude.{ℕ, Bool, false, List, [], ◌∷◌, map, filter, position, Option, Some, None, ◌==◌, codes}, List.{list_any, range_with_len}}
 use Rattle.std.specs.Str.{bytes_eq}
 use Rattle.mdp_spec.specs.Mdp.{Mdp, has_label, states_of}
 

@@ -3,9 +3,7 @@
 --     State    the places of its labels in the model's list, ascending, and its choices, numbered from 0
 --     Choice   its row, and for each reward name the reward of the state and the choice together
 --     Entry    where a row leads, and with which probability
-use Rattle.std.specs.Prelude.{ℕ, Bool, List, [], length, slice_index_or}
-use Rattle.std.specs.List.{list_any}
-use Rattle.std.specs.Prelude.{◌==◌, pos}
+use Rattle.std.specs.{Prelude.{ℕ, Bool, List, [], length, slice_index_or, ◌==◌, pos}, List.{list_any}}
 use Rattle.mdp_math.specs.Rational.{ℚ, of_int}
 
 pub record Entry : Type 0 where

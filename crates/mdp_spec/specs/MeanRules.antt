@@ -2,12 +2,8 @@
 -- optimality equations). g is the gain. The bound a and the bias b are two relative values: a covers, or is covered by, each choice, and b
 -- solves the policy's own equation. The spread is the wider of their two ranges.
 use Rattle.std.specs.Prelude.{◌≡◌, ℕ, ◌<◌, List, [], ◌∷◌, length, slice_index}
-use Rattle.mdp_math.specs.Rational.{ℚ, ◌+ℚ◌, ◌-ℚ◌, ◌≤ℚ◌}
-use Rattle.mdp_math.specs.Extremes.{least, greatest}
-use Rattle.mdp_spec.specs.Mdp.{Mdp, states_of, choices_at, row_at, value_at}
-use Rattle.mdp_spec.specs.Tree.{IsPolicy}
-use Rattle.mdp_spec.specs.Row.{row_sum}
-use Rattle.mdp_spec.specs.RewardRules.{backup}
+use Rattle.mdp_math.specs.{Rational.{ℚ, ◌+ℚ◌, ◌-ℚ◌, ◌≤ℚ◌}, Extremes.{least, greatest}}
+use Rattle.mdp_spec.specs.{Mdp.{Mdp, states_of, choices_at, row_at, value_at}, Tree.{IsPolicy}, Row.{row_sum}, RewardRules.{backup}}
 
 -- from the least to the greatest of some values
 abbrev pub width_of : List ℚ → ℚ

@@ -1,10 +1,7 @@
 -- What a tree earns until a goal, and what it earns in all its steps.
 use Rattle.std.specs.Prelude.{◌≡◌, ℕ, zero, suc, ◌*◌, ◌<◌, Bool, true, false, List, ℤ, pos, ◌+ℤ◌, ◌*ℤ◌, ◌⊎◌, if◌then◌else◌}
-use Rattle.mdp_math.specs.Rational.{ℚ, ratio}
-use Rattle.mdp_math.specs.Sum.{AnyAt}
-use Rattle.mdp_spec.specs.Mdp.{Choice, Mdp, choices_at}
-use Rattle.mdp_spec.specs.Unit.{total_at, unit_of, weight_of, scale_of, whole_reward}
-use Rattle.mdp_spec.specs.Tree.{Tree, paths, is_marked}
+use Rattle.mdp_math.specs.{Rational.{ℚ, ratio}, Sum.{AnyAt}}
+use Rattle.mdp_spec.specs.{Mdp.{Choice, Mdp, choices_at}, Unit.{total_at, unit_of, weight_of, scale_of, whole_reward}, Tree.{Tree, paths, is_marked}}
 use Rattle.mdp_spec.specs.Tree.Tree.{leaf, node}
 
 -- what a choice earns in one step and behind it, in parts of the scale and of all paths: its reward on all paths below it, and what each

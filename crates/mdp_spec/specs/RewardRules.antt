@@ -3,13 +3,9 @@
 -- has a finite value is transient: where the value is the greatest reward, it is at least what each choice earns at once and by the values
 -- behind it, and at most what the policy's choice earns so; for the least both the other way round. Ranks fall along the rows that have to
 -- lead to a goal. At a state of infinite value the ranks show how to miss the goals.
-use Rattle.std.specs.Prelude.{◌≡◌, ℕ, ◌<◌, ◌⊎◌, Bool, true, false, List, length, slice_index, Option, Some, pos}
-use Rattle.std.specs.List.{All, Any}
+use Rattle.std.specs.{Prelude.{◌≡◌, ℕ, ◌<◌, ◌⊎◌, Bool, true, false, List, length, slice_index, Option, Some, pos}, List.{All, Any}}
 use Rattle.mdp_math.specs.Rational.{ℚ, of_int, ◌+ℚ◌, ◌≤ℚ◌}
-use Rattle.mdp_spec.specs.Mdp.{Mdp, states_of, choices_at, choice_at, row_at, value_at}
-use Rattle.mdp_spec.specs.Row.{row_sum}
-use Rattle.mdp_spec.specs.Unit.{reward_of}
-use Rattle.mdp_spec.specs.Tree.{IsPolicy, is_marked}
+use Rattle.mdp_spec.specs.{Mdp.{Mdp, states_of, choices_at, choice_at, row_at, value_at}, Row.{row_sum}, Unit.{reward_of}, Tree.{IsPolicy, is_marked}}
 use Rattle.mdp_spec.specs.Bounds.{reward_at, finite_part, infinite}
 
 -- what choice c at s earns at once, and then by the values z of the states behind it (a Bellman backup)

@@ -1,7 +1,6 @@
 -- Rows: probability distributions over target states.
 use Rattle.std.specs.Prelude.{◌≡◌, ℕ, ◌+◌, ◌<◌, ◌≤◌, ◌^◌, length, Bool, true, ◌&&◌, nat_le, IsTrue, List, [], ◌∷◌, pos, All}
-use Rattle.mdp_math.specs.Rational.{ℚ, of_int, ◌*ℚ◌, ◌<ℚ◌}
-use Rattle.mdp_math.specs.Sum.{sum_of}
+use Rattle.mdp_math.specs.{Rational.{ℚ, of_int, ◌*ℚ◌, ◌<ℚ◌}, Sum.{sum_of}}
 use Rattle.mdp_spec.specs.Mdp.{Entry, Mdp, states_of, choices_at, row_at, value_at}
 
 -- the row that two lists of one length spell, place by place

@@ -2,12 +2,9 @@
 -- value is from 0 to 1, and 1 at a goal. At any other state the value is at least the sum over each choice's row; where it is the greatest
 -- probability, it is at most the sum over the policy's row; and for the least both the other way round. Ranks fall along the rows that
 -- have to lead to a goal.
-use Rattle.std.specs.Prelude.{◌≡◌, ℕ, ◌<◌, ◌⊎◌, Bool, true, false, List, length, slice_index, pos}
-use Rattle.std.specs.List.{Any}
+use Rattle.std.specs.{Prelude.{◌≡◌, ℕ, ◌<◌, ◌⊎◌, Bool, true, false, List, length, slice_index, pos}, List.{Any}}
 use Rattle.mdp_math.specs.Rational.{ℚ, of_int, ◌≤ℚ◌, ◌<ℚ◌}
-use Rattle.mdp_spec.specs.Mdp.{Mdp, states_of, choices_at, row_at, value_at}
-use Rattle.mdp_spec.specs.Row.{row_sum}
-use Rattle.mdp_spec.specs.Tree.{IsPolicy, is_marked}
+use Rattle.mdp_spec.specs.{Mdp.{Mdp, states_of, choices_at, row_at, value_at}, Row.{row_sum}, Tree.{IsPolicy, is_marked}}
 
 -- each value is a probability, and 1 at a goal
 pub record AreProbabilities (m : Mdp) (goals : List Bool) (z : List ℚ) : Type 0 where

@@ -1,8 +1,7 @@
 -- Subsystems (Funke, Jantsch and Baier 2020): each state that is neither kept nor a goal is left with one choice, a loop that earns nothing.
 use Rattle.std.specs.Prelude.{ℕ, suc, Bool, List, [], ◌∷◌, map, pos, ◌||◌, if◌then◌else◌}
 use Rattle.mdp_math.specs.Rational.{of_int}
-use Rattle.mdp_spec.specs.Mdp.{Choice, State, Mdp}
-use Rattle.mdp_spec.specs.Tree.{is_marked}
+use Rattle.mdp_spec.specs.{Mdp.{Choice, State, Mdp}, Tree.{is_marked}}
 
 -- a loop of probability 1, with reward 0 under each reward name
 abbrev pub loop_at : List (List ℕ) → ℕ → Choice

@@ -1,10 +1,8 @@
 -- Strategy trees: what a policy with history and rational mixing does in its first n steps (Puterman 1994, section 2.1.5: a randomized
 -- history-dependent policy, cut at a horizon).
 use Rattle.std.specs.Prelude.{◌≡◌, ℕ, zero, suc, ◌*◌, ◌^◌, ◌<◌, ◌≤◌, Bool, false, ◌==◌, length, slice_index, slice_index_or, List, if◌then◌else◌, pos}
-use Rattle.mdp_math.specs.Sum.{EachAt}
-use Rattle.mdp_spec.specs.Mdp.{Mdp, states_of, choices_at, row_at}
-use Rattle.mdp_spec.specs.Unit.{count_at, unit_of}
-use Rattle.mdp_math.specs.Rational.{of_int}
+use Rattle.mdp_math.specs.{Sum.{EachAt}, Rational.{of_int}}
+use Rattle.mdp_spec.specs.{Mdp.{Mdp, states_of, choices_at, row_at}, Unit.{count_at, unit_of}}
 
 -- a whole weight for each choice, and a tree for each choice and each entry of its row
 pub data Tree : Type 0 where

@@ -1,7 +1,6 @@
 -- The written sum of a row: additions and products in the order of the row's targets, or nothing where one of their terms is past width.
 use Rattle.std.specs.Prelude.{List, [], ◌∷◌, Option, Some}
-use Rattle.mdp_math.specs.Rational.{ℚ}
-use Rattle.mdp_math.specs.Written.{written_add, written_mul, ◌>>=◌}
+use Rattle.mdp_math.specs.{Rational.{ℚ}, Written.{written_add, written_mul, ◌>>=◌}}
 use Rattle.mdp_spec.specs.Mdp.{Entry, value_at}
 
 -- acc, and for each entry its probability times the value of its target

@@ -1,17 +1,11 @@
 -- What written sums are in exact numbers, once a flow is added to them: its amount leaves its state, and comes to the targets of its row with their
 -- probabilities.
 use Rattle.std.proofs.Common.{◌≡◌, ℕ, ◌<◌, ⊎_elim, Bool, true, false, true≢false, cond, eqb, List, [], ◌∷◌, length, get_or, set, Some, refl, sym, ap, ◌∙◌, subst, pos}
-use Rattle.std.proofs.lemmas.List.{get_or-set_same, get_or-set_other}
-use Rattle.std.proofs.lemmas.Bool.{cases_eq, eq-eqb, ne_eqb}
-use Rattle.mdp_math.specs.Rational.{ℚ, ◌+ℚ◌, ◌*ℚ◌}
-use Rattle.mdp_math.specs.Written.{written_add, written_mul}
-use Rattle.mdp_math.proofs.Options.{Some_same, step_told}
-use Rattle.mdp_math.proofs.Order.{0ℚ}
-use Rattle.mdp_math.proofs.Ring.{◌⊕◌, ◌⊗◌, lit, ring}
-use Rattle.mdp_math.proofs.Laws.{rat_ring, +ℚ_assoc}
+use Rattle.std.proofs.{lemmas.List.{get_or-set_same, get_or-set_other}, lemmas.Bool.{cases_eq, eq-eqb, ne_eqb}}
+use Rattle.mdp_math.specs.{Rational.{ℚ, ◌+ℚ◌, ◌*ℚ◌}, Written.{written_add, written_mul}}
+use Rattle.mdp_math.proofs.{Options.{Some_same, step_told}, Order.{0ℚ}, Ring.{◌⊕◌, ◌⊗◌, lit, ring}, Laws.{rat_ring, +ℚ_assoc}}
 use Rattle.mdp_math.proofs.Written.{written_mul-some, written_add-some}
-use Rattle.mdp_spec.specs.Mdp.{Entry, Mdp, value_at}
-use Rattle.mdp_spec.specs.Tree.{is_marked}
+use Rattle.mdp_spec.specs.{Mdp.{Entry, Mdp, value_at}, Tree.{is_marked}}
 use Rattle.mdp_claims.specs.declared.subsystem.Flow.{Flow}
 use Rattle.mdp_subsystem_rules.specs.Flow.{flow_row, prob_to, prob_to_goals, outflow, inflow, goal_flow}
 use Rattle.mdp_subsystem_rules.specs.Sums.{FlowSums, AreSums, with_outflow, with_goal, with_inflow, with_entry, with_row, with_flow}

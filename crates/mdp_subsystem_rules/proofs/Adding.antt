@@ -1,12 +1,8 @@
 -- A row that is added entry by entry, to the sums of a flow or to a number.
-use Rattle.std.proofs.Common.{◌≡◌, ℕ, ◌+◌, ◌<◌, Bool, List, ◌∷◌, length, drop, get_or, Option, Some, None, sym, ap, ◌∙◌}
-use Rattle.std.proofs.lemmas.List.{drop_more}
+use Rattle.std.proofs.{Common.{◌≡◌, ℕ, ◌+◌, ◌<◌, Bool, List, ◌∷◌, length, drop, get_or, Option, Some, None, sym, ap, ◌∙◌}, lemmas.List.{drop_more}}
 use Rattle.std.specs.Option.{option_and_then}
-use Rattle.mdp_math.specs.Rational.{ℚ}
-use Rattle.mdp_math.specs.Written.{written_add, written_mul}
-use Rattle.mdp_spec.specs.Mdp.{value_at}
-use Rattle.mdp_spec.specs.Row.{entries}
-use Rattle.mdp_spec.specs.Written.{written_sum}
+use Rattle.mdp_math.specs.{Rational.{ℚ}, Written.{written_add, written_mul}}
+use Rattle.mdp_spec.specs.{Mdp.{value_at}, Row.{entries}, Written.{written_sum}}
 use Rattle.mdp_subsystem_rules.specs.Sums.{FlowSums, with_entry, with_row}
 
 pub row_next : (goals : List Bool) (amount : ℚ) (sums t : FlowSums) (ts : List ℕ) (ps : List ℚ) (i : ℕ) (d : ℚ) → i < length ts → i < length ps

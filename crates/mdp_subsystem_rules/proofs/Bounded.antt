@@ -1,34 +1,21 @@
 -- Where the flows of a policy are exact, what leaves a kept state being what comes in, no depth passes what they bring to the goals. The hits
 -- weighed by the flows gain in one more step what comes to the goals less the hit at the start, and they never fall.
 use Rattle.std.proofs.Common.{◌≡◌, ℕ, zero, suc, ◌<◌, ⊎_elim, Bool, true, false, true≢false, ◌||◌, cond, eqb, List, [], ◌∷◌, get_or, refl, sym, ◌∙◌, ap, subst, arith, pos}
-use Rattle.std.specs.List.{All, range_with_len}
 use Rattle.std.proofs.lemmas.Bool.{cases_Bool}
-use Rattle.mdp_math.specs.Rational.{ℚ, ◌+ℚ◌, ◌*ℚ◌, ◌≤ℚ◌}
-use Rattle.mdp_math.specs.Sum.{sum_of}
-use Rattle.mdp_math.proofs.Ring.{◌⊕◌, ◌⊗◌, lit, ring}
-use Rattle.mdp_math.proofs.Laws.{rat_ring, zero-+ℚ, zero-*ℚ}
-use Rattle.mdp_math.proofs.Linear.{linear, equal, known}
+use Rattle.std.specs.List.{All, range_with_len}
+use Rattle.mdp_math.specs.{Rational.{ℚ, ◌+ℚ◌, ◌*ℚ◌, ◌≤ℚ◌}, Sum.{sum_of}}
+use Rattle.mdp_math.proofs.{Ring.{◌⊕◌, ◌⊗◌, lit, ring}, Laws.{rat_ring, zero-+ℚ, zero-*ℚ}, Linear.{linear, equal, known}}
 use Rattle.mdp_math.proofs.Order.{0ℚ, 1ℚ, ≤ℚ_trans, ≤ℚ_of_eq, ≤ℚ_of_lt, ≤ℚ_antisymm, mul-le-mul_left_ℚ}
 use Rattle.mdp_math.proofs.Sums.{sum_of-add, sum_of-same, sum_of-same_all, sum_of-le}
-use Rattle.mdp_spec.specs.Mdp.{Entry, Mdp, states_of, row_at}
-use Rattle.mdp_spec.specs.Row.{IsRow, IsMdp}
-use Rattle.mdp_spec.specs.Tree.{IsPolicy}
-use Rattle.mdp_spec.specs.Tree.{is_marked, unfolded}
-use Rattle.mdp_spec.specs.Tree.Tree.{leaf}
-use Rattle.mdp_spec.specs.Hit.{hit}
+use Rattle.mdp_spec.specs.{Mdp.{Entry, Mdp, states_of, row_at}, Row.{IsRow, IsMdp}, Tree.{IsPolicy, is_marked, unfolded}, Tree.Tree.{leaf}, Hit.{hit}}
 use Rattle.mdp_spec.specs.Sub.{sub_of, policy_on}
-use Rattle.mdp_spec.proofs.Hits.{hit-goal, hit-end}
-use Rattle.mdp_spec.proofs.Above.{row_weigh, hit-nonneg}
-use Rattle.mdp_spec.proofs.Keeping.{unfolded_fits}
+use Rattle.mdp_spec.proofs.{Hits.{hit-goal, hit-end}, Above.{row_weigh, hit-nonneg}, Keeping.{unfolded_fits}}
+use Rattle.mdp_spec.proofs.Subsystem.{stays, stays-kept, sub-states, stays-row, sub_is_mdp, policy_on-stays, policy_on_sub}
 use Rattle.mdp_claims.specs.declared.subsystem.Flow.{Flow}
 use Rattle.mdp_subsystem_rules.specs.Flow.{IsFlow, prob_to, prob_to_goals, flow_row, outflow, inflow, goal_flow, flow_value, source, goal_source}
 use Rattle.mdp_subsystem_rules.specs.Policy.{AreOfPolicy, hit_on}
-use Rattle.mdp_spec.proofs.Subsystem.{stays, stays-kept, sub-states, stays-row, sub_is_mdp, policy_on-stays, policy_on_sub}
-use Rattle.mdp_subsystem_rules.proofs.Picks.{greatest_place, greatest_place-below}
-use Rattle.mdp_subsystem_rules.proofs.Extremal.{hit-le_best, hit-unfolded, row_weigh-mono}
-use Rattle.mdp_subsystem_rules.proofs.Fewer.{lost-none}
-use Rattle.mdp_subsystem_rules.proofs.Flows.{inside_of_choice, eqb_sym, goal_part, kept_part}
-use Rattle.mdp_subsystem_rules.proofs.Gather.{All-range, sum_of-only, gathered, gathered_parts}
+use Rattle.mdp_subsystem_rules.proofs.{Picks.{greatest_place, greatest_place-below}, Extremal.{hit-le_best, hit-unfolded, row_weigh-mono}, Fewer.{lost-none}}
+use Rattle.mdp_subsystem_rules.proofs.{Flows.{inside_of_choice, eqb_sym, goal_part, kept_part}, Gather.{All-range, sum_of-only, gathered, gathered_parts}}
 
 -- a policy hits no less with one more step
 pub one_more_step : (m : Mdp) (goals : List Bool) (policy : List ℕ) (n s : ℕ) → IsMdp m → IsPolicy m policy → s < states_of m

@@ -3,10 +3,8 @@ use Rattle.std.proofs.Common.{◌≡◌, ℕ, ◌<◌, Bool, true, false, cond, 
 use Rattle.std.proofs.lemmas.List.FromFn.{get_or-map-range_with_len}
 use Rattle.mdp_math.specs.Rational.{ℚ, of_int}
 use Rattle.mdp_math.proofs.Order.{0ℚ}
-use Rattle.mdp_spec.specs.Mdp.{Mdp, states_of, value_at}
-use Rattle.mdp_spec.specs.Tree.{is_marked}
-use Rattle.mdp_subsystem_rules.specs.FloorChecks.{line_value, line_values, line_rank}
-use Rattle.mdp_subsystem_rules.specs.Kept.{is_listed, kept_marks, looked_up, spread, Ascends}
+use Rattle.mdp_spec.specs.{Mdp.{Mdp, states_of, value_at}, Tree.{is_marked}}
+use Rattle.mdp_subsystem_rules.specs.{FloorChecks.{line_value, line_values, line_rank}, Kept.{is_listed, kept_marks, looked_up, spread, Ascends}}
 use Rattle.mdp_subsystem_rules.proofs.Kept.{kept_marks-at, spread-at, listed-at, looked_up-at}
 
 module _ {A : Type 0} (n : ℕ) (goals : List Bool) (kept : List ℕ) (xs : List A) (one none : A) where

@@ -1,24 +1,16 @@
 -- A model of four states with a floor and a flow, computed. State 0 goes to 1 or to 3 with 1/2 each, or by its second choice to 1; state 1 goes
 -- back to 0 with 1/2 and to 2, the goal, with 1/2; 3 fails.
 use Rattle.std.proofs.Common.{◌≡◌, ℕ, zero, suc, ◌<◌, Bool, true, false, true≢false, T, get_or, List, [], ◌∷◌, length, refl, sym, subst, pos, arith}
-use Rattle.std.specs.List.{Any}
 use Rattle.std.proofs.lemmas.List.Elements.{All-from_recursion}
-use Rattle.mdp_math.specs.Gcd.{gcd, gcd_with_fuel}
-use Rattle.mdp_math.specs.Rational.{ℚ, of_int, ratio, le_ℚ, lt_ℚ, ◌+ℚ◌, ◌*ℚ◌, ◌≤ℚ◌, ◌<ℚ◌}
+use Rattle.std.specs.List.{Any}
+use Rattle.mdp_math.specs.{Gcd.{gcd, gcd_with_fuel}, Rational.{ℚ, of_int, ratio, le_ℚ, lt_ℚ, ◌+ℚ◌, ◌*ℚ◌, ◌≤ℚ◌, ◌<ℚ◌}}
 use Rattle.mdp_math.proofs.Order.{0ℚ, <ℚ_irrefl, clash_ℚ}
-use Rattle.mdp_spec.specs.Mdp.{states_of, choices_at, row_at, value_at}
-use Rattle.mdp_spec.specs.Tree.{is_marked}
-use Rattle.mdp_spec.specs.Unit.{unit_of}
-use Rattle.mdp_spec.specs.Hit.{hit}
-use Rattle.mdp_spec.specs.Sub.{sub_of, policy_on}
+use Rattle.mdp_spec.specs.{Mdp.{states_of, choices_at, row_at, value_at}, Tree.{is_marked}, Unit.{unit_of}, Hit.{hit}, Sub.{sub_of, policy_on}}
 use Rattle.mdp_spec.proofs.Small.{entry, half, one, back, back_goals}
-use Rattle.mdp_subsystem_rules.specs.Kept.{kept_marks, spread}
-use Rattle.mdp_subsystem_rules.specs.Listed.{listed, marks_at, values_at, ranks_at}
-use Rattle.mdp_subsystem_rules.specs.Visits.{visit_flows}
-use Rattle.mdp_subsystem_rules.specs.Policy.{hit_on}
+use Rattle.mdp_subsystem_rules.specs.{Kept.{kept_marks, spread}, Listed.{listed, marks_at, values_at, ranks_at}, Visits.{visit_flows}, Policy.{hit_on}}
 use Rattle.mdp_subsystem_rules.specs.Floor.{counted_value, counted_rank, counted_sum, MeetsFloor}
-use Rattle.mdp_claims.specs.declared.subsystem.Flow.{Flow}
 use Rattle.mdp_subsystem_rules.specs.Flow.{IsFlow, MeetsFlow, outflow, inflow, goal_flow, flow_total, source, goal_source}
+use Rattle.mdp_claims.specs.declared.subsystem.Flow.{Flow}
 
 -- 0 and 1 are kept
 abbrev kept : List Bool

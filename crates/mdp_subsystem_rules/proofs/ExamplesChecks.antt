@@ -1,20 +1,15 @@
 -- Verdicts on certificates, computed. The model has four states: state 0 goes to 1 or to 3 with 1/2 each, or by its second choice to 1; state 1 goes
 -- back to 0 with 1/2 and to 2, the goal, with 1/2; state 3 is left nowhere.
 use Rattle.std.proofs.Common.{ℕ, ◌+◌, ◌^◌, List, [], ◌∷◌, refl, pos, negsuc, Option, Some, None}
-use Rattle.mdp_math.specs.Gcd.{gcd, gcd_with_fuel}
-use Rattle.mdp_math.specs.Rational.{ℚ, of_int, ratio, lt_ℚ, ◌+ℚ◌, ◌*ℚ◌}
+use Rattle.mdp_math.specs.{Gcd.{gcd, gcd_with_fuel}, Rational.{ℚ, of_int, ratio, lt_ℚ, ◌+ℚ◌, ◌*ℚ◌}}
 use Rattle.mdp_math.specs.Written.{narrow, narrow_ℚ, written_add, written_mul, written_compare}
 use Rattle.mdp_math.proofs.Tables.{AreEqual}
 use Rattle.mdp_spec.proofs.Small.{choice, half, nought, one, state, third, two, two_thirds, back, back_goals}
 use Rattle.mdp_farkas.specs.Verdict.{verdict_of}
-use Rattle.mdp_claims.specs.declared.verdict.Verdict.{Verdict}
-use Rattle.mdp_claims.specs.declared.verdict.Verdict.TheVariants.{Yes, No, Wide}
-use Rattle.mdp_claims.specs.declared.subsystem.Flow.{Flow}
-use Rattle.mdp_subsystem_rules.specs.FloorChecks.{floor_checks}
-use Rattle.mdp_subsystem_rules.specs.FlowChecks.{flow_checks}
+use Rattle.mdp_claims.specs.{declared.verdict.Verdict.{Verdict}, declared.verdict.Verdict.TheVariants.{Yes, No, Wide}, declared.subsystem.Flow.{Flow}}
 use Rattle.mdp_claims.specs.declared.rule.Rule.TheVariants.{ChoiceExists, FlowsBalance, FlowsReachGoals, Probability, RankFalls, RankZero}
-use Rattle.mdp_claims.specs.declared.rule.Rule.TheVariants.{StartReachesThreshold, StateIsKept, ValueOnEachChoice}
-use Rattle.mdp_claims.specs.declared.rule.Rule.{Rule}
+use Rattle.mdp_claims.specs.{declared.rule.Rule.TheVariants.{StartReachesThreshold, StateIsKept, ValueOnEachChoice}, declared.rule.Rule.{Rule}}
+use Rattle.mdp_subsystem_rules.specs.{FloorChecks.{floor_checks}, FlowChecks.{flow_checks}}
 
 -- half of it is past width
 abbrev tiny : ℚ

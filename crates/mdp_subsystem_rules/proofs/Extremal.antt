@@ -2,20 +2,13 @@
 -- steps left. A tree reaches it, and no tree passes it.
 use Rattle.std.proofs.Common.{◌≡◌, ℕ, zero, suc, ◌<◌, ◌≤◌, ⊎_elim, Bool, true, false, cond, eqb, List, length, get_or, refl, sym, ◌∙◌, ap, subst, arith}
 use Rattle.std.proofs.lemmas.Bool.{cases_Bool}
-use Rattle.mdp_math.specs.Rational.{ℚ, ◌*ℚ◌, ◌≤ℚ◌, ◌<ℚ◌}
-use Rattle.mdp_math.specs.Sum.{sum_at, EachAt}
-use Rattle.mdp_math.proofs.Laws.{one-*ℚ}
-use Rattle.mdp_math.proofs.Order.{0ℚ, 1ℚ, ≤ℚ_trans, ≤ℚ_of_eq, ≤ℚ_antisymm, mul-le-mul_left_ℚ}
+use Rattle.mdp_math.specs.{Rational.{ℚ, ◌*ℚ◌, ◌≤ℚ◌, ◌<ℚ◌}, Sum.{sum_at, EachAt}}
+use Rattle.mdp_math.proofs.{Laws.{one-*ℚ}, Order.{0ℚ, 1ℚ, ≤ℚ_trans, ≤ℚ_of_eq, ≤ℚ_antisymm, mul-le-mul_left_ℚ}}
 use Rattle.mdp_math.proofs.SumsAt.{sum_at-le, sum_at-same, sum_at-sum_of, sum_at-weighted_ge, EachAt_all, EachAt_mono, EachAt_both}
-use Rattle.mdp_spec.specs.Mdp.{Entry, Choice, Mdp, states_of, choices_at, row_at}
-use Rattle.mdp_spec.specs.Row.{IsRow, IsMdp}
-use Rattle.mdp_spec.specs.Unit.{count_at}
-use Rattle.mdp_spec.specs.Tree.{Tree, Fits, unfolded, target_at, is_marked}
-use Rattle.mdp_spec.specs.Tree.Tree.{leaf, node}
-use Rattle.mdp_spec.specs.Hit.{hit}
 use Rattle.mdp_math.proofs.Kernel.{weigh-same, weigh-le_at}
-use Rattle.mdp_spec.proofs.Rows.{rows_known, placed, targets_at, nonneg_at, probs_nonneg}
-use Rattle.mdp_spec.proofs.Hits.{share, mixed, hit-goal, hit-end, hit-node}
+use Rattle.mdp_spec.specs.{Mdp.{Entry, Choice, Mdp, states_of, choices_at, row_at}, Row.{IsRow, IsMdp}, Unit.{count_at}}
+use Rattle.mdp_spec.specs.{Tree.{Tree, Fits, unfolded, target_at, is_marked}, Tree.Tree.{leaf, node}, Hit.{hit}}
+use Rattle.mdp_spec.proofs.{Rows.{rows_known, placed, targets_at, nonneg_at, probs_nonneg}, Hits.{share, mixed, hit-goal, hit-end, hit-node}}
 use Rattle.mdp_spec.proofs.Keeping.{count_at-one, chosen, target_placed, share-nonneg, share-pos, shares-total, mixed-le}
 use Rattle.mdp_spec.proofs.Above.{row_weigh, row_sum-le, hit-nonneg, hit-le_one}
 use Rattle.mdp_subsystem_rules.proofs.Picks.{greatest_place, least_place, greatest_place-ge, least_place-le}

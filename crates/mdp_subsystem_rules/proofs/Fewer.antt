@@ -2,24 +2,12 @@
 use Rattle.std.proofs.Common.{◌≡◌, ℕ, zero, suc, ◌<◌, ⊎_elim, Bool, true, false, true≢false, ◌||◌, List, [], ◌∷◌, get_or, length, refl, sym, ◌∙◌, ap, subst, arith, pos}
 use Rattle.std.proofs.lemmas.Bool.{cases_Bool}
 use Rattle.mdp_math.specs.Rational.{ℚ, ◌≤ℚ◌}
-use Rattle.mdp_math.proofs.Ring.{◌⊕◌, ◌⊗◌, lit, ring}
-use Rattle.mdp_math.proofs.Laws.{rat_ring}
-use Rattle.mdp_math.proofs.Linear.{linear, known}
-use Rattle.mdp_math.proofs.Order.{0ℚ, ≤ℚ_refl, ≤ℚ_trans, ≤ℚ_of_eq}
-use Rattle.mdp_spec.specs.Mdp.{Entry, Choice, Mdp, no_choice, states_of, choices_at, row_at, value_at}
-use Rattle.mdp_spec.specs.Row.{IsMdp}
-use Rattle.mdp_spec.specs.Tree.{is_marked, unfolded}
-use Rattle.mdp_spec.specs.Hit.{hit}
-use Rattle.mdp_spec.specs.Sub.{sub_of, loop_at}
-use Rattle.mdp_spec.specs.Tree.{IsPolicy}
-use Rattle.mdp_spec.specs.Bounds.{ReachMax, ReachMin, part}
-use Rattle.mdp_spec.specs.Tree.Tree.{leaf}
-use Rattle.mdp_spec.proofs.Hits.{hit-goal, hit-end}
-use Rattle.mdp_spec.proofs.Above.{row_weigh, hit-nonneg}
-use Rattle.mdp_spec.proofs.Reach.{le_of_parts}
-use Rattle.mdp_spec.proofs.Keeping.{unfolded_fits, unfolded_is_strategy}
-use Rattle.mdp_subsystem_rules.specs.Fewer.{IsIncluded, ReachesMore}
+use Rattle.mdp_math.proofs.{Ring.{◌⊕◌, ◌⊗◌, lit, ring}, Laws.{rat_ring}, Linear.{linear, known}, Order.{0ℚ, ≤ℚ_refl, ≤ℚ_trans, ≤ℚ_of_eq}}
+use Rattle.mdp_spec.specs.{Mdp.{Entry, Choice, Mdp, no_choice, states_of, choices_at, row_at, value_at}, Row.{IsMdp}, Tree.{is_marked, unfolded, IsPolicy}}
+use Rattle.mdp_spec.specs.{Hit.{hit}, Sub.{sub_of, loop_at}, Bounds.{ReachMax, ReachMin, part}, Tree.Tree.{leaf}}
+use Rattle.mdp_spec.proofs.{Hits.{hit-goal, hit-end}, Above.{row_weigh, hit-nonneg}, Reach.{le_of_parts}, Keeping.{unfolded_fits, unfolded_is_strategy}}
 use Rattle.mdp_spec.proofs.Subsystem.{stays, stays-kept, sub-states, sub-stays, sub-loops, sub_is_mdp}
+use Rattle.mdp_subsystem_rules.specs.Fewer.{IsIncluded, ReachesMore}
 use Rattle.mdp_subsystem_rules.proofs.Picks.{greatest_place, greatest_place-below, least_place, least_place-below}
 use Rattle.mdp_subsystem_rules.proofs.Extremal.{IsPick, extreme, extreme-goal, extreme-end, extreme-suc, extreme-nonneg, picked, picks_choice, best}
 use Rattle.mdp_subsystem_rules.proofs.Extremal.{worst, best-ge, worst-le, hit-le_best, worst-le_hit, extreme_tree, extreme_fits, hit-extreme, hit-unfolded, row_weigh-mono}

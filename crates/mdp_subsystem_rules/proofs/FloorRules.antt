@@ -2,42 +2,25 @@
 -- subsystem reaches the threshold.
 use Rattle.std.proofs.Common.{◌≡◌, ℕ, ◌<◌, inr, ⊎_elim, Bool, true, false, true≢false, not, ◌||◌, ltb, lt-ltb}
 use Rattle.std.proofs.Common.{ltb-true, eqb-true, eq-eqb, List, [], ◌∷◌, ◌++◌, length, get_or, Some, refl, sym, ap, subst, ◌∙◌, ap₂, cond, pos, arith}
-use Rattle.std.specs.Prelude.{◌↔◌}
-use Rattle.std.specs.List.{Any, list_any}
-use Rattle.std.proofs.lemmas.List.Elements.{All-from_recursion, recursion_from_All}
-use Rattle.std.proofs.lemmas.Bool.{cases_lt}
-use Rattle.std.proofs.lemmas.List.{get_or_past}
+use Rattle.std.proofs.{lemmas.List.Elements.{All-from_recursion, recursion_from_All}, lemmas.Bool.{cases_lt}, lemmas.List.{get_or_past}}
 use Rattle.std.proofs.lemmas.List.FromFn.{length-map-range_with_len}
+use Rattle.std.specs.{Prelude.{◌↔◌}, List.{Any, list_any}}
 use Rattle.mdp_math.specs.Rational.{ℚ, lt_ℚ, ◌+ℚ◌, ◌≤ℚ◌, ◌<ℚ◌, of_int}
-use Rattle.mdp_math.proofs.Extremes.{lt_of_test, test_of_lt, le_of_no_test, no_test_of_le}
-use Rattle.mdp_math.proofs.Laws.{zero-+ℚ}
-use Rattle.mdp_math.proofs.Options.{Some_same}
-use Rattle.mdp_math.proofs.Order.{0ℚ, 1ℚ, ≤ℚ_of_eq, ≤ℚ_antisymm}
-use Rattle.mdp_math.proofs.Kernel.{weigh-same}
-use Rattle.mdp_spec.specs.Bounds.{SubMin}
-use Rattle.mdp_spec.specs.Mdp.{Entry, Mdp, states_of, choices_at, row_at, value_at}
-use Rattle.mdp_spec.specs.Row.{IsMdp, row_sum}
-use Rattle.mdp_spec.specs.Tree.{is_marked}
+use Rattle.mdp_math.proofs.{Extremes.{lt_of_test, test_of_lt, le_of_no_test, no_test_of_le}, Laws.{zero-+ℚ}, Options.{Some_same}}
+use Rattle.mdp_math.proofs.{Order.{0ℚ, 1ℚ, ≤ℚ_of_eq, ≤ℚ_antisymm}, Kernel.{weigh-same}}
+use Rattle.mdp_spec.specs.{Bounds.{SubMin}, Mdp.{Entry, Mdp, states_of, choices_at, row_at, value_at}, Row.{IsMdp, row_sum}, Tree.{is_marked}}
 use Rattle.mdp_farkas.specs.Verdict.{Check, InWidth, IsYes, IfYes, verdict_of, at_choices}
-use Rattle.mdp_claims.specs.declared.verdict.Fault.{Fault}
-use Rattle.mdp_claims.specs.declared.verdict.Verdict.{Verdict}
-use Rattle.mdp_claims.specs.declared.verdict.Verdict.TheVariants.{No}
+use Rattle.mdp_claims.specs.{declared.verdict.Fault.{Fault}, declared.verdict.Verdict.{Verdict}, declared.verdict.Verdict.TheVariants.{No}}
 use Rattle.mdp_rows.specs.declared.dir.Dir.TheVariants.{Min}
 use Rattle.mdp_farkas.proofs.Comparing.{le_of_at_least, at_least_of_le, le_of_at_most, at_most_of_le}
 use Rattle.mdp_farkas.proofs.Holds.{Each, Holds, Sound, each_of_yes, yes_of_each, told_of_each, holds_of_sound, never_no, if_yes, each_append, each_left, each_right, each_flat, each_flat_at}
-use Rattle.mdp_farkas.proofs.Holds.{each_map, each_map_at, each_if, each_if_true, each_if_false}
-use Rattle.mdp_farkas.proofs.Inequalities.{sum_stands_of, of_sum_stands}
-use Rattle.mdp_farkas.proofs.ReachRules.{end_of, no_end_of}
-use Rattle.mdp_farkas.proofs.Tests.{some_passed, some_passes}
+use Rattle.mdp_farkas.proofs.{Holds.{each_map, each_map_at, each_if, each_if_true, each_if_false}, Inequalities.{sum_stands_of, of_sum_stands}}
+use Rattle.mdp_farkas.proofs.{ReachRules.{end_of, no_end_of}, Tests.{some_passed, some_passes}}
 use Rattle.mdp_subsystem_rules.specs.Floor.{MeetsFloor, counted_value, counted_sum}
 use Rattle.mdp_subsystem_rules.specs.FloorChecks.{spread_values, spread_ranks, line_value, line_rank, line_values, cover_check, cover_checks}
 use Rattle.mdp_subsystem_rules.specs.FloorChecks.{rank_check, fall_check, rank_checks, checks_of_line, each_line, start_check, floor_checks, HoldsFloor}
-use Rattle.mdp_subsystem_rules.specs.FlowChecks.{kept_check}
-use Rattle.mdp_subsystem_rules.specs.Kept.{is_listed, kept_marks}
-use Rattle.mdp_subsystem_rules.specs.Shape.{IsFloorShape}
-use Rattle.mdp_subsystem_rules.proofs.Counted.{line_values-at}
-use Rattle.mdp_subsystem_rules.proofs.Floors.{sub_min_of_floor}
-use Rattle.mdp_subsystem_rules.proofs.Kept.{each_kept, each_place, spread-at, looked_up-at}
+use Rattle.mdp_subsystem_rules.specs.{FlowChecks.{kept_check}, Kept.{is_listed, kept_marks}, Shape.{IsFloorShape}}
+use Rattle.mdp_subsystem_rules.proofs.{Counted.{line_values-at}, Floors.{sub_min_of_floor}, Kept.{each_kept, each_place, spread-at, looked_up-at}}
 use Rattle.mdp_subsystem_rules.proofs.Parts.{unmarked}
 
 -- ---- tests

@@ -2,20 +2,12 @@
 use Rattle.std.proofs.Common.{◌≡◌, ℕ, ◌<◌, ⊎_elim, Bool, true, false, true≢false, cond, get_or, ltb, lt-ltb, ltb-true, List, length, T, refl, sym, subst}
 use Rattle.std.specs.List.{Any}
 use Rattle.mdp_math.specs.Rational.{ℚ, lt_ℚ, ◌≤ℚ◌, ◌<ℚ◌}
-use Rattle.mdp_math.proofs.Order.{0ℚ, 1ℚ, ≤ℚ_or_gt, ≤ℚ_of_lt, ≤ℚ_of_eq, ≤ℚ_refl, ≤ℚ_trans, <ℚ_irrefl}
-use Rattle.mdp_math.proofs.Whole.{one-pos}
-use Rattle.mdp_spec.specs.Mdp.{Entry, Choice, Mdp, states_of, choices_at, row_at, value_at}
-use Rattle.mdp_spec.specs.Row.{IsMdp}
-use Rattle.mdp_spec.specs.Tree.{is_marked}
-use Rattle.mdp_spec.specs.Sub.{sub_of}
-use Rattle.mdp_spec.specs.Hit.{hit}
+use Rattle.mdp_math.proofs.{Order.{0ℚ, 1ℚ, ≤ℚ_or_gt, ≤ℚ_of_lt, ≤ℚ_of_eq, ≤ℚ_refl, ≤ℚ_trans, <ℚ_irrefl}, Whole.{one-pos}}
+use Rattle.mdp_spec.specs.{Mdp.{Entry, Choice, Mdp, states_of, choices_at, row_at, value_at}, Row.{IsMdp}, Tree.{is_marked}, Sub.{sub_of}, Hit.{hit}}
 use Rattle.mdp_spec.specs.Bounds.{SubMin}
-use Rattle.mdp_spec.proofs.Keeping.{HasChoice, keeps_of_Fits}
-use Rattle.mdp_spec.proofs.Above.{row_weigh}
-use Rattle.mdp_spec.proofs.Close.{RowsShrink, deficit-le, deficit-fades}
-use Rattle.mdp_spec.proofs.Ranks.{shrinks_of_ranks}
-use Rattle.mdp_subsystem_rules.specs.Floor.{counted_value, counted_rank, MeetsFloor}
+use Rattle.mdp_spec.proofs.{Keeping.{HasChoice, keeps_of_Fits}, Above.{row_weigh}, Close.{RowsShrink, deficit-le, deficit-fades}, Ranks.{shrinks_of_ranks}}
 use Rattle.mdp_spec.proofs.Subsystem.{stays-kept, sub-states, sub-stays, stays-row, sub_is_mdp}
+use Rattle.mdp_subsystem_rules.specs.Floor.{counted_value, counted_rank, MeetsFloor}
 
 -- ---- what a state counts as
 

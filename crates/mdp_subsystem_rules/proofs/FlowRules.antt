@@ -2,41 +2,22 @@
 -- the threshold.
 use Rattle.std.proofs.Common.{◌≡◌, ℕ, ◌<◌, Bool, true, false, not, cond, List, [], ◌∷◌, ◌++◌, map, length}
 use Rattle.std.proofs.Common.{get_or, set, replicate, Option, Some, None, refl, sym, ap, subst, ◌∙◌, ⊎_elim, pos, true≢false}
-use Rattle.std.specs.Prelude.{◌↔◌, unwrap_or}
-use Rattle.std.specs.List.{AllByRecursion}
-use Rattle.std.specs.Option.{IsSome, option_map}
 use Rattle.std.proofs.lemmas.List.{length-set, length-replicate, get_or-replicate, get_or-set_same, get_or-set_other}
-use Rattle.std.proofs.lemmas.List.Elements.{All-from_recursion, recursion_from_All}
-use Rattle.std.proofs.lemmas.Bool.{cases_eq, eq-eqb, ne_eqb}
-use Rattle.std.proofs.lemmas.Bool.{lt-ltb, ltb-true}
-use Rattle.mdp_math.specs.Rational.{ℚ, of_int, lt_ℚ, ◌+ℚ◌, ◌≤ℚ◌}
-use Rattle.mdp_math.specs.Result.{◌>>=◌}
-use Rattle.mdp_math.proofs.Booleans.{and-parts, and-both}
-use Rattle.mdp_math.proofs.Laws.{zero-+ℚ}
-use Rattle.mdp_math.proofs.Options.{Some_same}
-use Rattle.mdp_math.proofs.Extremes.{lt_of_test, test_of_lt}
-use Rattle.mdp_math.proofs.Order.{0ℚ}
-use Rattle.mdp_spec.specs.Bounds.{SubMax, SubMaxWithin}
-use Rattle.mdp_spec.specs.Mdp.{Mdp, states_of, choices_at, value_at}
-use Rattle.mdp_spec.specs.Row.{IsMdp}
-use Rattle.mdp_spec.specs.Tree.{is_marked}
+use Rattle.std.proofs.{lemmas.List.Elements.{All-from_recursion, recursion_from_All}, lemmas.Bool.{cases_eq, eq-eqb, ne_eqb, lt-ltb, ltb-true}}
+use Rattle.std.specs.{Prelude.{◌↔◌, unwrap_or}, List.{AllByRecursion}, Option.{IsSome, option_map}}
+use Rattle.mdp_math.specs.{Rational.{ℚ, of_int, lt_ℚ, ◌+ℚ◌, ◌≤ℚ◌}, Result.{◌>>=◌}}
+use Rattle.mdp_math.proofs.{Booleans.{and-parts, and-both}, Laws.{zero-+ℚ}, Options.{Some_same}, Extremes.{lt_of_test, test_of_lt}, Order.{0ℚ}}
+use Rattle.mdp_spec.specs.{Bounds.{SubMax, SubMaxWithin}, Mdp.{Mdp, states_of, choices_at, value_at}, Row.{IsMdp}, Tree.{is_marked}}
 use Rattle.mdp_farkas.specs.Verdict.{Check, InWidth, IsYes, IfYes, objection, objection_to, verdict, verdict_of}
-use Rattle.mdp_claims.specs.declared.verdict.Fault.{Fault}
-use Rattle.mdp_claims.specs.declared.verdict.Verdict.{Verdict}
-use Rattle.mdp_claims.specs.declared.verdict.Verdict.TheVariants.{No}
+use Rattle.mdp_claims.specs.{declared.verdict.Fault.{Fault}, declared.verdict.Verdict.{Verdict}, declared.verdict.Verdict.TheVariants.{No}}
+use Rattle.mdp_claims.specs.declared.subsystem.Flow.{Flow}
 use Rattle.mdp_farkas.proofs.Comparing.{le_of_at_least, at_least_of_le, le_of_at_most, at_most_of_le}
 use Rattle.mdp_farkas.proofs.Holds.{Each, Holds, Sound, each_of_yes, yes_of_each, told_of_each, if_yes, holds_of_sound, never_no, each_append, each_left, each_right}
-use Rattle.mdp_claims.specs.declared.subsystem.Flow.{Flow}
 use Rattle.mdp_subsystem_rules.specs.Flow.{IsFlow, MeetsFlow, outflow, inflow, flow_total, flow_value, source}
 use Rattle.mdp_subsystem_rules.specs.FlowChecks.{kept_check, each_flow, balance_check, arrival_check, sum_checks, checks_from, flow_checks, HoldsFlow}
-use Rattle.mdp_subsystem_rules.specs.Kept.{kept_marks}
-use Rattle.mdp_subsystem_rules.specs.Shape.{IsFlowShape}
-use Rattle.mdp_subsystem_rules.specs.Sums.{FlowSums, AreSums, first_sums, with_flow, after_flow, after_flows}
-use Rattle.mdp_subsystem_rules.proofs.Added.{AddsFlows, no_flow_adds, flow_adds}
-use Rattle.mdp_subsystem_rules.proofs.Flows.{sub_max_of_flow, sub_max_within_of_flow}
-use Rattle.mdp_subsystem_rules.proofs.Kept.{each_kept, each_place}
-use Rattle.mdp_subsystem_rules.proofs.Parts.{unmarked, each_at, each_of}
-use Rattle.mdp_subsystem_rules.proofs.Sizes.{sized_flow}
+use Rattle.mdp_subsystem_rules.specs.{Kept.{kept_marks}, Shape.{IsFlowShape}, Sums.{FlowSums, AreSums, first_sums, with_flow, after_flow, after_flows}}
+use Rattle.mdp_subsystem_rules.proofs.{Added.{AddsFlows, no_flow_adds, flow_adds}, Flows.{sub_max_of_flow, sub_max_within_of_flow}}
+use Rattle.mdp_subsystem_rules.proofs.{Kept.{each_kept, each_place}, Parts.{unmarked, each_at, each_of}, Sizes.{sized_flow}}
 
 -- ---- single checks
 

@@ -2,26 +2,17 @@
 -- least what V n weighs in its row. Weighed by the amounts and gathered by state this says: what comes to the goals is at most V n at the
 -- start and what the weighed V gains in one more step. Over as many steps as the flows' sum times k that gain is at most 1/k a step.
 use Rattle.std.proofs.Common.{◌≡◌, ℕ, suc, ◌<◌, ◌≤◌, ⊎_elim, Bool, true, false, true≢false, cond, eqb, List, [], ◌∷◌, get_or, length, refl, sym, ◌∙◌, ap, subst, arith, pos}
-use Rattle.std.specs.List.{All, range_with_len}
 use Rattle.std.proofs.lemmas.Bool.{cases_lt, cases_eq, eq-eqb, ne_eqb}
-use Rattle.mdp_math.specs.Rational.{ℚ, of_int, ◌+ℚ◌, ◌*ℚ◌, ◌-ℚ◌, ◌≤ℚ◌}
-use Rattle.mdp_math.specs.Sum.{sum_of}
-use Rattle.mdp_math.proofs.Ring.{◌⊕◌, ◌⊗◌, ⊖, lit, ring}
-use Rattle.mdp_math.proofs.Laws.{rat_ring, zero-+ℚ, zero-*ℚ}
-use Rattle.mdp_math.proofs.Linear.{linear, equal, at_most, known}
+use Rattle.std.specs.List.{All, range_with_len}
+use Rattle.mdp_math.specs.{Rational.{ℚ, of_int, ◌+ℚ◌, ◌*ℚ◌, ◌-ℚ◌, ◌≤ℚ◌}, Sum.{sum_of}}
+use Rattle.mdp_math.proofs.{Ring.{◌⊕◌, ◌⊗◌, ⊖, lit, ring}, Laws.{rat_ring, zero-+ℚ, zero-*ℚ}, Linear.{linear, equal, at_most, known}}
 use Rattle.mdp_math.proofs.Order.{0ℚ, 1ℚ, ≤ℚ_trans, ≤ℚ_of_eq, ≤ℚ_of_lt, mul-le-mul_left_ℚ, mul-nonneg, le_of_mul_left_ℚ, div-of_int, ratio-nonneg}
-use Rattle.mdp_math.proofs.Whole.{of_nat-pos, of_nat-suc}
-use Rattle.mdp_math.proofs.Sums.{sum_of-add, sum_of-same, sum_of-same_all, sum_of-le, sum_of-nonneg}
-use Rattle.mdp_spec.specs.Mdp.{Entry, Choice, Mdp, states_of, choices_at}
-use Rattle.mdp_spec.specs.Row.{IsRow, IsMdp}
-use Rattle.mdp_spec.specs.Tree.{is_marked}
-use Rattle.mdp_spec.specs.Sub.{sub_of}
+use Rattle.mdp_math.proofs.{Whole.{of_nat-pos, of_nat-suc}, Sums.{sum_of-add, sum_of-same, sum_of-same_all, sum_of-le, sum_of-nonneg}}
+use Rattle.mdp_spec.specs.{Mdp.{Entry, Choice, Mdp, states_of, choices_at}, Row.{IsRow, IsMdp}, Tree.{is_marked}, Sub.{sub_of}}
 use Rattle.mdp_spec.specs.Bounds.{SubMax, SubMaxWithin, part, whole}
-use Rattle.mdp_spec.proofs.Rows.{choices_at-past, probs_nonneg}
-use Rattle.mdp_spec.proofs.Above.{row_weigh}
+use Rattle.mdp_spec.proofs.{Rows.{choices_at-past, probs_nonneg}, Above.{row_weigh}, Subsystem.{stays-kept, sub-states, sub-stays, stays-row, sub_is_mdp}}
 use Rattle.mdp_claims.specs.declared.subsystem.Flow.{Flow}
 use Rattle.mdp_subsystem_rules.specs.Flow.{IsFlow, MeetsFlow, prob_to, prob_to_goals, flow_row, outflow, inflow, goal_flow, flow_total, source, goal_source}
-use Rattle.mdp_spec.proofs.Subsystem.{stays-kept, sub-states, sub-stays, stays-row, sub_is_mdp}
 use Rattle.mdp_subsystem_rules.proofs.Picks.{greatest_place, greatest_place-below, greatest_place-ge}
 use Rattle.mdp_subsystem_rules.proofs.Extremal.{best, extreme-goal, extreme-nonneg, extreme-le_one, best-ge, extreme_tree, extreme_fits, hit-extreme}
 use Rattle.mdp_subsystem_rules.proofs.Gather.{All-range, sum_of-only, gathered, gathered_parts, telescoped, rounded_up}

@@ -1,15 +1,11 @@
 -- What marks and spread lists say: a claim on the kept states is one on the places of the list.
 use Rattle.std.proofs.Common.{◌≡◌, ℕ, zero, suc, ◌+◌, ◌<◌, ◌≤◌, ◌⊎◌, ⊎_elim, replicate, set, take, inl, inr, Bool, true}
 use Rattle.std.proofs.Common.{false, true≢false, ◌||◌, cond, eqb, List, [], ◌∷◌, get_or, length, refl, sym, ◌∙◌, ap, subst, arith}
-use Rattle.std.proofs.lemmas.List.FromFn.{get_or-map-range_with_len}
-use Rattle.std.specs.Prelude.{Result, Ok, Err, MatchResult, MatchOption}
-use Rattle.std.specs.Result.{result_ok}
-use Rattle.std.specs.List.{list_any}
+use Rattle.std.proofs.lemmas.List.FromFn.{get_or-map-range_with_len, length-map-range_with_len}
 use Rattle.std.proofs.lemmas.Bool.{cases_Bool, cases_eq, cases_lt, eqb-true, eq-eqb, ne_eqb}
 use Rattle.std.proofs.lemmas.List.{ext_get_or, length-set, length-replicate, get_or-replicate, get_or-set_same, get_or-set_other}
-use Rattle.std.proofs.lemmas.List.FromFn.{length-map-range_with_len}
-use Rattle.std.proofs.lemmas.List.Folds.{list_any_more}
-use Rattle.std.proofs.Math.Nat.{le_refl}
+use Rattle.std.proofs.{lemmas.List.Folds.{list_any_more}, Math.Nat.{le_refl}}
+use Rattle.std.specs.{Prelude.{Result, Ok, Err, MatchResult, MatchOption}, Result.{result_ok}, List.{list_any}}
 use Rattle.mdp_math.proofs.Booleans.{or-true}
 use Rattle.mdp_spec.specs.Tree.{is_marked}
 use Rattle.mdp_subsystem_rules.specs.Kept.{is_listed, kept_marks, looked_up, spread, Ascends}

@@ -1,23 +1,16 @@
 -- What is listed of marks, values and ranks: the lists have the shape of a certificate, and its rules read of them what they are listed of.
 use Rattle.std.proofs.Common.{◌≡◌, ℕ, zero, suc, ◌+◌, ◌<◌, ◌≤◌, ⊎_elim, Bool, true, false, true≢false, ◌||◌, ◌&&◌, cond, eqb, ltb, List, [], ◌∷◌, map, length, get_or}
-use Rattle.std.proofs.Common.{refl, sym, ap, subst, ◌∙◌, pos, arith}
-use Rattle.std.specs.List.{All, filter, range_with_len}
-use Rattle.std.proofs.lemmas.Bool.{cases_lt, eqb-true, lt-ltb}
-use Rattle.std.proofs.lemmas.List.{ext_get_or, get_or_past, length-map}
-use Rattle.std.proofs.lemmas.List.FromFn.{get_or-range_with_len, length-range_with_len}
+use Rattle.std.proofs.{Common.{refl, sym, ap, subst, ◌∙◌, pos, arith}, lemmas.Bool.{cases_lt, eqb-true, lt-ltb}}
+use Rattle.std.proofs.{lemmas.List.{ext_get_or, get_or_past, length-map}, lemmas.List.FromFn.{get_or-range_with_len, length-range_with_len}}
 use Rattle.std.proofs.lemmas.Map.Views.{any-filter_same}
+use Rattle.std.specs.List.{All, filter, range_with_len}
 use Rattle.mdp_math.specs.Rational.{ℚ, of_int, lt_ℚ, ◌*ℚ◌, ◌≤ℚ◌, ◌<ℚ◌}
-use Rattle.mdp_math.proofs.Order.{0ℚ}
-use Rattle.mdp_math.proofs.Sums.{sum_of-same}
-use Rattle.mdp_spec.specs.Mdp.{Entry, Mdp, states_of, row_at, value_at}
-use Rattle.mdp_spec.specs.Tree.{is_marked}
+use Rattle.mdp_math.proofs.{Order.{0ℚ}, Sums.{sum_of-same}}
+use Rattle.mdp_spec.specs.{Mdp.{Entry, Mdp, states_of, row_at, value_at}, Tree.{is_marked}}
 use Rattle.mdp_claims.specs.declared.subsystem.Flow.{Flow}
-use Rattle.mdp_subsystem_rules.specs.Floor.{MeetsFloor, counted_value, counted_rank, counted_sum}
-use Rattle.mdp_subsystem_rules.specs.FloorChecks.{spread_values, spread_ranks}
-use Rattle.mdp_subsystem_rules.specs.Kept.{is_listed, kept_marks, looked_up, Ascends}
-use Rattle.mdp_subsystem_rules.specs.Listed.{listed, marks_at, values_at, ranks_at}
-use Rattle.mdp_subsystem_rules.specs.Shape.{is_before, no_flow, FlowsAscend, IsFlowShape, IsFloorShape}
-use Rattle.mdp_subsystem_rules.specs.Visits.{visit_flow, visit_flows}
+use Rattle.mdp_subsystem_rules.specs.{Floor.{MeetsFloor, counted_value, counted_rank, counted_sum}, FloorChecks.{spread_values, spread_ranks}}
+use Rattle.mdp_subsystem_rules.specs.{Kept.{is_listed, kept_marks, looked_up, Ascends}, Listed.{listed, marks_at, values_at, ranks_at}}
+use Rattle.mdp_subsystem_rules.specs.{Shape.{is_before, no_flow, FlowsAscend, IsFlowShape, IsFloorShape}, Visits.{visit_flow, visit_flows}}
 use Rattle.mdp_subsystem_rules.proofs.Kept.{kept_marks-at, spread-at, listed-at, length-kept_marks}
 
 -- ---- lists that ascend strictly by a number of their elements

@@ -1,33 +1,20 @@
 -- Certificates that are made so meet the rules: values and ranks of the least probability on the subsystem are a floor, and the expected visits
 -- of a policy are a flow.
 use Rattle.std.proofs.Common.{◌≡◌, ℕ, zero, suc, ◌<◌, inl, inr, ⊎_elim, Bool, true, false, ◌||◌, cond, eqb, map, List, [], ◌∷◌, get_or, length, refl, sym, ◌∙◌, ap, subst, arith, pos}
+use Rattle.std.proofs.{lemmas.Bool.{cases_Bool}, lemmas.List.Elements.{All-nil, All-cons}}
 use Rattle.std.specs.List.{All, Any, filter, range_with_len}
-use Rattle.std.proofs.lemmas.Bool.{cases_Bool}
-use Rattle.std.proofs.lemmas.List.Elements.{All-nil, All-cons}
-use Rattle.mdp_math.specs.Rational.{ℚ, of_int, lt_ℚ, ◌+ℚ◌, ◌*ℚ◌, ◌≤ℚ◌, ◌<ℚ◌}
-use Rattle.mdp_math.specs.Sum.{sum_of}
-use Rattle.mdp_math.proofs.Laws.{zero-+ℚ, zero-*ℚ, *ℚ_comm}
-use Rattle.mdp_math.proofs.Order.{0ℚ, 1ℚ, ≤ℚ_trans, ≤ℚ_of_eq, ≤ℚ_antisymm, <ℚ_irrefl, ≤ℚ_or_gt}
-use Rattle.mdp_math.proofs.Kernel.{All-head, All-tail}
+use Rattle.mdp_math.specs.{Rational.{ℚ, of_int, lt_ℚ, ◌+ℚ◌, ◌*ℚ◌, ◌≤ℚ◌, ◌<ℚ◌}, Sum.{sum_of}}
+use Rattle.mdp_math.proofs.{Laws.{zero-+ℚ, zero-*ℚ, *ℚ_comm}, Order.{0ℚ, 1ℚ, ≤ℚ_trans, ≤ℚ_of_eq, ≤ℚ_antisymm, <ℚ_irrefl, ≤ℚ_or_gt}, Kernel.{All-head, All-tail}}
 use Rattle.mdp_math.proofs.Sums.{sum_of-same}
-use Rattle.mdp_spec.specs.Mdp.{Entry, Choice, Mdp, no_choice, states_of, choices_at, row_at, value_at}
-use Rattle.mdp_spec.specs.Row.{IsMdp}
-use Rattle.mdp_spec.specs.Tree.{is_marked}
-use Rattle.mdp_spec.specs.Sub.{sub_of, loop_at, policy_on}
-use Rattle.mdp_spec.specs.Tree.{IsPolicy}
-use Rattle.mdp_spec.specs.Rules.{AreProbabilities, MeetsReachMin}
-use Rattle.mdp_spec.proofs.Above.{row_weigh}
+use Rattle.mdp_spec.specs.{Mdp.{Entry, Choice, Mdp, no_choice, states_of, choices_at, row_at, value_at}, Row.{IsMdp}, Tree.{is_marked, IsPolicy}}
+use Rattle.mdp_spec.specs.{Sub.{sub_of, loop_at, policy_on}, Rules.{AreProbabilities, MeetsReachMin}}
+use Rattle.mdp_spec.proofs.{Above.{row_weigh}, Subsystem.{stays-kept, sub-states, sub-stays, sub-loops, stays-row}}
 use Rattle.mdp_subsystem_rules.specs.Floor.{counted_value, counted_rank, MeetsFloor}
-use Rattle.mdp_claims.specs.declared.subsystem.Flow.{Flow}
 use Rattle.mdp_subsystem_rules.specs.Flow.{IsFlow, MeetsFlow, prob_to, prob_to_goals, flow_row, outflow, inflow, goal_flow, flow_value, source}
-use Rattle.mdp_subsystem_rules.specs.Visits.{AreVisitsOn, visit_flow, visit_flows}
-use Rattle.mdp_subsystem_rules.specs.Policy.{AreOfPolicy, hit_on}
-use Rattle.mdp_subsystem_rules.proofs.Bounded.{hit_on-le_flow}
-use Rattle.mdp_spec.proofs.Subsystem.{stays-kept, sub-states, sub-stays, sub-loops, stays-row}
-use Rattle.mdp_subsystem_rules.proofs.Floors.{as_kept, as_neither, lt_of_test, le_of_no_test}
-use Rattle.mdp_subsystem_rules.proofs.Extremal.{row_weigh-same}
-use Rattle.mdp_subsystem_rules.proofs.Flows.{eqb_sym}
-use Rattle.mdp_subsystem_rules.proofs.Gather.{All-range, sum_of-only}
+use Rattle.mdp_subsystem_rules.specs.{Visits.{AreVisitsOn, visit_flow, visit_flows}, Policy.{AreOfPolicy, hit_on}}
+use Rattle.mdp_claims.specs.declared.subsystem.Flow.{Flow}
+use Rattle.mdp_subsystem_rules.proofs.{Bounded.{hit_on-le_flow}, Floors.{as_kept, as_neither, lt_of_test, le_of_no_test}, Extremal.{row_weigh-same}}
+use Rattle.mdp_subsystem_rules.proofs.{Flows.{eqb_sym}, Gather.{All-range, sum_of-only}}
 
 -- ---- a floor
 

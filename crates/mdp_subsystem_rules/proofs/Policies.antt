@@ -2,28 +2,15 @@
 use Rattle.std.proofs.Common.{◌≡◌, ℕ, suc, ◌*◌, ◌<◌, ◌≤◌, ⊎_elim, Bool, true, ◌||◌, List, [], ◌∷◌, get_or, length, refl, sym, ◌∙◌, ap, subst, arith, pos}
 use Rattle.std.proofs.lemmas.Bool.{cases_Bool}
 use Rattle.mdp_math.specs.Rational.{ℚ, ratio, ◌+ℚ◌, ◌-ℚ◌, ◌≤ℚ◌, ◌<ℚ◌}
-use Rattle.mdp_math.proofs.Ring.{◌⊕◌, ⊖}
-use Rattle.mdp_math.proofs.Laws.{den-pos}
-use Rattle.mdp_math.proofs.Linear.{linear, known}
-use Rattle.mdp_math.proofs.Order.{≤ℚ_trans, ≤ℚ_of_eq, sub-pos, le-ratio}
-use Rattle.mdp_math.proofs.Powers.{unit_fraction-le}
-use Rattle.mdp_spec.specs.Mdp.{Entry, Choice, Mdp, states_of, row_at, value_at}
-use Rattle.mdp_spec.specs.Row.{IsMdp}
-use Rattle.mdp_spec.specs.Tree.{IsPolicy}
-use Rattle.mdp_spec.specs.Tree.{is_marked, unfolded}
-use Rattle.mdp_spec.specs.Sub.{sub_of, policy_on}
+use Rattle.mdp_math.proofs.{Ring.{◌⊕◌, ⊖}, Laws.{den-pos}, Linear.{linear, known}, Order.{≤ℚ_trans, ≤ℚ_of_eq, sub-pos, le-ratio}, Powers.{unit_fraction-le}}
+use Rattle.mdp_spec.specs.{Mdp.{Entry, Choice, Mdp, states_of, row_at, value_at}, Row.{IsMdp}, Tree.{IsPolicy, is_marked, unfolded}, Sub.{sub_of, policy_on}}
 use Rattle.mdp_spec.specs.Bounds.{ReachMin, SubMin, part}
-use Rattle.mdp_spec.proofs.Hits.{hit-goal}
-use Rattle.mdp_spec.proofs.Above.{row_weigh, hit-nonneg, hit-le_one}
-use Rattle.mdp_spec.proofs.Keeping.{unfolded_fits, unfolded_is_strategy}
-use Rattle.mdp_claims.specs.declared.subsystem.Flow.{Flow}
-use Rattle.mdp_subsystem_rules.specs.Flow.{IsFlow, MeetsFlow, flow_row, flow_total}
-use Rattle.mdp_subsystem_rules.specs.Fewer.{IsIncluded}
-use Rattle.mdp_subsystem_rules.specs.Policy.{AreOfPolicy, hit_on, PolicyWithin, FallsShort}
+use Rattle.mdp_spec.proofs.{Hits.{hit-goal}, Above.{row_weigh, hit-nonneg, hit-le_one}, Keeping.{unfolded_fits, unfolded_is_strategy}}
 use Rattle.mdp_spec.proofs.Subsystem.{stays, stays-goal, stays-kept, sub-states, sub-stays, stays-row, sub_is_mdp, policy_on-stays, policy_on_is, policy_on_sub}
-use Rattle.mdp_subsystem_rules.proofs.Extremal.{hit-unfolded}
-use Rattle.mdp_subsystem_rules.proofs.Flows.{inside_of_choice, close_by_flow}
-use Rattle.mdp_subsystem_rules.proofs.Fewer.{policy-fewer, in_large}
+use Rattle.mdp_claims.specs.declared.subsystem.Flow.{Flow}
+use Rattle.mdp_subsystem_rules.specs.{Flow.{IsFlow, MeetsFlow, flow_row, flow_total}, Fewer.{IsIncluded}}
+use Rattle.mdp_subsystem_rules.specs.Policy.{AreOfPolicy, hit_on, PolicyWithin, FallsShort}
+use Rattle.mdp_subsystem_rules.proofs.{Extremal.{hit-unfolded}, Flows.{inside_of_choice, close_by_flow}, Fewer.{policy-fewer, in_large}}
 
 -- ---- flows of a policy
 

@@ -2,11 +2,9 @@
 use Rattle.std.proofs.Common.{◌≡◌, ℕ, Bool, true, false, cond, List, [], ◌∷◌, set, Option, Some, None, pos, refl, sym, ◌∙◌, subst}
 use Rattle.std.proofs.lemmas.List.{length-replicate, length-set}
 use Rattle.std.specs.Prelude.{replicate, unwrap_or}
-use Rattle.mdp_math.specs.Rational.{ℚ, of_int}
-use Rattle.mdp_math.specs.Written.{written_add, written_mul}
+use Rattle.mdp_math.specs.{Rational.{ℚ, of_int}, Written.{written_add, written_mul}}
 use Rattle.mdp_math.proofs.Options.{Some_same, step_told}
-use Rattle.mdp_spec.specs.Mdp.{Entry, Mdp, value_at}
-use Rattle.mdp_spec.specs.Tree.{is_marked}
+use Rattle.mdp_spec.specs.{Mdp.{Entry, Mdp, value_at}, Tree.{is_marked}}
 use Rattle.mdp_claims.specs.declared.subsystem.Flow.{Flow}
 use Rattle.mdp_subsystem_rules.specs.Flow.{flow_row}
 use Rattle.mdp_subsystem_rules.specs.Sums.{FlowSums, AreSums, first_sums, with_outflow, with_goal, with_inflow, with_entry, with_row, with_flow, after_flow, after_flows}

@@ -1,10 +1,7 @@
 -- Two subsystems of a model, of which one keeps each state that the other keeps: on the larger one no chance is smaller.
 use Rattle.std.specs.Prelude.{◌≡◌, ℕ, ◌<◌, Bool, true, List}
 use Rattle.mdp_math.specs.Rational.{◌≤ℚ◌}
-use Rattle.mdp_spec.specs.Mdp.{Mdp, states_of}
-use Rattle.mdp_spec.specs.Tree.{Tree, IsStrategy, is_marked}
-use Rattle.mdp_spec.specs.Hit.{hit}
-use Rattle.mdp_spec.specs.Sub.{sub_of}
+use Rattle.mdp_spec.specs.{Mdp.{Mdp, states_of}, Tree.{Tree, IsStrategy, is_marked}, Hit.{hit}, Sub.{sub_of}}
 
 -- each state that is kept is also one of `more`
 abbrev pub IsIncluded : Mdp → List Bool → List Bool → Type 0

@@ -10,15 +10,10 @@
 use Rattle.std.specs.Prelude.{ℕ, ◌==◌, Bool, ◌||◌, not, nat_lt, List, [], ◌∷◌, ◌++◌, length, map, slice_index, Some, None, pos, if◌then◌else◌}
 use Rattle.std.specs.List.{All, flat_map, list_any, range_with_len}
 use Rattle.mdp_math.specs.Rational.{ℚ, of_int, lt_ℚ}
-use Rattle.mdp_spec.specs.Mdp.{Mdp, states_of, row_at, value_at}
-use Rattle.mdp_spec.specs.Tree.{is_marked}
-use Rattle.mdp_farkas.specs.Bellman.{sum_stands}
-use Rattle.mdp_farkas.specs.Compare.{0ℚ, 1ℚ, is_at_least, is_at_most}
-use Rattle.mdp_farkas.specs.Verdict.{Check, InWidth, at_state, at_choice, at_choices}
+use Rattle.mdp_spec.specs.{Mdp.{Mdp, states_of, row_at, value_at}, Tree.{is_marked}}
+use Rattle.mdp_farkas.specs.{Bellman.{sum_stands}, Compare.{0ℚ, 1ℚ, is_at_least, is_at_most}, Verdict.{Check, InWidth, at_state, at_choice, at_choices}}
 use Rattle.mdp_rows.specs.declared.dir.Dir.TheVariants.{Min}
-use Rattle.mdp_subsystem_rules.specs.Floor.{MeetsFloor, counted_value, counted_rank}
-use Rattle.mdp_subsystem_rules.specs.FlowChecks.{kept_check}
-use Rattle.mdp_subsystem_rules.specs.Kept.{kept_marks, spread}
+use Rattle.mdp_subsystem_rules.specs.{Floor.{MeetsFloor, counted_value, counted_rank}, FlowChecks.{kept_check}, Kept.{kept_marks, spread}}
 use Rattle.mdp_claims.specs.declared.rule.Rule.TheVariants.{Probability, RankFalls, RankZero, StartReachesThreshold, ValueOnEachChoice}
 
 -- the values of a certificate's lines, one per state, and the ranks

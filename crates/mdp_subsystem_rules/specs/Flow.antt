@@ -1,11 +1,8 @@
 -- The rules for a flow, in exact numbers: a flow from the start to the goals along the choices of kept states (Funke, Jantsch and Baier 2020).
 -- No kept state lets out more than what comes in, where the start gets 1 from outside; and what comes to the goals is the threshold at least.
 use Rattle.std.specs.Prelude.{◌≡◌, ◌==◌, ℕ, ◌<◌, Bool, true, false, List, length, pos, All, if◌then◌else◌}
-use Rattle.mdp_math.specs.Rational.{ℚ, of_int, ◌+ℚ◌, ◌*ℚ◌, ◌≤ℚ◌, ◌<ℚ◌}
-use Rattle.mdp_math.specs.Pivot.{entry_at}
-use Rattle.mdp_math.specs.Sum.{sum_of}
-use Rattle.mdp_spec.specs.Mdp.{Entry, Mdp, states_of, choices_at, row_at}
-use Rattle.mdp_spec.specs.Tree.{is_marked}
+use Rattle.mdp_math.specs.{Rational.{ℚ, of_int, ◌+ℚ◌, ◌*ℚ◌, ◌≤ℚ◌, ◌<ℚ◌}, Pivot.{entry_at}, Sum.{sum_of}}
+use Rattle.mdp_spec.specs.{Mdp.{Entry, Mdp, states_of, choices_at, row_at}, Tree.{is_marked}}
 use Rattle.mdp_claims.specs.declared.subsystem.Flow.{Flow}
 
 -- the probability that a row leads to state t, and to a goal

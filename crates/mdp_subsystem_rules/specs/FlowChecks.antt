@@ -7,19 +7,12 @@
 -- then
 --     rule 22  what leaves a kept state is at most what comes in, where the start gets 1 from outside
 --     rule 23  what comes to the goals, and 1 where the start is a goal, is at least the threshold
-use Rattle.std.specs.Prelude.{ℕ, Bool, true, ◌&&◌, not, List, [], ◌∷◌, ◌++◌, map, Some, None, option_map, pos}
-use Rattle.std.specs.List.{All}
+use Rattle.std.specs.{Prelude.{ℕ, Bool, true, ◌&&◌, not, List, [], ◌∷◌, ◌++◌, map, Some, None, option_map, pos}, List.{All}}
 use Rattle.mdp_math.specs.Rational.{ℚ, of_int, lt_ℚ}
-use Rattle.mdp_spec.specs.Mdp.{Mdp, states_of, value_at}
-use Rattle.mdp_spec.specs.Tree.{is_marked}
-use Rattle.mdp_farkas.specs.Compare.{is_at_least, is_at_most}
-use Rattle.mdp_farkas.specs.Reach.{choice_exists}
-use Rattle.mdp_farkas.specs.Verdict.{Check, InWidth, at_state, at_choice}
-use Rattle.mdp_claims.specs.declared.subsystem.Flow.{Flow}
-use Rattle.mdp_subsystem_rules.specs.Flow.{MeetsFlow}
-use Rattle.mdp_subsystem_rules.specs.Kept.{kept_marks}
-use Rattle.mdp_subsystem_rules.specs.Sums.{FlowSums, first_sums, with_flow, after_flow, after_flows}
-use Rattle.mdp_claims.specs.declared.rule.Rule.TheVariants.{FlowsBalance, FlowsReachGoals, StateIsKept}
+use Rattle.mdp_spec.specs.{Mdp.{Mdp, states_of, value_at}, Tree.{is_marked}}
+use Rattle.mdp_farkas.specs.{Compare.{is_at_least, is_at_most}, Reach.{choice_exists}, Verdict.{Check, InWidth, at_state, at_choice}}
+use Rattle.mdp_claims.specs.{declared.subsystem.Flow.{Flow}, declared.rule.Rule.TheVariants.{FlowsBalance, FlowsReachGoals, StateIsKept}}
+use Rattle.mdp_subsystem_rules.specs.{Flow.{MeetsFlow}, Kept.{kept_marks}, Sums.{FlowSums, first_sums, with_flow, after_flow, after_flows}}
 
 -- rule 21 at a kept state, and at a flow
 abbrev pub kept_check : List Bool → ℕ → Check

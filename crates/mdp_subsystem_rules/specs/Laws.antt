@@ -2,25 +2,13 @@
 -- certificate that meets them.
 use Rattle.std.specs.Prelude.{◌≡◌, ℕ, ◌<◌, Bool, true, false, ◌||◌, List, length}
 use Rattle.mdp_math.specs.Rational.{ℚ, ◌≤ℚ◌, ◌<ℚ◌}
-use Rattle.mdp_spec.specs.Mdp.{Mdp, states_of, value_at}
-use Rattle.mdp_spec.specs.Row.{IsMdp}
-use Rattle.mdp_spec.specs.Rules.{MeetsReachMin}
-use Rattle.mdp_spec.specs.Tree.{IsPolicy, is_marked}
-use Rattle.mdp_spec.specs.Sub.{sub_of, policy_on}
+use Rattle.mdp_spec.specs.{Mdp.{Mdp, states_of, value_at}, Row.{IsMdp}, Rules.{MeetsReachMin}, Tree.{IsPolicy, is_marked}, Sub.{sub_of, policy_on}}
 use Rattle.mdp_spec.specs.Bounds.{ReachMax, ReachMin, SubMax, SubMaxWithin, SubMin}
 use Rattle.mdp_farkas.specs.Verdict.{verdict_of}
-use Rattle.mdp_claims.specs.declared.verdict.Fault.{Fault}
-use Rattle.mdp_claims.specs.declared.verdict.Verdict.TheVariants.{No}
-use Rattle.mdp_subsystem_rules.specs.Floor.{MeetsFloor}
-use Rattle.mdp_subsystem_rules.specs.FloorChecks.{floor_checks, spread_values, spread_ranks}
-use Rattle.mdp_subsystem_rules.specs.FlowChecks.{flow_checks}
-use Rattle.mdp_subsystem_rules.specs.Kept.{kept_marks}
-use Rattle.mdp_subsystem_rules.specs.Listed.{listed, marks_at, values_at, ranks_at}
-use Rattle.mdp_subsystem_rules.specs.Shape.{IsFlowShape, IsFloorShape}
-use Rattle.mdp_claims.specs.declared.subsystem.Flow.{Flow}
-use Rattle.mdp_subsystem_rules.specs.Flow.{MeetsFlow, flow_total, flow_value}
-use Rattle.mdp_subsystem_rules.specs.Fewer.{IsIncluded, ReachesMore}
-use Rattle.mdp_subsystem_rules.specs.Visits.{AreVisitsOn, visit_flows}
+use Rattle.mdp_claims.specs.{declared.verdict.Fault.{Fault}, declared.verdict.Verdict.TheVariants.{No}, declared.subsystem.Flow.{Flow}}
+use Rattle.mdp_subsystem_rules.specs.{Floor.{MeetsFloor}, FloorChecks.{floor_checks, spread_values, spread_ranks}, FlowChecks.{flow_checks}, Kept.{kept_marks}}
+use Rattle.mdp_subsystem_rules.specs.{Listed.{listed, marks_at, values_at, ranks_at}, Shape.{IsFlowShape, IsFloorShape}}
+use Rattle.mdp_subsystem_rules.specs.{Flow.{MeetsFlow, flow_total, flow_value}, Fewer.{IsIncluded, ReachesMore}, Visits.{AreVisitsOn, visit_flows}}
 use Rattle.mdp_subsystem_rules.specs.Policy.{AreOfPolicy, hit_on, PolicyWithin, FallsShort}
 
 -- ---- the rules

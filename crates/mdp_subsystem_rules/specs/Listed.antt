@@ -1,10 +1,8 @@
 -- What is printed of marks, values and ranks that a solver has for each state: the kept states ascending, and for each of them whether it is
 -- marked as wide, its value and its rank.
-use Rattle.std.specs.Prelude.{ℕ, Bool, List, map, slice_index}
-use Rattle.std.specs.List.{filter, range_with_len}
+use Rattle.std.specs.{Prelude.{ℕ, Bool, List, map, slice_index}, List.{filter, range_with_len}}
 use Rattle.mdp_math.specs.Rational.{ℚ}
-use Rattle.mdp_spec.specs.Mdp.{value_at}
-use Rattle.mdp_spec.specs.Tree.{is_marked}
+use Rattle.mdp_spec.specs.{Mdp.{value_at}, Tree.{is_marked}}
 
 -- the marked ones of n states, ascending
 abbrev pub listed : ℕ → List Bool → List ℕ

@@ -1,11 +1,7 @@
 -- What a policy does on a subsystem: how close it comes to a threshold there, and when it falls short of it.
 use Rattle.std.specs.Prelude.{◌≡◌, ℕ, ◌≤◌, Bool, List, slice_index, All}
 use Rattle.mdp_math.specs.Rational.{ℚ, ◌+ℚ◌, ◌*ℚ◌, ◌≤ℚ◌}
-use Rattle.mdp_spec.specs.Mdp.{Mdp}
-use Rattle.mdp_spec.specs.Tree.{unfolded}
-use Rattle.mdp_spec.specs.Hit.{hit}
-use Rattle.mdp_spec.specs.Sub.{sub_of}
-use Rattle.mdp_spec.specs.Bounds.{part, whole}
+use Rattle.mdp_spec.specs.{Mdp.{Mdp}, Tree.{unfolded}, Hit.{hit}, Sub.{sub_of}, Bounds.{part, whole}}
 use Rattle.mdp_claims.specs.declared.subsystem.Flow.{Flow}
 
 -- each flow takes the choice of the policy

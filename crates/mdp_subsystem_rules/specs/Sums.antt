@@ -1,10 +1,8 @@
 -- The written sums of a flow: what leaves each state, what comes to each state that is no goal, and what comes to all goals together. They are
 -- nothing where a term of one of their operations is past width.
 use Rattle.std.specs.Prelude.{◌≡◌, ℕ, length, Bool, List, [], ◌∷◌, Option, Some, pos, replicate, slice_set, unwrap_or, if◌then◌else◌}
-use Rattle.mdp_math.specs.Rational.{ℚ, of_int}
-use Rattle.mdp_math.specs.Written.{written_add, written_mul, ◌>>=◌}
-use Rattle.mdp_spec.specs.Mdp.{Entry, Mdp, value_at}
-use Rattle.mdp_spec.specs.Tree.{is_marked}
+use Rattle.mdp_math.specs.{Rational.{ℚ, of_int}, Written.{written_add, written_mul, ◌>>=◌}}
+use Rattle.mdp_spec.specs.{Mdp.{Entry, Mdp, value_at}, Tree.{is_marked}}
 use Rattle.mdp_claims.specs.declared.subsystem.Flow.{Flow}
 use Rattle.mdp_subsystem_rules.specs.Flow.{flow_row, goal_source}
 

@@ -1,10 +1,7 @@
 -- Flows that are made of expected visits: how often a policy that begins at the start leaves each kept state.
-use Rattle.std.specs.Prelude.{◌≡◌, ℕ, ◌<◌, Bool, true, false, List, map, slice_index, pos}
-use Rattle.std.specs.List.{filter, range_with_len}
-use Rattle.mdp_math.specs.Rational.{ℚ, of_int, lt_ℚ, ◌+ℚ◌, ◌*ℚ◌, ◌≤ℚ◌}
-use Rattle.mdp_math.specs.Sum.{sum_of}
-use Rattle.mdp_spec.specs.Mdp.{Mdp, states_of, row_at, value_at}
-use Rattle.mdp_spec.specs.Tree.{is_marked}
+use Rattle.std.specs.{Prelude.{◌≡◌, ℕ, ◌<◌, Bool, true, false, List, map, slice_index, pos}, List.{filter, range_with_len}}
+use Rattle.mdp_math.specs.{Rational.{ℚ, of_int, lt_ℚ, ◌+ℚ◌, ◌*ℚ◌, ◌≤ℚ◌}, Sum.{sum_of}}
+use Rattle.mdp_spec.specs.{Mdp.{Mdp, states_of, row_at, value_at}, Tree.{is_marked}}
 use Rattle.mdp_claims.specs.declared.subsystem.Flow.{Flow}
 use Rattle.mdp_subsystem_rules.specs.Flow.{prob_to, source}
 

@@ -1,19 +1,11 @@
-ghost use Rattle.std.specs.Prelude.{◌≡◌, ◌<◌, ◌↔◌, ◌||◌, not, length, [], ◌∷◌, All, MatchOption, nat_lt, slice_index, false};
-ghost use Rattle.std.specs.Result.{result_ok};
+ghost use Rattle.std.specs.{Prelude.{◌≡◌, ◌<◌, ◌↔◌, ◌||◌, not, length, [], ◌∷◌, All, MatchOption, nat_lt, slice_index, false}, Result.{result_ok}};
 ghost use Rattle.mdp_math.specs.Rational.{lt_ℚ};
-ghost use Rattle.mdp_spec.specs.Bounds.{SubMin};
-ghost use Rattle.mdp_spec.specs.Mdp.{states_of, choices_at, value_at};
-ghost use Rattle.mdp_spec.specs.Row.{entries};
-ghost use Rattle.mdp_spec.specs.Tree.{is_marked};
-ghost use Rattle.mdp_spec.specs.Written.{written_sum};
-ghost use Rattle.mdp_farkas.specs.Bellman.{sum_stands};
-ghost use Rattle.mdp_farkas.specs.Compare.{0ℚ};
-ghost use Rattle.mdp_farkas.specs.Verdict.{verdict_of, IsYes, IfYes, objection_to};
+ghost use Rattle.mdp_spec.specs.{Bounds.{SubMin}, Mdp.{states_of, choices_at, value_at}, Row.{entries}, Tree.{is_marked}, Written.{written_sum}};
+ghost use Rattle.mdp_farkas.specs.{Bellman.{sum_stands}, Compare.{0ℚ}, Verdict.{verdict_of, IsYes, IfYes, objection_to}};
 ghost use Rattle.mdp_rows.specs.declared.dir.Dir.TheVariants.{Min};
 ghost use Rattle.mdp_subsystem_rules.specs.FloorChecks.{line_rank, line_values, value_checks, cover_check, cover_checks, fall_check};
 ghost use Rattle.mdp_subsystem_rules.specs.FloorChecks.{rank_checks, line_checks, checks_of_line, each_line, floor_checks, HoldsFloor};
-ghost use Rattle.mdp_subsystem_rules.specs.Kept.{is_listed, kept_marks};
-ghost use Rattle.mdp_subsystem_rules.specs.Shape.{IsFloorShape};
+ghost use Rattle.mdp_subsystem_rules.specs.{Kept.{is_listed, kept_marks}, Shape.{IsFloorShape}};
 
 use crate::flow::kept_at;
 use mdp_claims::FloorCert;

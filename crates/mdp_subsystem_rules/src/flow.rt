@@ -1,12 +1,9 @@
 ghost use Rattle.std.specs.Prelude.{◌≡◌, ◌<◌, ◌↔◌, length, [], ◌∷◌, ◌++◌, map, All, IfOk, OnOk};
-ghost use Rattle.mdp_spec.specs.Bounds.{SubMax, SubMaxWithin};
-ghost use Rattle.mdp_spec.specs.Mdp.{states_of};
+ghost use Rattle.mdp_spec.specs.{Bounds.{SubMax, SubMaxWithin}, Mdp.{states_of}};
 ghost use Rattle.mdp_farkas.specs.Verdict.{verdict_of, IsYes, IfYes, objection_to};
 ghost use Rattle.mdp_subsystem_rules.specs.Flow.{flow_total};
 ghost use Rattle.mdp_subsystem_rules.specs.FlowChecks.{kept_check, flow_check, checks_at, each_flow, balance_check, sum_checks, checks_from, flow_checks, HoldsFlow};
-ghost use Rattle.mdp_subsystem_rules.specs.Kept.{kept_marks};
-ghost use Rattle.mdp_subsystem_rules.specs.Shape.{IsFlowShape};
-ghost use Rattle.mdp_subsystem_rules.specs.Sums.{AreSums, after_flow, after_flows};
+ghost use Rattle.mdp_subsystem_rules.specs.{Kept.{kept_marks}, Shape.{IsFlowShape}, Sums.{AreSums, after_flow, after_flows}};
 
 use crate::lines::kept_marks_of;
 use crate::sums::Sums;

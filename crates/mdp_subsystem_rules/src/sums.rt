@@ -1,6 +1,5 @@
 ghost use Rattle.std.specs.Prelude.{◌≡◌, ◌<◌, length, All, IfOk, MatchResult, Some, None};
-ghost use Rattle.mdp_spec.specs.Mdp.{Entry, states_of, choices_at};
-ghost use Rattle.mdp_spec.specs.Row.{entries};
+ghost use Rattle.mdp_spec.specs.{Mdp.{Entry, states_of, choices_at}, Row.{entries}};
 ghost use Rattle.mdp_subsystem_rules.specs.Flow.{goal_source};
 ghost use Rattle.mdp_subsystem_rules.specs.Sums.{AreSums, first_sums, with_outflow, with_goal, with_inflow, with_entry, with_row, with_flow};
 

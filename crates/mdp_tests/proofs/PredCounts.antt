@@ -1,7 +1,6 @@
 -- How many lists of predecessors there are.
-use Rattle.std.proofs.Common.{◌≡◌, length, map}
+use Rattle.std.proofs.{Common.{◌≡◌, length, map}, lemmas.List.FromFn.{length-map-range_with_len}}
 use Rattle.std.specs.List.{range_with_len}
-use Rattle.std.proofs.lemmas.List.FromFn.{length-map-range_with_len}
 use Rattle.mdp_spec.specs.Mdp.{Mdp, states_of}
 use Rattle.mdp_rows.specs.Preds.{preds_to}
 

@@ -5,9 +5,8 @@ ghost use Rattle.mdp_parts.specs.FoundEnds.{AreEndsOf};
 ghost use Rattle.mdp_ends.specs.Ends.{count_of};
 
 use crate::models::model_of;
-use mdp_gain::{Inner, solve_inner};
+use mdp_gain::{Inner, members_of, solve_alone, solve_inner};
 use mdp_num::Frac;
-use mdp_part_model::{members_of, solve_alone};
 use mdp_parts::{Ends, end_components};
 use mdp_rows::{Dir, Model};
 use std::alloc::Global;

@@ -1,16 +1,10 @@
 -- What stands behind a front of a text, and behind a name.
 use Rattle.std.proofs.Common.{◌≡◌, ℕ, Bool, true, false, cond, List, ◌∷◌, ◌++◌, length, take, drop, Option, Some, None, refl, sym, ap, ap₂, subst, ◌∙◌}
-use Rattle.std.specs.Prelude.{codes}
-use Rattle.std.specs.List.{position_or_len, before_first}
-use Rattle.std.specs.Option.{option_map}
-use Rattle.std.specs.Str.{bytes_eq}
-use Rattle.std.proofs.lemmas.List.{take-append-drop}
-use Rattle.std.proofs.Math.Seq.{take-append_seam, drop-append_seam}
+use Rattle.std.proofs.{lemmas.List.{take-append-drop}, Math.Seq.{take-append_seam, drop-append_seam}}
+use Rattle.std.specs.{Prelude.{codes}, List.{position_or_len, before_first}, Option.{option_map}, Str.{bytes_eq}}
 use Rattle.mdp_rows.specs.Name.{is_name}
 use Rattle.mdp_text.specs.Words.{behind, is_quote, name_and_rest}
-use Rattle.mdp_text.proofs.Pieces.{quote-free-name}
-use Rattle.mdp_text.proofs.Cuts.{bytes_same, bytes_self}
-use Rattle.mdp_text.proofs.Feeds.{byte-after}
+use Rattle.mdp_text.proofs.{Pieces.{quote-free-name}, Cuts.{bytes_same, bytes_self}, Feeds.{byte-after}}
 
 pub behind-found : (front text rest : List ℕ) → behind front text ≡ Some rest → text ≡ front ++ rest
 behind-found front text rest e = by (bytes_eq (take (length front) text) front) refl e

@@ -1,17 +1,10 @@
 -- Cutting at the first line feed and at the first blank.
 use Rattle.std.proofs.Common.{◌≡◌, ℕ, suc, ◌+◌, ◌-◌, ◌<◌, ◌≤◌, Bool, true, false, cond, eqb, ltb, ◌&&◌}
-use Rattle.std.proofs.Common.{List, [], ◌∷◌, length, take, drop, Ok, Err, refl, sym, ap, ap₂, ◌∙◌, arith}
-use Rattle.std.specs.Str.{bytes_eq}
-use Rattle.std.specs.Cmp.Lexicographic.{bytes_decides}
-use Rattle.std.proofs.lemmas.Bool.{and_parts}
-use Rattle.std.specs.List.{position_or_len, count_by, join_with_byte}
-use Rattle.std.proofs.lemmas.Bool.Decides.{nat_tests}
-use Rattle.std.proofs.lemmas.List.{take_all, length-drop}
-use Rattle.std.proofs.lemmas.List.Sums.{fails_before_first}
+use Rattle.std.proofs.{Common.{List, [], ◌∷◌, length, take, drop, Ok, Err, refl, sym, ap, ap₂, ◌∙◌, arith}, lemmas.Bool.{and_parts}}
+use Rattle.std.proofs.{lemmas.Bool.Decides.{nat_tests}, lemmas.List.{take_all, length-drop}, lemmas.List.Sums.{fails_before_first}}
 use Rattle.std.proofs.lemmas.List.Splits.{slice_split_first, slice_split_none, length-slice_split, join_with_byte-slice_split}
-use Rattle.mdp_text.specs.declared.error.CertKind.TheVariants.{End, Shape}
-use Rattle.mdp_text.specs.declared.error.Refusal.{Refusal}
-use Rattle.mdp_text.specs.Lines.{next_line, place, is_line_feed, refused}
+use Rattle.std.specs.{Str.{bytes_eq}, Cmp.Lexicographic.{bytes_decides}, List.{position_or_len, count_by, join_with_byte}}
+use Rattle.mdp_text.specs.{declared.error.CertKind.TheVariants.{End, Shape}, declared.error.Refusal.{Refusal}, Lines.{next_line, place, is_line_feed, refused}}
 use Rattle.mdp_text.specs.Words.{is_blank, words, first_of, begins_with, words_behind}
 
 pub bytes_same : (xs ys : List ℕ) → bytes_eq xs ys ≡ true → xs ≡ ys

@@ -1,19 +1,14 @@
 -- Worked words, lines and heads, by computation.
 use Rattle.std.proofs.Common.{◌≡◌, true, false, [], ◌∷◌, Some, None, Ok, refl, negsuc}
-use Rattle.std.specs.Prelude.{codes}
-use Rattle.std.specs.Fmt.{digits}
-use Rattle.mdp_math.specs.Gcd.{gcd, gcd_with_fuel}
-use Rattle.mdp_math.specs.Rational.{ratio}
+use Rattle.std.specs.{Prelude.{codes}, Fmt.{digits}}
+use Rattle.mdp_math.specs.{Gcd.{gcd, gcd_with_fuel}, Rational.{ratio}}
 use Rattle.mdp_math.proofs.Tables.{AreEqual}
-use Rattle.mdp_num.specs.Value.{spelling}
-use Rattle.mdp_num.specs.Canonical.{canonical_of}
+use Rattle.mdp_num.specs.{Value.{spelling}, Canonical.{canonical_of}}
 use Rattle.mdp_spec.proofs.Small.{third}
-use Rattle.mdp_text.specs.declared.error.CertKind.TheVariants.{Shape, Number, Count, End}
-use Rattle.mdp_text.specs.declared.init.Init.TheVariants.{Missing, Finite, Infinite, Start}
+use Rattle.mdp_text.specs.{declared.error.CertKind.TheVariants.{Shape, Number, Count, End}, declared.init.Init.TheVariants.{Missing, Finite, Infinite, Start}}
 use Rattle.mdp_text.specs.Lines.{refused, place, next_line, is_line, nothing_behind}
 use Rattle.mdp_text.specs.Words.{words, words_behind, behind, whole_of, whole_at, frac_at, reward_parse}
-use Rattle.mdp_text.specs.Heads.{states_at, given_at, valued_at, start_at, init_by}
-use Rattle.mdp_text.specs.Spelling.{init_text, value_lines}
+use Rattle.mdp_text.specs.{Heads.{states_at, given_at, valued_at, start_at, init_by}, Spelling.{init_text, value_lines}}
 
 -- ---- lines
 

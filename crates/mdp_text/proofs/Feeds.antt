@@ -1,29 +1,18 @@
 -- Each line is read exactly where it is its text.
 use Rattle.std.proofs.Common.{◌≡◌, ◌⊎◌, inl, inr, ℕ, ◌+◌, ◌<◌, ◌^◌, Bool, true, false, not, cond, eqb, ltb, ◌||◌, List, [], ◌∷◌, ◌++◌, length, take, drop}
 use Rattle.std.proofs.Common.{get_or, decimal, Option, Some, None, Result, Ok, Err, refl, sym, ap, subst, ◌∙◌, append_assoc, arith, lit<, ℤ, pos, negsuc, unsigned_abs}
-use Rattle.std.specs.List.{position_or_len, before_first, after_first}
-use Rattle.std.specs.Option.{option_and_then, option_or}
-use Rattle.std.specs.Str.{bytes_eq}
-use Rattle.std.proofs.lemmas.Bool.{not-false, both_ways, lt-ltb}
-use Rattle.std.proofs.lemmas.Bool.Decides.{nat_tests}
-use Rattle.std.proofs.lemmas.List.{length-append, get_or-take}
-use Rattle.std.proofs.lemmas.List.Folds.{list_any_none, length-prefix_len}
-use Rattle.std.proofs.lemmas.List.Sums.{split_at_first, passes_at_first, fails_before_first}
+use Rattle.std.proofs.{lemmas.Bool.{not-false, both_ways, lt-ltb}, lemmas.Bool.Decides.{nat_tests}, lemmas.List.{length-append, get_or-take}}
+use Rattle.std.proofs.{lemmas.List.Folds.{list_any_none, length-prefix_len}, lemmas.List.Sums.{split_at_first, passes_at_first, fails_before_first}}
 use Rattle.std.proofs.Math.Seq.{take-append_seam, drop-append-add}
-use Rattle.mdp_math.specs.Gcd.{gcd-one_right}
-use Rattle.mdp_math.specs.Rational.{ℚ, ratio}
+use Rattle.std.specs.{List.{position_or_len, before_first, after_first}, Option.{option_and_then, option_or}, Str.{bytes_eq}}
+use Rattle.mdp_math.specs.{Gcd.{gcd-one_right}, Rational.{ℚ, ratio}}
 use Rattle.mdp_math.proofs.Laws.{num-ratio, den-ratio}
-use Rattle.mdp_num.specs.Value.{spelling, IsNarrow}
-use Rattle.mdp_num.specs.Canonical.{canonical_of}
+use Rattle.mdp_num.specs.{Value.{spelling, IsNarrow}, Canonical.{canonical_of}}
 use Rattle.mdp_num.proofs.Spellings.{sound, complete}
-use Rattle.mdp_text.specs.declared.error.CertKind.{CertKind}
-use Rattle.mdp_text.specs.declared.error.CertKind.TheVariants.{Number, End}
-use Rattle.mdp_text.specs.declared.error.Refusal.{Refusal}
-use Rattle.mdp_text.specs.Lines.{◌>>=◌, refuse_if, or_refused, Place, place, next_line, line_by, is_line, is_line_feed, nothing_behind}
-use Rattle.mdp_text.specs.Spelling.{line}
+use Rattle.mdp_text.specs.{declared.error.CertKind.{CertKind}, declared.error.CertKind.TheVariants.{Number, End}, declared.error.Refusal.{Refusal}}
+use Rattle.mdp_text.specs.{Lines.{◌>>=◌, refuse_if, or_refused, Place, place, next_line, line_by, is_line, is_line_feed, nothing_behind}, Spelling.{line}}
 use Rattle.mdp_text.specs.Words.{whole_part, whole_of, whole_at, frac_at}
-use Rattle.mdp_text.proofs.Cuts.{guard_ok, bytes_same, bytes_self}
-use Rattle.mdp_text.proofs.Pieces.{Free, whole-small}
+use Rattle.mdp_text.proofs.{Cuts.{guard_ok, bytes_same, bytes_self}, Pieces.{Free, whole-small}}
 
 pub ok-is : {A : Type 0} (x y : A) → (let r : Result A Refusal = Ok x in r) ≡ Ok y → x ≡ y
 ok-is x y e = cc

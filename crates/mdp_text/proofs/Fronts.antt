@@ -1,6 +1,5 @@
 -- What stands at the front of a text that grows.
-use Rattle.std.proofs.Common.{◌≡◌, ℕ, List, [], ◌++◌, length, take, drop, sym, ap, ◌∙◌, append_assoc, append-nil}
-use Rattle.std.proofs.Math.Seq.{take-append_seam}
+use Rattle.std.proofs.{Common.{◌≡◌, ℕ, List, [], ◌++◌, length, take, drop, sym, ap, ◌∙◌, append_assoc, append-nil}, Math.Seq.{take-append_seam}}
 use Rattle.std.proofs.lemmas.List.{take-append-drop}
 use Rattle.mdp_text.specs.Answer.{Keeps}
 

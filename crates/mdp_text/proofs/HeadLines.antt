@@ -1,12 +1,8 @@
 -- The lines of claim, states and init are read exactly where they are the texts of what is read.
 use Rattle.std.proofs.Common.{◌≡◌, ℕ, ◌+◌, ◌<◌, ◌≤◌, ◌^◌, List, ◌++◌, Result, Ok, sym, ap, subst, ◌∙◌, append_assoc}
-use Rattle.mdp_text.specs.declared.error.Refusal.{Refusal}
-use Rattle.mdp_text.specs.Lines.{◌>>=◌, Place, place, line_by}
-use Rattle.mdp_text.specs.Heads.{states_at, Head, head_by}
+use Rattle.mdp_text.specs.{declared.error.Refusal.{Refusal}, Lines.{◌>>=◌, Place, place, line_by}, Heads.{states_at, Head, head_by}}
 use Rattle.mdp_text.specs.Spelling.{line, states_text}
-use Rattle.mdp_text.proofs.Pieces.{Free}
-use Rattle.mdp_text.proofs.Feeds.{bind_ok, ok-is, judged-found, judged-again}
-use Rattle.mdp_text.proofs.States.{states-found, states-again, free-states}
+use Rattle.mdp_text.proofs.{Pieces.{Free}, Feeds.{bind_ok, ok-is, judged-found, judged-again}, States.{states-found, states-again, free-states}}
 
 -- what is read behind the line of the claim, and behind that of the number of states
 module _ {C I : Type 0} (init_at : C → ℕ → ℕ → List ℕ → Result I Refusal) where

@@ -1,11 +1,9 @@
 -- The one initial state is a state.
-use Rattle.std.proofs.Common.{◌≡◌, ℕ, ◌<◌, List, [], ◌∷◌, Some, sym, subst, arith, codes}
-use Rattle.std.specs.List.{All, range_with_len}
-use Rattle.std.proofs.lemmas.List.Elements.{All-from_get_or, All-filter}
+use Rattle.std.proofs.{Common.{◌≡◌, ℕ, ◌<◌, List, [], ◌∷◌, Some, sym, subst, arith, codes}, lemmas.List.Elements.{All-from_get_or, All-filter}}
 use Rattle.std.proofs.lemmas.List.FromFn.{get_or-range_with_len, length-range_with_len}
+use Rattle.std.specs.List.{All, range_with_len}
 use Rattle.mdp_math.proofs.Kernel.{All-head}
-use Rattle.mdp_spec.specs.Mdp.{Mdp, states_of}
-use Rattle.mdp_spec.specs.Labels.{place_of, initial_of, labelled, has_at, only}
+use Rattle.mdp_spec.specs.{Mdp.{Mdp, states_of}, Labels.{place_of, initial_of, labelled, has_at, only}}
 
 only_passes : (P : ℕ → Type 0) (xs : List ℕ) (s : ℕ) → only xs ≡ Some s → All P xs → P s
 only_passes P [] s e h = cc e

@@ -1,8 +1,7 @@
 -- Lines as words: what stands behind the first word, and texts made of words.
 use Rattle.std.proofs.Common.{◌≡◌, ℕ, ◌<◌, ◌^◌, false, eqb, List, [], ◌∷◌, length, drop, decimal, Ok, refl, ap, ◌∙◌, arith}
 use Rattle.std.specs.List.{join_with_byte}
-use Rattle.mdp_text.specs.Spelling.{◌␣◌}
-use Rattle.mdp_text.specs.Words.{words, first_of, words_behind}
+use Rattle.mdp_text.specs.{Spelling.{◌␣◌}, Words.{words, first_of, words_behind}}
 use Rattle.mdp_text.proofs.Cuts.{bytes_self, same-number, behind_found, behind_shaped}
 use Rattle.mdp_text.proofs.Pieces.{Free, free-append, free-decimal, words-more, words-last, words-joined, whole-small}
 

@@ -1,18 +1,12 @@
 -- How long words and lines are.
 use Rattle.std.proofs.Common.{◌≡◌, ℕ, suc, ◌+◌, ◌<◌, ◌≤◌, ◌^◌, Bool, true, false, cond, eqb, List}
-use Rattle.std.proofs.Common.{[], ◌∷◌, ◌++◌, length, codes, decimal, refl, arith, lit<, ℤ, pos, negsuc, unsigned_abs}
+use Rattle.std.proofs.{Common.{[], ◌∷◌, ◌++◌, length, codes, decimal, refl, arith, lit<, ℤ, pos, negsuc, unsigned_abs}, lemmas.Bool.{and_parts, leb-true}}
+use Rattle.std.proofs.{lemmas.Fmt.{length-decimal-le, length-decimal-le_wide}, lemmas.List.{length-append}}
 use Rattle.std.specs.Fmt.{signed_decimal}
-use Rattle.std.proofs.lemmas.Bool.{and_parts, leb-true}
-use Rattle.std.proofs.lemmas.Fmt.{length-decimal-le, length-decimal-le_wide}
-use Rattle.std.proofs.lemmas.List.{length-append}
 use Rattle.mdp_math.specs.Rational.{ℚ}
 use Rattle.mdp_num.specs.Value.{spelling, IsNarrow}
-use Rattle.mdp_rows.specs.Name.{is_name}
-use Rattle.mdp_rows.specs.declared.dir.Dir.{Dir}
-use Rattle.mdp_rows.specs.declared.dir.Dir.TheVariants.{Max, Min}
-use Rattle.mdp_text.specs.declared.init.Init.{Init}
-use Rattle.mdp_text.specs.declared.init.Init.TheVariants.{Missing, Finite, Infinite, Start}
-use Rattle.mdp_text.specs.Heads.{IsInitInWidth}
+use Rattle.mdp_rows.specs.{Name.{is_name}, declared.dir.Dir.{Dir}, declared.dir.Dir.TheVariants.{Max, Min}}
+use Rattle.mdp_text.specs.{declared.init.Init.{Init}, declared.init.Init.TheVariants.{Missing, Finite, Infinite, Start}, Heads.{IsInitInWidth}}
 use Rattle.mdp_text.specs.Spelling.{line, ◌␣◌, quoted, dir_text, states_text, init_text}
 
 -- ---- words

@@ -1,19 +1,15 @@
 -- Texts without a byte, and words behind blanks.
 use Rattle.std.proofs.Common.{◌≡◌, ℕ, suc, ◌<◌, ◌≤◌, ◌^◌, Bool, true, false, cond, eqb, ◌||◌, List, []}
 use Rattle.std.proofs.Common.{◌∷◌, ◌++◌, length, get_or, decimal, refl, sym, ap, ◌∙◌, arith, lit<, ℤ, pos, negsuc, unsigned_abs}
-use Rattle.std.specs.Fmt.{signed_decimal}
-use Rattle.std.specs.List.{All, list_any, join_with_byte}
-use Rattle.std.proofs.lemmas.Bool.{both_ways, false_from_ne_true, and_parts, not-true}
-use Rattle.std.proofs.lemmas.Bool.Decides.{nat_tests}
-use Rattle.std.proofs.lemmas.List.{get_or_default}
+use Rattle.std.proofs.{lemmas.Bool.{both_ways, false_from_ne_true, and_parts, not-true}, lemmas.Bool.Decides.{nat_tests}, lemmas.List.{get_or_default}}
 use Rattle.std.proofs.lemmas.List.Folds.{list_any-append, list_any_none, list_any_at}
 use Rattle.std.proofs.lemmas.List.Splits.{slice_split_at, slice_split_none, join_with_byte-slice_split}
+use Rattle.std.specs.{Fmt.{signed_decimal}, List.{All, list_any, join_with_byte}}
 use Rattle.mdp_math.specs.Rational.{ℚ}
 use Rattle.mdp_num.specs.Value.{spelling, IsNarrow}
 use Rattle.mdp_num.proofs.Plain.{decimal-plain, digit-at, digit-bounds}
 use Rattle.mdp_rows.specs.Name.{is_name}
-use Rattle.mdp_text.specs.Spelling.{◌␣◌}
-use Rattle.mdp_text.specs.Words.{is_blank, words}
+use Rattle.mdp_text.specs.{Spelling.{◌␣◌}, Words.{is_blank, words}}
 
 -- ---- texts without the byte c
 

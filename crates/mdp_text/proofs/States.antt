@@ -1,18 +1,12 @@
 -- The line of the number of states, and one of a word and a fraction, are read exactly where they are their texts. So many words, one by one.
 use Rattle.std.proofs.Common.{◌≡◌, ℕ, ◌<◌, ◌≤◌, ◌^◌, false, eqb, ltb, ◌||◌, List, [], ◌∷◌, length, drop, decimal, Result, Ok, refl, ap, ◌∙◌, arith}
-use Rattle.std.specs.Prelude.{codes}
-use Rattle.std.specs.List.{join_with_byte}
 use Rattle.std.proofs.lemmas.Bool.Decides.{nat_tests}
+use Rattle.std.specs.{Prelude.{codes}, List.{join_with_byte}}
 use Rattle.mdp_math.specs.Rational.{ℚ}
 use Rattle.mdp_num.specs.Value.{spelling, IsNarrow}
-use Rattle.mdp_text.specs.declared.error.CertKind.TheVariants.{Count}
-use Rattle.mdp_text.specs.declared.error.Refusal.{Refusal}
-use Rattle.mdp_text.specs.Lines.{◌>>=◌, refuse_if}
-use Rattle.mdp_text.specs.Words.{first_of, words_behind, whole_at, frac_at}
-use Rattle.mdp_text.specs.Heads.{states_at}
-use Rattle.mdp_text.specs.Spelling.{◌␣◌, states_text}
-use Rattle.mdp_text.proofs.Pieces.{Free, free-spelling}
-use Rattle.mdp_text.proofs.Feeds.{bind_ok, ok-is, refuse_ok, whole-found, whole-again, frac-found, frac-again}
+use Rattle.mdp_text.specs.{declared.error.CertKind.TheVariants.{Count}, declared.error.Refusal.{Refusal}, Lines.{◌>>=◌, refuse_if}}
+use Rattle.mdp_text.specs.{Words.{first_of, words_behind, whole_at, frac_at}, Heads.{states_at}, Spelling.{◌␣◌, states_text}}
+use Rattle.mdp_text.proofs.{Pieces.{Free, free-spelling}, Feeds.{bind_ok, ok-is, refuse_ok, whole-found, whole-again, frac-found, frac-again}}
 use Rattle.mdp_text.proofs.Joined.{free-join, free-whole, behind-again, behind-text}
 
 abbrev pub states-range : ℕ → ℕ → Result ℕ Refusal

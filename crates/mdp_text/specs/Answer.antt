@@ -1,8 +1,6 @@
 -- How an answer of the program stands to the definition.
 use Rattle.std.specs.Prelude.{◌≡◌, ℕ, List, length, take, Result, Err}
-use Rattle.mdp_text.specs.declared.error.CertError.{CertError}
-use Rattle.mdp_text.specs.declared.error.CertError.TheVariants.{At, Memory}
-use Rattle.mdp_text.specs.declared.error.Refusal.{Refusal}
+use Rattle.mdp_text.specs.{declared.error.CertError.{CertError}, declared.error.CertError.TheVariants.{At, Memory}, declared.error.Refusal.{Refusal}}
 
 -- the refusal is the definition's, and want of memory is free
 abbrev pub Refuses : {A : Type 0} → CertError → Result A Refusal → Type 0

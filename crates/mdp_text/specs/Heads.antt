@@ -3,14 +3,10 @@
 use Rattle.std.specs.Prelude.{ℕ, ◌^◌, Bool, true, false, not, ◌||◌, List, drop, codes, Option, Some, None, option_map, Result, Ok, nat_lt, ◌==◌, if◌then◌else◌}
 use Rattle.std.specs.Str.{bytes_eq}
 use Rattle.mdp_math.specs.Rational.{ℚ}
-use Rattle.mdp_num.specs.Value.{IsNarrow}
-use Rattle.mdp_num.specs.Canonical.{canonical_of}
+use Rattle.mdp_num.specs.{Value.{IsNarrow}, Canonical.{canonical_of}}
 use Rattle.mdp_text.specs.declared.error.CertKind.TheVariants as kind
-use Rattle.mdp_text.specs.declared.error.Refusal.{Refusal}
-use Rattle.mdp_text.specs.declared.init.Init.{Init}
-use Rattle.mdp_text.specs.declared.init.Init.TheVariants.{Missing, Finite, Infinite, Start}
-use Rattle.mdp_text.specs.Lines.{◌>>=◌, refuse_if, or_refused, Place, line_by}
-use Rattle.mdp_text.specs.Words.{first_of, words_behind, whole_at, reward_parse}
+use Rattle.mdp_text.specs.{declared.error.Refusal.{Refusal}, declared.init.Init.{Init}, declared.init.Init.TheVariants.{Missing, Finite, Infinite, Start}}
+use Rattle.mdp_text.specs.{Lines.{◌>>=◌, refuse_if, or_refused, Place, line_by}, Words.{first_of, words_behind, whole_at, reward_parse}}
 
 -- from 1 to 2^20
 unfoldable pub states_at : ℕ → List ℕ → Result ℕ Refusal

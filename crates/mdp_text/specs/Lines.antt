@@ -1,11 +1,8 @@
 -- The lines of a text, one after the other: each ends with a line feed, and what it says is judged before the next one is read.
 use Rattle.std.specs.Prelude.{ℕ, ◌+◌, Bool, not, List, length, Option, Result, Ok, Err, nat_lt, ◌==◌, if◌then◌else◌}
-use Rattle.std.specs.List.{position_or_len, before_first, after_first}
-use Rattle.std.specs.Option.{ok_or}
-use Rattle.std.specs.Str.{bytes_eq}
-use Rattle.mdp_text.specs.declared.error.CertKind.{CertKind}
+use Rattle.std.specs.{List.{position_or_len, before_first, after_first}, Option.{ok_or}, Str.{bytes_eq}}
+use Rattle.mdp_text.specs.{declared.error.CertKind.{CertKind}, declared.error.Refusal.{Refusal}}
 use Rattle.mdp_text.specs.declared.error.CertKind.TheVariants as kind
-use Rattle.mdp_text.specs.declared.error.Refusal.{Refusal}
 
 infixl 10 ◌>>=◌
 abbrev pub ◌>>=◌ : {A B : Type 0} → Result A Refusal → (A → Result B Refusal) → Result B Refusal

@@ -1,8 +1,7 @@
 -- A text in parts.
 use Rattle.std.specs.Prelude.{ℕ, List, [], ◌∷◌, ◌++◌, decimal}
 use Rattle.mdp_num.specs.Value.{spelling}
-use Rattle.mdp_text.specs.declared.part.Part.{Part}
-use Rattle.mdp_text.specs.declared.part.Part.TheVariants.{Bytes, Whole, Fraction}
+use Rattle.mdp_text.specs.{declared.part.Part.{Part}, declared.part.Part.TheVariants.{Bytes, Whole, Fraction}}
 
 abbrev pub part_text : Part → List ℕ
 part_text (Bytes bytes) = bytes.now

@@ -1,14 +1,12 @@
 -- The words of a line, what stands behind a front of a text, and the numbers that words are.
 use Rattle.std.specs.Prelude.{ℕ, suc, ◌^◌, ℤ, pos, negsuc, Bool, ◌&&◌, List, [], ◌∷◌, length, take}
 use Rattle.std.specs.Prelude.{drop, codes, Option, Some, None, option_and_then, option_map, Result, Ok, nat_lt, ◌==◌, if◌then◌else◌}
-use Rattle.std.specs.List.{slice_split, position_or_len, before_first}
-use Rattle.std.specs.Str.{bytes_eq}
+use Rattle.std.specs.{List.{slice_split, position_or_len, before_first}, Str.{bytes_eq}}
 use Rattle.mdp_math.specs.Rational.{ℚ}
 use Rattle.mdp_num.specs.Canonical.{canonical_of}
 use Rattle.mdp_rows.specs.Name.{is_name}
 use Rattle.mdp_text.specs.declared.error.CertKind.TheVariants as kind
-use Rattle.mdp_text.specs.declared.error.Refusal.{Refusal}
-use Rattle.mdp_text.specs.Lines.{refused, or_refused}
+use Rattle.mdp_text.specs.{declared.error.Refusal.{Refusal}, Lines.{refused, or_refused}}
 
 abbrev pub is_blank : ℕ → Bool
 is_blank c = c == 32

@@ -1,6 +1,5 @@
 ghost use Rattle.std.specs.Prelude.{◌≡◌};
-ghost use Rattle.mdp_text.specs.Kinds.{cert_word};
-ghost use Rattle.mdp_text.specs.declared.error.CertError.TheVariants.{At, Memory};
+ghost use Rattle.mdp_text.specs.{Kinds.{cert_word}, declared.error.CertError.TheVariants.{At, Memory}};
 
 use std::alloc::{AllocError, AllocFailed};
 use std::fmt;

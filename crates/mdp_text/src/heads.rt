@@ -1,7 +1,5 @@
 ghost use Rattle.std.specs.Prelude.{◌≡◌, ◌+◌, Ok, MatchResult};
-ghost use Rattle.mdp_text.specs.Answer.{Refuses};
-ghost use Rattle.mdp_text.specs.Lines.{place, line_by};
-ghost use Rattle.mdp_text.specs.Heads.{states_at, init_parse, init_of, given_at, valued_at, start_at};
+ghost use Rattle.mdp_text.specs.{Answer.{Refuses}, Lines.{place, line_by}, Heads.{states_at, init_parse, init_of, given_at, valued_at, start_at}};
 
 use crate::error::{CertError, CertKind, Refusal};
 use crate::init::Init;

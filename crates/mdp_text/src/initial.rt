@@ -1,7 +1,5 @@
 ghost use Rattle.std.specs.Prelude.{◌≡◌, Some, length};
-ghost use Rattle.mdp_spec.specs.Bounds.{reward_at};
-ghost use Rattle.mdp_spec.specs.Labels.{initial_of};
-ghost use Rattle.mdp_spec.specs.Mdp.{states_of, value_at};
+ghost use Rattle.mdp_spec.specs.{Bounds.{reward_at}, Labels.{initial_of}, Mdp.{states_of, value_at}};
 ghost use Rattle.mdp_text.specs.Heads.{init_by};
 
 use crate::heads::init_of;

@@ -1,5 +1,4 @@
-ghost use Rattle.std.specs.Prelude.{◌≡◌, ◌==◌, ◌||◌, true, false, drop, Some, None, IfSome, MatchOption};
-ghost use Rattle.std.specs.List.{list_any, position_or_len, before_first};
+ghost use Rattle.std.specs.{Prelude.{◌≡◌, ◌==◌, ◌||◌, true, false, drop, Some, None, IfSome, MatchOption}, List.{list_any, position_or_len, before_first}};
 ghost use Rattle.mdp_rows.specs.Name.{is_name};
 ghost use Rattle.mdp_text.specs.Words.{is_quote, name_and_rest};
 

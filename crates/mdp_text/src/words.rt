@@ -1,6 +1,5 @@
 ghost use Rattle.std.specs.Prelude.{◌≡◌, ◌<◌, ◌≤◌, ◌==◌, ◌&&◌, ◌∷◌, [], Ok, Err, IfOk, MatchResult, MatchOption, length, drop};
-ghost use Rattle.std.specs.List.{position_or_len, count_by};
-ghost use Rattle.std.specs.Str.{bytes_eq};
+ghost use Rattle.std.specs.{List.{position_or_len, count_by}, Str.{bytes_eq}};
 ghost use Rattle.mdp_text.specs.Words.{is_blank, words, first_of, begins_with, words_behind};
 
 use crate::error::{CertKind, Refusal};

@@ -1,26 +1,18 @@
 -- The choices that are better can be found, so rounds can be made until there are none.
 use Rattle.std.proofs.Common.{◌≡◌, ◌≢◌, ℕ, zero, suc, ◌<◌, ◌≤◌, ◌⊎◌, inl, inr, Bool, true, false, List, length, map, refl, sym, ◌∙◌, ap, subst, arith, zero-add}
-use Rattle.std.specs.List.{Any, range_with_len}
-use Rattle.std.specs.Prelude.{slice_index}
-use Rattle.std.proofs.lemmas.List.FromFn.{get_or-map-range_with_len, length-map-range_with_len}
-use Rattle.std.proofs.lemmas.List.Folds.{Any-from_list_any}
-use Rattle.std.proofs.lemmas.List.{get_or_default}
-use Rattle.std.proofs.Math.ListN.{get_or-eq_default}
+use Rattle.std.proofs.{lemmas.List.FromFn.{get_or-map-range_with_len, length-map-range_with_len}, lemmas.List.Folds.{Any-from_list_any}}
+use Rattle.std.proofs.{lemmas.List.{get_or_default}, Math.ListN.{get_or-eq_default}}
+use Rattle.std.specs.{List.{Any, range_with_len}, Prelude.{slice_index}}
 use Rattle.mdp_math.specs.Rational.{ℚ, ◌+ℚ◌}
-use Rattle.mdp_math.proofs.Numbers.{le_or}
-use Rattle.mdp_math.proofs.Order.{≤ℚ_or_gt, ≤ℚ_of_eq, clash_ℚ}
+use Rattle.mdp_math.proofs.{Numbers.{le_or}, Order.{≤ℚ_or_gt, ≤ℚ_of_eq, clash_ℚ}}
 use Rattle.mdp_unichain.specs.Chain.{AllLeadTo}
 use Rattle.mdp_unichain.specs.Component.{Component, Choice, no_choice, count, choices_at, choice_at, IsInner, is_state, row_by, IsPolicy, CanReach, IsComponent}
+use Rattle.mdp_unichain.specs.{Evaluation.{IsGain}, Improvement.{IsEvaluated, worth, IsBetterChoice, IsImproved, IsChanged, NoneBetter}, Laws.{HasBest}}
 use Rattle.mdp_rows.specs.Better.{IsAsGood}
-use Rattle.mdp_unichain.specs.Evaluation.{IsGain}
-use Rattle.mdp_unichain.specs.Improvement.{IsEvaluated, worth, IsBetterChoice, IsImproved, IsChanged, NoneBetter}
-use Rattle.mdp_unichain.specs.Laws.{HasBest}
-use Rattle.mdp_unichain.proofs.Chains.{same_or_other}
-use Rattle.mdp_unichain.proofs.Reaching.{search_below, test_or_not, clash_test}
-use Rattle.mdp_policy_iteration.proofs.Turned.{turn, turn_better, turn_as_good, better_turned, as_good_turned}
-use Rattle.mdp_unichain.proofs.Improving.{gain_of, evaluated_by, next_is_evaluated, state-below, inner-below, state-of}
-use Rattle.mdp_unichain.proofs.Ending.{none_twice}
+use Rattle.mdp_unichain.proofs.{Chains.{same_or_other}, Reaching.{search_below, test_or_not, clash_test}}
+use Rattle.mdp_unichain.proofs.{Improving.{gain_of, evaluated_by, next_is_evaluated, state-below, inner-below, state-of}, Ending.{none_twice}}
 use Rattle.mdp_unichain.proofs.Deciding.{has_next, has_reference}
+use Rattle.mdp_policy_iteration.proofs.Turned.{turn, turn_better, turn_as_good, better_turned, as_good_turned}
 
 -- a list of choices from a function, 0 where it is past the end
 module _ (p : Component) (f : ℕ → ℕ) where

@@ -1,18 +1,11 @@
 -- A chain whose states all lead to t: the weight that shrinks until t is reached, and so what is earned on the way and the number of steps.
 use Rattle.std.proofs.Common.{◌≡◌, ◌≢◌, ℕ, suc, ◌<◌, ◌⊎◌, inl, inr, Bool, true, false, not, ◌&&◌, eqb, if◌then◌else◌, List, [], refl, sym, ◌∙◌, ap, subst, arith}
 use Rattle.std.specs.List.{All, Any}
-use Rattle.mdp_math.specs.Rational.{ℚ, ◌≤ℚ◌}
-use Rattle.mdp_math.specs.Sum.{sum_of}
-use Rattle.mdp_math.specs.Pivot.{active_below, entry_at, solution}
-use Rattle.mdp_math.proofs.Numbers.{eqb-same}
-use Rattle.mdp_math.proofs.Order.{0ℚ, 1ℚ, ≤ℚ_trans, ≤ℚ_of_lt, ≤ℚ_of_eq}
-use Rattle.mdp_math.proofs.Floors.{ForSmall, small_for_below, positive_floor, greatest_rank}
-use Rattle.mdp_math.proofs.Kernel.{Any-and, weigh-same}
-use Rattle.mdp_math.proofs.Weight.{Shrinks, shrinks_by_ranks}
-use Rattle.mdp_math.proofs.Elimination.{kernel_solution}
+use Rattle.mdp_math.specs.{Rational.{ℚ, ◌≤ℚ◌}, Sum.{sum_of}, Pivot.{active_below, entry_at, solution}}
+use Rattle.mdp_math.proofs.{Numbers.{eqb-same}, Order.{0ℚ, 1ℚ, ≤ℚ_trans, ≤ℚ_of_lt, ≤ℚ_of_eq}, Floors.{ForSmall, small_for_below, positive_floor, greatest_rank}}
+use Rattle.mdp_math.proofs.{Kernel.{Any-and, weigh-same}, Weight.{Shrinks, shrinks_by_ranks}, Elimination.{kernel_solution}}
 use Rattle.mdp_spec.specs.Mdp.{Entry}
-use Rattle.mdp_unichain.specs.Chain.{IsChain, AllLeadTo}
-use Rattle.mdp_unichain.specs.Evaluation.{mean, active, IsEarned}
+use Rattle.mdp_unichain.specs.{Chain.{IsChain, AllLeadTo}, Evaluation.{mean, active, IsEarned}}
 
 -- the target and the probability of an entry
 abbrev pub target : Entry → ℕ

@@ -1,32 +1,18 @@
 -- The strong components of a policy's choices: those that the policy doesn't leave are its closed classes.
-use Rattle.std.proofs.Common.{◌≡◌, ◌≢◌, ℕ, zero, suc, ◌+◌, ◌<◌, ◌≤◌, ◌⊎◌, inl, inr, Bool, true, false, not}
+use Rattle.std.proofs.Common.{◌≡◌, ◌≢◌, ℕ, zero, suc, ◌+◌, ◌<◌, ◌≤◌, ◌⊎◌, inl, inr, Bool, true, false, not, subst, arith, zero-add}
 use Rattle.std.proofs.Common.{◌&&◌, ◌==◌, List, [], ◌∷◌, length, map, get_or, Option, Some, None, refl, sym, ◌∙◌, ap}
-use Rattle.std.proofs.Common.{subst, arith, zero-add}
-use Rattle.std.specs.List.{All, range_with_len}
-use Rattle.std.specs.Prelude.{slice_index, nat_lt, cond}
-use Rattle.std.proofs.lemmas.Bool.{false≢true, and_parts, and_from, eqb-true, eq-eqb, ne_eqb}
-use Rattle.std.proofs.lemmas.List.FromFn.{get_or-map-range_with_len}
+use Rattle.std.proofs.{lemmas.Bool.{false≢true, and_parts, and_from, eqb-true, eq-eqb, ne_eqb}, lemmas.List.FromFn.{get_or-map-range_with_len}}
+use Rattle.std.specs.{List.{All, range_with_len}, Prelude.{slice_index, nat_lt, cond}}
 use Rattle.mdp_spec.specs.Mdp.{Entry, Mdp, states_of, choices_at, row_at}
-use Rattle.mdp_rows.specs.declared.dir.Dir.{Dir}
-use Rattle.mdp_rows.specs.Preds.{leads_to}
+use Rattle.mdp_rows.specs.{declared.dir.Dir.{Dir}, Preds.{leads_to}}
 use Rattle.mdp_graph.specs.Sets.{marked, can_enter}
-use Rattle.mdp_ends.specs.Numbers.{is_numbered, count_from}
-use Rattle.mdp_ends.specs.Walks.{Reaches, AreComponents}
-use Rattle.mdp_ends.proofs.Walking.{any-range, range-any, enters-at, enters-by, stays-by, stays_along}
-use Rattle.mdp_ends.proofs.Numbering.{numbered-below}
-use Rattle.mdp_unichain.specs.Chain.{IsChain, AllLeadTo, IsClosedClass}
-use Rattle.mdp_unichain.specs.Component.{Component, count, is_state, row_by, IsPolicy, IsComponent}
-use Rattle.mdp_unichain.specs.Model.{IsInside}
-use Rattle.mdp_unichain.specs.Part.{IsPart, is_inner, inner_component}
-use Rattle.mdp_unichain.specs.Classes.{takes, leaves, has_flag, shares_part, AreClasses}
-use Rattle.mdp_unichain.proofs.Chains.{same_or_other}
-use Rattle.mdp_unichain.proofs.Entries.{any-target, target-any, all-target, target-all}
-use Rattle.mdp_unichain.proofs.Improving.{policy-chain, state-below}
-use Rattle.mdp_unichain.proofs.Members.{inside_of, row-is}
-use Rattle.mdp_unichain.proofs.Nexts.{same_tests}
-use Rattle.mdp_unichain.proofs.Parts.{part-component, part-count}
-use Rattle.mdp_unichain.proofs.Ranks.{LeadsNearer, walk_rank, walk_falls, walk_down}
-use Rattle.mdp_unichain.proofs.Reaching.{test_or_not, clash_test}
+use Rattle.mdp_ends.specs.{Numbers.{is_numbered, count_from}, Walks.{Reaches, AreComponents}}
+use Rattle.mdp_ends.proofs.{Walking.{any-range, range-any, enters-at, enters-by, stays-by, stays_along}, Numbering.{numbered-below}}
+use Rattle.mdp_unichain.specs.{Chain.{IsChain, AllLeadTo, IsClosedClass}, Component.{Component, count, is_state, row_by, IsPolicy, IsComponent}}
+use Rattle.mdp_unichain.specs.{Model.{IsInside}, Part.{IsPart, is_inner, inner_component}, Classes.{takes, leaves, has_flag, shares_part, AreClasses}}
+use Rattle.mdp_unichain.proofs.{Chains.{same_or_other}, Entries.{any-target, target-any, all-target, target-all}, Improving.{policy-chain, state-below}}
+use Rattle.mdp_unichain.proofs.{Members.{inside_of, row-is}, Nexts.{same_tests}, Parts.{part-component, part-count}}
+use Rattle.mdp_unichain.proofs.{Ranks.{LeadsNearer, walk_rank, walk_falls, walk_down}, Reaching.{test_or_not, clash_test}}
 
 -- ---- numbers
 

@@ -1,29 +1,20 @@
 -- What the written comparison says in exact numbers: a choice that is taken is one of the component and better than the present value, and where none
 -- is taken none is better.
 use Rattle.std.proofs.Common.{◌≡◌, ℕ, zero, suc, ◌<◌, ◌≤◌, ◌⊎◌, inl, inr, Bool, true, false, if◌then◌else◌}
-use Rattle.std.proofs.Common.{List, length, Option, Some, None, Result, Ok, refl, sym, ◌∙◌, ap, subst, arith}
+use Rattle.std.proofs.{Common.{List, length, Option, Some, None, Result, Ok, refl, sym, ◌∙◌, ap, subst, arith}, Math.ListN.{get_or-eq_default}}
 use Rattle.std.specs.Prelude.{slice_index}
-use Rattle.std.proofs.Math.ListN.{get_or-eq_default}
-use Rattle.mdp_math.specs.Rational.{ℚ, ◌+ℚ◌, ◌≤ℚ◌, ◌<ℚ◌}
-use Rattle.mdp_math.specs.Written.{written_add, written_compare, cmp_ℚ, ◌>>=◌}
-use Rattle.mdp_math.proofs.Written.{written_add-some, written_compare-some}
-use Rattle.mdp_math.proofs.Order.{≤ℚ_trans, ≤ℚ_of_lt, ≤ℚ_of_eq, ≤ℚ-<ℚ_trans}
-use Rattle.mdp_math.proofs.Numbers.{last_or, le_or}
+use Rattle.mdp_math.specs.{Rational.{ℚ, ◌+ℚ◌, ◌≤ℚ◌, ◌<ℚ◌}, Written.{written_add, written_compare, cmp_ℚ, ◌>>=◌}}
+use Rattle.mdp_math.proofs.{Written.{written_add-some, written_compare-some}, Order.{≤ℚ_trans, ≤ℚ_of_lt, ≤ℚ_of_eq, ≤ℚ-<ℚ_trans}, Numbers.{last_or, le_or}}
 use Rattle.mdp_spec.specs.Mdp.{value_at}
 use Rattle.mdp_unichain.specs.Component.{Component, Choice, count, choices_at, choice_at, is_state, IsInner, IsPolicy}
-use Rattle.mdp_unichain.specs.Improvement.{worth, IsBetterChoice, NoneBetterAt, IsImproved}
-use Rattle.mdp_policy_iteration.specs.Places.{Place}
+use Rattle.mdp_unichain.specs.{Improvement.{worth, IsBetterChoice, NoneBetterAt, IsImproved}, Sums.{written_worth, compared}}
+use Rattle.mdp_unichain.specs.{Written.{then_compared, best_of, Values, present_of, choice_over, improved_choice, improved_at}, WrittenLaws.{ImprovesExactly}}
+use Rattle.mdp_policy_iteration.specs.{Places.{Place}, Candidates.{Best, judged}, Path.{comparing, or_kept}}
 use Rattle.mdp_rows.specs.Better.{is_better}
-use Rattle.mdp_policy_iteration.specs.Candidates.{Best, judged}
-use Rattle.mdp_policy_iteration.specs.Path.{comparing, or_kept}
-use Rattle.mdp_unichain.specs.Sums.{written_worth, compared}
-use Rattle.mdp_unichain.specs.Written.{then_compared, best_of, Values, present_of, choice_over, improved_choice, improved_at}
-use Rattle.mdp_unichain.specs.WrittenLaws.{ImprovesExactly}
 use Rattle.mdp_policy_iteration.proofs.Turned.{turn, better_turned, as_good_turned, better_of_test, worse_of_test}
+use Rattle.mdp_policy_iteration.proofs.{Results.{ok_same, ok_part, place_part, IsUpTo, up_to-is}, Compares.{written_sum-is}}
 use Rattle.mdp_unichain.proofs.Improving.{state-below, inner-below}
-use Rattle.mdp_policy_iteration.proofs.Results.{ok_same, ok_part, place_part, IsUpTo, up_to-is}
 use Rattle.mdp_elim.proofs.RowSums.{some_part}
-use Rattle.mdp_policy_iteration.proofs.Compares.{written_sum-is}
 
 -- ---- the choices of a state
 

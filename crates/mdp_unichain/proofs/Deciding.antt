@@ -1,21 +1,16 @@
 -- A state is in a closed class or in none, and which: so there is a next policy. And a policy of which all states lead to one has a reference.
 use Rattle.std.proofs.Common.{◌≡◌, ◌≢◌, ℕ, zero, suc, ◌<◌, ◌≤◌, ◌⊎◌, inl, inr, Bool, true, false, not}
 use Rattle.std.proofs.Common.{◌&&◌, eqb, if◌then◌else◌, List, length, map, refl, sym, ◌∙◌, ap, subst, arith, zero-add}
-use Rattle.std.specs.List.{All, Any, range_with_len}
-use Rattle.std.specs.Prelude.{slice_index}
-use Rattle.std.proofs.lemmas.List.FromFn.{get_or-map-range_with_len, length-map-range_with_len}
-use Rattle.std.proofs.Math.ListN.{get_or-eq_default}
-use Rattle.mdp_math.proofs.Booleans.{and-left, and-right, and-both}
-use Rattle.mdp_math.proofs.Numbers.{le_or, eqb-same}
+use Rattle.std.proofs.{lemmas.List.FromFn.{get_or-map-range_with_len, length-map-range_with_len}, Math.ListN.{get_or-eq_default}}
+use Rattle.std.specs.{List.{All, Any, range_with_len}, Prelude.{slice_index}}
+use Rattle.mdp_math.proofs.{Booleans.{and-left, and-right, and-both}, Numbers.{le_or, eqb-same}}
 use Rattle.mdp_spec.specs.Mdp.{Entry}
 use Rattle.mdp_unichain.specs.Chain.{IsChain, AllLeadTo, IsReference, IsClosedClass, AllLeadInto}
 use Rattle.mdp_unichain.specs.Component.{Component, Choice, count, choice_at, IsInner, is_state, row_by, IsPolicy, CanReach, IsComponent}
-use Rattle.mdp_unichain.specs.Improvement.{GoesToward, IsNext}
-use Rattle.mdp_unichain.specs.Laws.{HasReference, HasNext}
+use Rattle.mdp_unichain.specs.{Improvement.{GoesToward, IsNext}, Laws.{HasReference, HasNext}}
 use Rattle.mdp_unichain.proofs.Chains.{target, same_number, same_or_other}
 use Rattle.mdp_unichain.proofs.Reaching.{search_below, test_or_not, clash_test, and_true, rank_then, rank_else, IsPart, part-chain, Split, others, others-part, others-not, reached_of, split}
-use Rattle.mdp_unichain.proofs.Reaching.{split_to, to_falls, alone, has_class}
-use Rattle.mdp_unichain.proofs.Classes.{holds, class-chain, class-reference, into_class}
+use Rattle.mdp_unichain.proofs.{Reaching.{split_to, to_falls, alone, has_class}, Classes.{holds, class-chain, class-reference, into_class}}
 use Rattle.mdp_unichain.proofs.Improving.{policy-chain, state-below}
 
 -- ---- whether a state is in a closed class

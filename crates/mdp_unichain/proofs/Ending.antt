@@ -1,25 +1,17 @@
 -- No policy comes twice. With each next policy the number of references and policies that are better falls: those whose gain by exact elimination is
 -- better, or as good with the same reference and a bias that is at least as good everywhere and better somewhere.
 use Rattle.std.proofs.Common.{◌≡◌, ℕ, zero, suc, ◌+◌, ◌<◌, inl, inr, Bool, true, false, ◌&&◌, ◌||◌, eqb, List, [], ◌∷◌, length, get_or, refl, sym, ◌∙◌, ap, subst, arith}
-use Rattle.std.specs.Prelude.{slice_index}
 use Rattle.std.proofs.lemmas.Bool.{or_left, or_right, or_cases}
+use Rattle.std.specs.Prelude.{slice_index}
 use Rattle.mdp_math.specs.Rational.{ℚ, le_ℚ, lt_ℚ, ◌≤ℚ◌, ◌<ℚ◌}
-use Rattle.mdp_math.proofs.Numbers.{eqb-same}
-use Rattle.mdp_math.proofs.Order.{≤ℚ_of_eq, <ℚ-≤ℚ_trans, <ℚ_trans}
-use Rattle.mdp_math.proofs.Extremes.{le_of_test, test_of_le}
-use Rattle.mdp_unichain.specs.Chain.{AllLeadTo, IsReference}
-use Rattle.mdp_unichain.specs.Component.{Component, count, choices_at, is_state, row_by, reward_by, IsPolicy, IsComponent}
-use Rattle.mdp_unichain.specs.Improvement.{IsEvaluated, IsImproved, IsChanged, IsNext}
-use Rattle.mdp_unichain.specs.Laws.{NoneTwice}
-use Rattle.mdp_unichain.proofs.Gains.{gain_by, bias_by, has_evaluation, is-gain, one_gain, one_bias}
-use Rattle.mdp_unichain.proofs.Reaching.{test_or_not}
-use Rattle.mdp_policy_iteration.proofs.Turned.{turn_better, turn_as_good}
-use Rattle.mdp_unichain.proofs.Improving.{up, ups, state-below, inner-below, policy-chain, gain_rises_next, bias_rises}
+use Rattle.mdp_math.proofs.{Numbers.{eqb-same}, Order.{≤ℚ_of_eq, <ℚ-≤ℚ_trans, <ℚ_trans}, Extremes.{le_of_test, test_of_le, lt_of_test, test_of_lt}}
 use Rattle.mdp_math.proofs.Booleans.{and-left, and-right, and-both}
-use Rattle.mdp_math.proofs.Extremes.{lt_of_test, test_of_lt}
-use Rattle.mdp_policy_iteration.proofs.LeavesAgain.{test_irrefl}
-use Rattle.mdp_policy_iteration.proofs.Ordered.{less_all, less_all-after, less_all-own, less_all-from}
-use Rattle.mdp_policy_iteration.proofs.Products.{number, number-lt, within_from}
+use Rattle.mdp_unichain.specs.{Chain.{AllLeadTo, IsReference}, Component.{Component, count, choices_at, is_state, row_by, reward_by, IsPolicy, IsComponent}}
+use Rattle.mdp_unichain.specs.{Improvement.{IsEvaluated, IsImproved, IsChanged, IsNext}, Laws.{NoneTwice}}
+use Rattle.mdp_unichain.proofs.{Gains.{gain_by, bias_by, has_evaluation, is-gain, one_gain, one_bias}, Reaching.{test_or_not}}
+use Rattle.mdp_unichain.proofs.Improving.{up, ups, state-below, inner-below, policy-chain, gain_rises_next, bias_rises}
+use Rattle.mdp_policy_iteration.proofs.{Turned.{turn_better, turn_as_good}, LeavesAgain.{test_irrefl}}
+use Rattle.mdp_policy_iteration.proofs.{Ordered.{less_all, less_all-after, less_all-own, less_all-from}, Products.{number, number-lt, within_from}}
 
 or_none : (a b : Bool) → a ≡ false → b ≡ false → (a || b) ≡ false
 or_none true b e h = cc

@@ -1,8 +1,6 @@
 -- Entries of a row by their targets.
-use Rattle.std.proofs.Common.{◌≡◌, ℕ, true, ◌==◌, List, get_or, refl, sym, subst, pos}
+use Rattle.std.proofs.{Common.{◌≡◌, ℕ, true, ◌==◌, List, get_or, refl, sym, subst, pos}, lemmas.Bool.{eqb-true, eq-eqb}, lemmas.List.{get_or_default}}
 use Rattle.std.specs.List.{All, Any}
-use Rattle.std.proofs.lemmas.Bool.{eqb-true, eq-eqb}
-use Rattle.std.proofs.lemmas.List.{get_or_default}
 use Rattle.mdp_math.specs.Rational.{of_int}
 use Rattle.mdp_spec.specs.Mdp.{Entry}
 use Rattle.mdp_rows.specs.Preds.{leads_to}

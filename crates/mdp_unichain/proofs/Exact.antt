@@ -1,46 +1,24 @@
 -- Written evaluation gives the gain and the bias, where no term is past width.
-use Rattle.std.proofs.Common.{◌≡◌, ℕ, ◌<◌, ◌≤◌, ◌⊎◌, inl, inr, Bool, true, false, if◌then◌else◌, List, [], ◌∷◌}
-use Rattle.std.proofs.Common.{length, map, Some, Result, Ok, Err, refl, sym, ◌∙◌, ap, ap₂, subst, arith, pos}
-use Rattle.std.proofs.Common.{negsuc, zero-add}
-use Rattle.std.specs.List.{Any, range_with_len}
-use Rattle.std.specs.Prelude.{slice_index, slice_index_or}
-use Rattle.std.proofs.Math.ListN.{get_or-eq_default}
-use Rattle.std.proofs.lemmas.List.FromFn.{get_or-map-range_with_len, length-map-range_with_len}
-use Rattle.std.proofs.lemmas.List.{get_or_default}
-use Rattle.mdp_math.specs.Rational.{ℚ, ◌+ℚ◌, ◌*ℚ◌, ◌-ℚ◌, ◌≤ℚ◌}
-use Rattle.mdp_math.specs.Written.{written_mul, ◌>>=◌}
-use Rattle.mdp_math.proofs.Written.{written_add-some, written_mul-some}
-use Rattle.mdp_math.proofs.Ring.{◌⊕◌, ◌⊗◌, ⊖, lit}
-use Rattle.mdp_math.proofs.Linear.{combine, equal}
-use Rattle.mdp_math.proofs.Numbers.{le_or}
-use Rattle.mdp_math.proofs.Order.{0ℚ, 1ℚ, ◌/ℚ◌}
-use Rattle.mdp_math.proofs.Kernel.{Any-and}
-use Rattle.mdp_math.proofs.Solutions.{Solves}
+use Rattle.std.proofs.Common.{◌≡◌, ℕ, ◌<◌, ◌≤◌, ◌⊎◌, inl, inr, Bool, true, false, if◌then◌else◌, List, [], ◌∷◌, negsuc, zero-add}
+use Rattle.std.proofs.{Common.{length, map, Some, Result, Ok, Err, refl, sym, ◌∙◌, ap, ap₂, subst, arith, pos}, Math.ListN.{get_or-eq_default}}
+use Rattle.std.proofs.{lemmas.List.FromFn.{get_or-map-range_with_len, length-map-range_with_len}, lemmas.List.{get_or_default}}
+use Rattle.std.specs.{List.{Any, range_with_len}, Prelude.{slice_index, slice_index_or}}
+use Rattle.mdp_math.specs.{Rational.{ℚ, ◌+ℚ◌, ◌*ℚ◌, ◌-ℚ◌, ◌≤ℚ◌}, Written.{written_mul, ◌>>=◌}}
+use Rattle.mdp_math.proofs.{Written.{written_add-some, written_mul-some}, Ring.{◌⊕◌, ◌⊗◌, ⊖, lit}, Linear.{combine, equal}, Numbers.{le_or}}
+use Rattle.mdp_math.proofs.{Order.{0ℚ, 1ℚ, ◌/ℚ◌}, Kernel.{Any-and}, Solutions.{Solves}}
 use Rattle.mdp_num.specs.Written.{written_sub, written_div}
-use Rattle.mdp_spec.specs.Mdp.{Entry, value_at}
-use Rattle.mdp_spec.specs.Row.{IsRow, AreRows, row_sum}
-use Rattle.mdp_spec.specs.Written.{written_sum}
-use Rattle.mdp_elim.specs.Equation.{Equation, no_equation}
-use Rattle.mdp_elim.specs.Elimination.{solution}
+use Rattle.mdp_spec.specs.{Mdp.{Entry, value_at}, Row.{IsRow, AreRows, row_sum}, Written.{written_sum}}
+use Rattle.mdp_elim.specs.{Equation.{Equation, no_equation}, Elimination.{solution}}
 use Rattle.mdp_elim.specs.System.{is_active, row_of, inner, column_at, equation_of, system, Leaves, IsSolution, SolveEach}
-use Rattle.mdp_elim.specs.Solve.{columns_of, kept, written_solution}
-use Rattle.mdp_elim.specs.Laws.{LeavingChain, GivesSolutions}
-use Rattle.mdp_policy_iteration.proofs.Chain.{loop}
-use Rattle.mdp_unichain.specs.Chain.{AllLeadTo}
-use Rattle.mdp_unichain.specs.Component.{Component, count, is_state, row_by, reward_by, IsPolicy, IsComponent}
-use Rattle.mdp_unichain.proofs.Gains.{steps-ge_one}
-use Rattle.mdp_unichain.specs.Evaluation.{mean, active, IsEarned, IsEvaluation}
-use Rattle.mdp_policy_iteration.specs.Places.{Place, at_place}
-use Rattle.mdp_policy_iteration.specs.Path.{evaluating, placed}
-use Rattle.mdp_unichain.specs.Sums.{written_ratio, written_bias}
+use Rattle.mdp_elim.specs.{Solve.{columns_of, kept, written_solution}, Laws.{LeavingChain, GivesSolutions}}
+use Rattle.mdp_policy_iteration.proofs.{Chain.{loop}, Compares.{written_sum-is}, Results.{ok_same, ok_part, place_part, IsUpTo, up_to-is}}
+use Rattle.mdp_unichain.specs.{Chain.{AllLeadTo}, Component.{Component, count, is_state, row_by, reward_by, IsPolicy, IsComponent}}
+use Rattle.mdp_unichain.specs.{Evaluation.{mean, active, IsEarned, IsEvaluation}, Sums.{written_ratio, written_bias}}
 use Rattle.mdp_unichain.specs.Written.{row_or_loop, rows_of, active_of, rewards_of, ones_of, written_columns, written_gain, bias_of, written_bias_list, Values, with_biases, written_biases}
-use Rattle.mdp_unichain.specs.Written.{from_columns, written_values}
-use Rattle.mdp_unichain.specs.WrittenLaws.{EvaluatesExactly}
-use Rattle.mdp_unichain.proofs.Chains.{target, active-state, active-other, active-outside}
-use Rattle.mdp_unichain.proofs.Reaching.{test_or_not}
+use Rattle.mdp_unichain.specs.{Written.{from_columns, written_values}, WrittenLaws.{EvaluatesExactly}}
+use Rattle.mdp_unichain.proofs.{Gains.{steps-ge_one}, Chains.{target, active-state, active-other, active-outside}, Reaching.{test_or_not}}
 use Rattle.mdp_unichain.proofs.Improving.{state-below, policy-chain}
-use Rattle.mdp_policy_iteration.proofs.Compares.{written_sum-is}
-use Rattle.mdp_policy_iteration.proofs.Results.{ok_same, ok_part, place_part, IsUpTo, up_to-is}
+use Rattle.mdp_policy_iteration.specs.{Places.{Place, at_place}, Path.{evaluating, placed}}
 use Rattle.mdp_elim.proofs.RowSums.{some_part}
 
 map_same : {A : Type 0} (f g : ℕ → A) → ((s : ℕ) → f s ≡ g s) → (xs : List ℕ) → map f xs ≡ map g xs

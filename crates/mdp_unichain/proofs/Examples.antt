@@ -2,22 +2,16 @@
 -- earn 3, or go to state 0. The policy that stays at 0 earns 1 in each step. Staying at 1 is better there, and then {0} and {1} are closed classes: {1}
 -- holds the changed state, so the next policy keeps it and goes toward it from 0, and earns 3.
 use Rattle.std.proofs.Common.{◌≡◌, ◌≢◌, ℕ, zero, suc, ◌<◌, ◌≤◌, inr, Bool, true, false, true≢false, List, [], ◌∷◌, refl, sym, ap, arith, pos, negsuc, rules}
-use Rattle.std.specs.List.{All, Any}
-use Rattle.std.specs.Prelude.{slice_index}
-use Rattle.std.proofs.lemmas.Bool.{false≢true}
-use Rattle.std.proofs.lemmas.List.Elements.{All-nil, All-cons}
-use Rattle.mdp_math.specs.Gcd.{gcd, gcd_with_fuel}
-use Rattle.mdp_math.specs.Rational.{ℚ, of_int, ratio, ◌+ℚ◌, ◌*ℚ◌, neg_ℚ, inv_ℚ, ◌<ℚ◌}
+use Rattle.std.proofs.{lemmas.Bool.{false≢true}, lemmas.List.Elements.{All-nil, All-cons}}
+use Rattle.std.specs.{List.{All, Any}, Prelude.{slice_index}}
+use Rattle.mdp_math.specs.{Gcd.{gcd, gcd_with_fuel}, Rational.{ℚ, of_int, ratio, ◌+ℚ◌, ◌*ℚ◌, neg_ℚ, inv_ℚ, ◌<ℚ◌}}
 use Rattle.mdp_math.proofs.Whole.{one-pos, ratio-pos}
-use Rattle.mdp_spec.specs.Mdp.{Entry}
-use Rattle.mdp_spec.specs.Row.{IsDistribution}
+use Rattle.mdp_spec.specs.{Mdp.{Entry}, Row.{IsDistribution}}
 use Rattle.mdp_rows.specs.declared.dir.Dir.TheVariants.{Max}
 use Rattle.mdp_unichain.specs.Chain.{AllLeadTo, IsClosedClass}
-use Rattle.mdp_unichain.specs.Component.{Component, Choice, choice_at, is_state, IsInner, row_by, reward_by, CanReach, IsComponent}
-use Rattle.mdp_unichain.specs.Improvement.{worth}
+use Rattle.mdp_unichain.specs.{Component.{Component, Choice, choice_at, is_state, IsInner, row_by, reward_by, CanReach, IsComponent}, Improvement.{worth}}
 use Rattle.mdp_unichain.specs.Next.{HoldsChanged, IsPicked, LeadsNearer, AreRanksToward, IsNearest, IsExactNext}
-use Rattle.mdp_unichain.proofs.Chains.{earned_by}
-use Rattle.mdp_unichain.proofs.Gains.{gain_by, bias_by}
+use Rattle.mdp_unichain.proofs.{Chains.{earned_by}, Gains.{gain_by, bias_by}}
 
 abbrev to : ℕ → ℚ → Entry
 to s q = record { target = s; prob = q }

@@ -5,18 +5,14 @@
 --     g' = g, and the same reference      h' is at least h + e
 use Rattle.std.proofs.Common.{◌≡◌, ◌≢◌, ℕ, zero, suc, ◌<◌, inl, inr, Bool, true, false, List, [], ◌∷◌, length, get_or, refl, sym, ◌∙◌, ap, subst, arith, pos, negsuc}
 use Rattle.mdp_math.specs.Rational.{ℚ, ◌+ℚ◌, ◌*ℚ◌, ◌-ℚ◌, neg_ℚ, ◌≤ℚ◌, ◌<ℚ◌}
-use Rattle.mdp_math.proofs.Ring.{◌⊕◌, ◌⊗◌, ⊖, lit, ring}
-use Rattle.mdp_math.proofs.Laws.{rat_ring}
-use Rattle.mdp_math.proofs.Linear.{linear, linear_lt, combine, equal, at_most, known}
+use Rattle.mdp_math.proofs.{Ring.{◌⊕◌, ◌⊗◌, ⊖, lit, ring}, Laws.{rat_ring}, Linear.{linear, linear_lt, combine, equal, at_most, known}}
 use Rattle.mdp_math.proofs.Order.{0ℚ, 1ℚ, ≤ℚ_of_lt, ≤ℚ_or_gt, clash_ℚ, sub-pos, sub-nonneg, add-nonneg, add-pos-nonneg, mul-pos_ℚ}
 use Rattle.mdp_math.proofs.Kernel.{weigh-add, weigh-sub, weigh-scale, weigh-const, weigh-neg, weigh-nonneg, weigh-pos}
 use Rattle.mdp_math.proofs.Solutions.{Solves, solution-nonneg, solution-pos, solution-pos_by_entry}
 use Rattle.mdp_spec.specs.Mdp.{Entry}
-use Rattle.mdp_unichain.specs.Chain.{IsChain, AllLeadTo}
-use Rattle.mdp_unichain.specs.Evaluation.{mean, IsEarned}
+use Rattle.mdp_unichain.specs.{Chain.{IsChain, AllLeadTo}, Evaluation.{mean, IsEarned}}
 use Rattle.mdp_unichain.proofs.Chains.{target, prob, same_or_other, active-state, active-from, active-reference, inactive, masked, masked-at, masked-outside, mean-masked, entries-nonneg}
-use Rattle.mdp_unichain.proofs.Chains.{chain-shrinks, active-bound, earned_by, earned-is}
-use Rattle.mdp_unichain.proofs.Gains.{steps-pos}
+use Rattle.mdp_unichain.proofs.{Chains.{chain-shrinks, active-bound, earned_by, earned-is}, Gains.{steps-pos}}
 
 -- g times p is at least 0, p above 0
 nonneg_of_mul : (g p : ℚ) → 0ℚ <ℚ p → 0ℚ ≤ℚ g *ℚ p → 0ℚ ≤ℚ g

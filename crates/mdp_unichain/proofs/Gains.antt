@@ -1,16 +1,12 @@
 -- The gain and the bias exist, there is one pair of them, and they solve their equations at each state.
 use Rattle.std.proofs.Common.{◌≡◌, ◌≢◌, ℕ, ◌⊎◌, inl, inr, Bool, true, false, List, [], ◌∷◌, refl, sym, ◌∙◌, ap, subst, pos, negsuc}
 use Rattle.mdp_math.specs.Rational.{ℚ, ◌+ℚ◌, ◌*ℚ◌, ◌-ℚ◌, ◌≤ℚ◌, ◌<ℚ◌}
-use Rattle.mdp_math.proofs.Ring.{◌⊕◌, ◌⊗◌, ⊖, lit}
-use Rattle.mdp_math.proofs.Linear.{linear, combine, equal, known}
-use Rattle.mdp_math.proofs.Whole.{one-pos}
-use Rattle.mdp_math.proofs.Order.{0ℚ, 1ℚ, ◌/ℚ◌, ≤ℚ_of_lt, <ℚ-≤ℚ_trans, ne-zero_of_pos}
-use Rattle.mdp_math.proofs.Division.{div-mul, div-unique}
+use Rattle.mdp_math.proofs.{Ring.{◌⊕◌, ◌⊗◌, ⊖, lit}, Linear.{linear, combine, equal, known}, Whole.{one-pos}}
+use Rattle.mdp_math.proofs.{Order.{0ℚ, 1ℚ, ◌/ℚ◌, ≤ℚ_of_lt, <ℚ-≤ℚ_trans, ne-zero_of_pos}, Division.{div-mul, div-unique}}
 use Rattle.mdp_math.proofs.Kernel.{weigh-same, weigh-sub, weigh-scale, weigh-nonneg}
 use Rattle.mdp_math.proofs.Solutions.{Solves, Solves-sub, Solves-scale, one_solution, solution-nonneg}
 use Rattle.mdp_spec.specs.Mdp.{Entry}
-use Rattle.mdp_unichain.specs.Chain.{IsChain, AllLeadTo}
-use Rattle.mdp_unichain.specs.Evaluation.{mean, active, IsEarned, IsEvaluation, IsGain}
+use Rattle.mdp_unichain.specs.{Chain.{IsChain, AllLeadTo}, Evaluation.{mean, active, IsEarned, IsEvaluation, IsGain}}
 use Rattle.mdp_unichain.proofs.Chains.{target, prob, same_or_other, active-state, active-from, active-outside, active-reference, entries-nonneg, inactive, chain-shrinks, active-bound, earned_by}
 use Rattle.mdp_unichain.proofs.Chains.{earned-is}
 

@@ -1,23 +1,20 @@
 -- One round: the next policy has one closed class again, and its gain is better, or its gain is the same and its bias is better.
-use Rattle.std.proofs.Common.{◌≡◌, ℕ, ◌<◌, ◌≤◌, ◌⊎◌, inl, inr, Bool, true, false, List, [], length, refl, sym, ◌∙◌, ap, subst}
-use Rattle.std.specs.List.{list_any}
-use Rattle.std.specs.Prelude.{slice_index}
-use Rattle.std.proofs.Math.ListN.{get_or-eq_default}
+use Rattle.std.proofs.{Common.{◌≡◌, ℕ, ◌<◌, ◌≤◌, ◌⊎◌, inl, inr, Bool, true, false, List, [], length, refl, sym, ◌∙◌, ap, subst}, Math.ListN.{get_or-eq_default}}
 use Rattle.std.proofs.lemmas.List.Folds.{list_any_at}
+use Rattle.std.specs.{List.{list_any}, Prelude.{slice_index}}
 use Rattle.mdp_math.specs.Rational.{ℚ, ◌+ℚ◌, ◌≤ℚ◌, ◌<ℚ◌}
-use Rattle.mdp_math.proofs.Numbers.{le_or}
-use Rattle.mdp_math.proofs.Order.{≤ℚ_of_lt, ≤ℚ_of_eq, ≤ℚ_antisymm, clash_ℚ}
+use Rattle.mdp_math.proofs.{Numbers.{le_or}, Order.{≤ℚ_of_lt, ≤ℚ_of_eq, ≤ℚ_antisymm, clash_ℚ}}
 use Rattle.mdp_unichain.specs.Chain.{IsChain, IsReference, IsClosedClass}
 use Rattle.mdp_unichain.specs.Component.{Component, Choice, no_choice, count, choices_at, choice_at, chosen, IsInner, is_state, row_by, reward_by, IsPolicy, IsComponent}
-use Rattle.mdp_rows.specs.Better.{IsBetter, IsAsGood}
 use Rattle.mdp_unichain.specs.Evaluation.{mean, IsEvaluation, IsGain}
 use Rattle.mdp_unichain.specs.Improvement.{IsEvaluated, worth, IsBetterChoice, IsImproved, IsChanged, KeepsClasses, GoesToward}
 use Rattle.mdp_unichain.specs.Laws.{HasOneEvaluation, MeetsEquations, NextIsEvaluated, GainRises, BiasRose, BiasRises, EndsAtNoneBetter, BestOfAll}
+use Rattle.mdp_rows.specs.Better.{IsBetter, IsAsGood}
 use Rattle.mdp_unichain.proofs.Gains.{has_evaluation, gain_by, bias_by, is-gain, one_gain, one_bias, steps-ge_one}
 use Rattle.mdp_unichain.proofs.Excess.{gain-le, gain-ge, gain-lt, bias-le, bias-lt}
 use Rattle.mdp_unichain.proofs.Classes.{holds, class-chain, class-reference, class-same, still_reference, class_of_t, one_reference}
-use Rattle.mdp_policy_iteration.proofs.Turned.{turn, turn-add, turn_better, turn_as_good, better_turned, as_good_turned}
 use Rattle.mdp_unichain.proofs.Turned.{turn-mean, turn-back}
+use Rattle.mdp_policy_iteration.proofs.Turned.{turn, turn-add, turn_better, turn_as_good, better_turned, as_good_turned}
 
 module _ (p : Component) where
   below_by : (s : ℕ) → (count p ≤ s) ⊎ (s < count p) → is_state p s ≡ true → s < count p

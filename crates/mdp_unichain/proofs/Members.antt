@@ -1,17 +1,13 @@
 -- An end component of a model is a component whose states are its members.
 use Rattle.std.proofs.Common.{◌≡◌, ℕ, ◌<◌, Bool, true, List, [], length, map, sym, ◌∙◌, ap, subst, arith, zero-add}
-use Rattle.std.specs.List.{All, Any, range_with_len}
 use Rattle.std.proofs.lemmas.List.FromFn.{get_or-map-range_with_len, length-map-range_with_len}
-use Rattle.mdp_spec.specs.Mdp.{Entry, Mdp, states_of, choices_at, row_at}
-use Rattle.mdp_spec.specs.Row.{IsDistribution, IsRow, IsMdp}
+use Rattle.std.specs.List.{All, Any, range_with_len}
+use Rattle.mdp_spec.specs.{Mdp.{Entry, Mdp, states_of, choices_at, row_at}, Row.{IsDistribution, IsRow, IsMdp}}
 use Rattle.mdp_rows.specs.declared.dir.Dir.{Dir}
 use Rattle.mdp_unichain.specs.Component as component
 use Rattle.mdp_unichain.specs.Component.{Component, Choice, IsInner, is_state, IsComponent}
 use Rattle.mdp_unichain.specs.Model.{choice_of, component_of, IsInside, IsEndComponent, EndComponentIs}
-use Rattle.mdp_unichain.proofs.Nexts.{same_tests}
-use Rattle.mdp_unichain.proofs.Improving.{state-below, inner-below, state-of}
-use Rattle.mdp_unichain.proofs.Best.{inner_of_state}
-use Rattle.mdp_unichain.proofs.Trees.{choice_of-at}
+use Rattle.mdp_unichain.proofs.{Nexts.{same_tests}, Improving.{state-below, inner-below, state-of}, Best.{inner_of_state}, Trees.{choice_of-at}}
 
 module _ (dir : Dir) (m : Mdp) (r : ℕ) (inner : ℕ → ℕ → Bool) where
   abbrev p : Component

@@ -1,23 +1,15 @@
 -- There is exactly one next policy: one class has the least state, there is one list of least ranks, and one least choice at each state.
 use Rattle.std.proofs.Common.{◌≡◌, ◌≢◌, ℕ, zero, suc, ◌<◌, ◌≤◌, ◌⊎◌, inl, inr, Bool, true, false, ◌&&◌, ◌||◌, nat_lt, List, get_or, refl, sym, ◌∙◌, ap, subst, arith}
-use Rattle.std.specs.List.{Any, list_any}
-use Rattle.std.specs.Prelude.{slice_index}
-use Rattle.std.proofs.lemmas.List.FromFn.{fill_by_all}
-use Rattle.std.proofs.lemmas.List.Folds.{Any-from_list_any, list_any_at}
-use Rattle.std.proofs.lemmas.List.{get_or_default}
-use Rattle.mdp_math.proofs.Booleans.{and-left, and-right, and-both}
-use Rattle.mdp_math.proofs.Numbers.{le_or, last_or}
+use Rattle.std.proofs.{lemmas.List.FromFn.{fill_by_all}, lemmas.List.Folds.{Any-from_list_any, list_any_at}, lemmas.List.{get_or_default}}
+use Rattle.std.specs.{List.{Any, list_any}, Prelude.{slice_index}}
+use Rattle.mdp_math.proofs.{Booleans.{and-left, and-right, and-both}, Numbers.{le_or, last_or}}
 use Rattle.mdp_spec.specs.Mdp.{Entry}
 use Rattle.mdp_unichain.specs.Chain.{IsChain, IsClosedClass}
 use Rattle.mdp_unichain.specs.Component.{Component, Choice, no_choice, count, choices_at, choice_at, IsInner, is_state, row_by, IsPolicy, CanReach, IsComponent}
 use Rattle.mdp_unichain.specs.Improvement.{KeepsClasses}
 use Rattle.mdp_unichain.specs.Next.{HoldsChanged, IsPicked, LeadsNearer, AreRanksToward, IsNearest, GoesExactly, IsExactNext, ExactIsNext, HasOneExactNext}
-use Rattle.mdp_unichain.proofs.Chains.{target, same_or_other}
-use Rattle.mdp_unichain.proofs.Reaching.{search_below, test_or_not, clash_test, least_of}
-use Rattle.mdp_unichain.proofs.Classes.{holds, class-chain}
-use Rattle.mdp_unichain.proofs.Improving.{policy-chain, state-below, inner-below, state-of}
-use Rattle.mdp_unichain.proofs.Deciding.{in_class}
-use Rattle.mdp_unichain.proofs.Best.{listed, listed-at, listed-policy}
+use Rattle.mdp_unichain.proofs.{Chains.{target, same_or_other}, Reaching.{search_below, test_or_not, clash_test, least_of}, Classes.{holds, class-chain}}
+use Rattle.mdp_unichain.proofs.{Improving.{policy-chain, state-below, inner-below, state-of}, Deciding.{in_class}, Best.{listed, listed-at, listed-policy}}
 
 -- ---- it is a next policy
 

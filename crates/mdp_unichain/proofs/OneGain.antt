@@ -1,27 +1,16 @@
 -- There is one best gain: a policy with such a gain, bias and choices has this gain, whatever constant its bias is shifted by.
 use Rattle.std.proofs.Common.{◌≡◌, ℕ, ◌<◌, ◌≤◌, ◌⊎◌, inl, inr, Bool, true, false, if◌then◌else◌, List, [], ◌∷◌, length, map, refl, sym, ◌∙◌, ap, subst, arith, pos, zero-add}
-use Rattle.std.specs.List.{Any, range_with_len}
-use Rattle.std.specs.Prelude.{slice_index}
-use Rattle.std.proofs.Math.ListN.{get_or-eq_default}
-use Rattle.std.proofs.lemmas.List.FromFn.{get_or-map-range_with_len, length-map-range_with_len}
+use Rattle.std.proofs.{Math.ListN.{get_or-eq_default}, lemmas.List.FromFn.{get_or-map-range_with_len, length-map-range_with_len}}
+use Rattle.std.specs.{List.{Any, range_with_len}, Prelude.{slice_index}}
 use Rattle.mdp_math.specs.Rational.{ℚ, ◌+ℚ◌, ◌-ℚ◌}
-use Rattle.mdp_math.proofs.Ring.{◌⊕◌, ⊖, lit}
-use Rattle.mdp_math.proofs.Linear.{combine, equal}
-use Rattle.mdp_math.proofs.Order.{≤ℚ_antisymm}
-use Rattle.mdp_math.proofs.Numbers.{le_or}
+use Rattle.mdp_math.proofs.{Ring.{◌⊕◌, ⊖, lit}, Linear.{combine, equal}, Order.{≤ℚ_antisymm}, Numbers.{le_or}, Kernel.{weigh-sub}}
 use Rattle.mdp_spec.specs.Mdp.{Entry}
 use Rattle.mdp_spec.proofs.Rows.{row_weigh-const}
-use Rattle.mdp_math.proofs.Kernel.{weigh-sub}
-use Rattle.mdp_rows.specs.declared.dir.Dir.{Dir}
-use Rattle.mdp_rows.specs.declared.dir.Dir.TheVariants.{Max, Min}
-use Rattle.mdp_rows.specs.Better.{IsAsGood}
-use Rattle.mdp_unichain.specs.BestGain.{HasBestGain}
-use Rattle.mdp_unichain.specs.Chain.{IsChain, AllLeadTo, IsReference}
+use Rattle.mdp_rows.specs.{declared.dir.Dir.{Dir}, declared.dir.Dir.TheVariants.{Max, Min}, Better.{IsAsGood}}
+use Rattle.mdp_unichain.specs.{BestGain.{HasBestGain}, Chain.{IsChain, AllLeadTo, IsReference}}
 use Rattle.mdp_unichain.specs.Component.{Component, Choice, count, choice_at, is_state, IsInner, row_by, reward_by, IsPolicy, IsComponent}
-use Rattle.mdp_unichain.specs.Evaluation.{mean, IsGain}
-use Rattle.mdp_unichain.specs.Improvement.{IsEvaluated}
-use Rattle.mdp_unichain.proofs.Chains.{masked, masked-at, masked-outside, mean-masked}
-use Rattle.mdp_unichain.proofs.Deciding.{has_reference}
+use Rattle.mdp_unichain.specs.{Evaluation.{mean, IsGain}, Improvement.{IsEvaluated}}
+use Rattle.mdp_unichain.proofs.{Chains.{masked, masked-at, masked-outside, mean-masked}, Deciding.{has_reference}}
 use Rattle.mdp_unichain.proofs.Improving.{has_one_evaluation, meets_equations, best_of_all, policy-chain, state-below}
 
 both_ways : (dir : Dir) (x y : ℚ) → IsAsGood dir x y → IsAsGood dir y x → x ≡ y

@@ -1,20 +1,16 @@
 -- A part of the maximal end components of a model is a component whose states are the part's.
 use Rattle.std.proofs.Common.{◌≡◌, ◌≢◌, ℕ, ◌<◌, ◌≤◌, ◌⊎◌, inl, inr, true, List, length, Option, None, sym, ◌∙◌, ap, arith}
+use Rattle.std.proofs.{lemmas.Bool.{false≢true, and_parts, and_from}, Math.ListN.{get_or-eq_default}}
 use Rattle.std.specs.List.{Any}
-use Rattle.std.proofs.lemmas.Bool.{false≢true, and_parts, and_from}
-use Rattle.std.proofs.Math.ListN.{get_or-eq_default}
 use Rattle.mdp_math.proofs.Numbers.{le_or}
 use Rattle.mdp_spec.specs.Mdp.{Mdp, states_of, choices_at, row_at}
 use Rattle.mdp_rows.specs.declared.dir.Dir.{Dir}
 use Rattle.mdp_ends.specs.Ends.{has_number, in_part, is_inside, IsEnd, IsMaximal, AreEnds}
 use Rattle.mdp_ends.proofs.Walking.{stays-at}
 use Rattle.mdp_unichain.specs.Component as component
-use Rattle.mdp_unichain.specs.Component.{Component, Choice, IsInner, is_state, IsComponent}
-use Rattle.mdp_unichain.specs.Model.{choice_of, IsInside, IsEndComponent}
+use Rattle.mdp_unichain.specs.{Component.{Component, Choice, IsInner, is_state, IsComponent}, Model.{choice_of, IsInside, IsEndComponent}}
 use Rattle.mdp_unichain.specs.Part.{IsPart, is_inner, inner_component}
-use Rattle.mdp_unichain.proofs.Entries.{target-any, target-all}
-use Rattle.mdp_unichain.proofs.Ranks.{LeadsNearer, walk_rank, walk_falls}
-use Rattle.mdp_unichain.proofs.Trees.{choice_of-at}
+use Rattle.mdp_unichain.proofs.{Entries.{target-any, target-all}, Ranks.{LeadsNearer, walk_rank, walk_falls}, Trees.{choice_of-at}}
 use Rattle.mdp_unichain.proofs.Members.{count-is, choices-len, end_component_is}
 
 module _ (m : Mdp) (parts : List (Option ℕ)) (i : ℕ) (k : IsPart m parts i) where

@@ -1,30 +1,18 @@
 -- The path has exactly one end, and where no term is past width this is a policy of the best gain.
 use Rattle.std.proofs.Common.{◌≡◌, ◌≢◌, ℕ, zero, suc, ◌+◌, ◌<◌, ◌⊎◌, inl, inr, true, false, true≢false, List, Result, Ok, Err, refl, sym, ◌∙◌, ap, subst, arith}
-use Rattle.std.specs.Prelude.{slice_index}
 use Rattle.std.proofs.lemmas.List.FromFn.{fill_by_all}
+use Rattle.std.specs.Prelude.{slice_index}
 use Rattle.mdp_math.specs.Rational.{ℚ}
 use Rattle.mdp_spec.specs.Mdp.{value_at}
 use Rattle.mdp_elim.specs.Laws.{GivesSolutions}
-use Rattle.mdp_unichain.specs.Chain.{IsReference}
-use Rattle.mdp_unichain.specs.Component.{Component, count, is_state, row_by, IsPolicy, IsComponent}
-use Rattle.mdp_unichain.specs.Improvement.{IsEvaluated, IsImproved, IsChanged}
-use Rattle.mdp_unichain.specs.Next.{IsNearest, IsExactNext}
-use Rattle.mdp_policy_iteration.specs.Iteration.{Step, next, done, refused}
-use Rattle.mdp_unichain.specs.Iteration.{EndsWith}
-use Rattle.mdp_policy_iteration.specs.Places.{Place}
+use Rattle.mdp_unichain.specs.{Chain.{IsReference}, Component.{Component, count, is_state, row_by, IsPolicy, IsComponent}}
+use Rattle.mdp_unichain.specs.{Improvement.{IsEvaluated, IsImproved, IsChanged}, Next.{IsNearest, IsExactNext}, Iteration.{EndsWith}}
 use Rattle.mdp_unichain.specs.Written.{Values, written_values, written_improved}
-use Rattle.mdp_policy_iteration.specs.Path.{Round, Refusal}
-use Rattle.mdp_policy_iteration.specs.Laws.{first}
 use Rattle.mdp_unichain.specs.Path.{Found, refused_at, AfterComparison, AfterEvaluation, Makes, IsStart, FirstIsStart, HasOneEnd, IsBestGain, EndsAtBestGain}
-use Rattle.mdp_unichain.proofs.Chains.{same_or_other}
-use Rattle.mdp_unichain.proofs.Reaching.{search_below, test_or_not}
-use Rattle.mdp_unichain.proofs.Classes.{one_reference}
-use Rattle.mdp_unichain.proofs.Improving.{next_is_evaluated, ends_at_none_better}
-use Rattle.mdp_unichain.proofs.Ending.{none_twice}
-use Rattle.mdp_unichain.proofs.Deciding.{has_reference}
-use Rattle.mdp_unichain.proofs.Nexts.{exact_is_next, has_one_exact_next}
-use Rattle.mdp_unichain.proofs.Exact.{evaluates_exactly}
-use Rattle.mdp_unichain.proofs.Compares.{improves_exactly}
+use Rattle.mdp_policy_iteration.specs.{Iteration.{Step, next, done, refused}, Places.{Place}, Path.{Round, Refusal}, Laws.{first}}
+use Rattle.mdp_unichain.proofs.{Chains.{same_or_other}, Reaching.{search_below, test_or_not}, Classes.{one_reference}}
+use Rattle.mdp_unichain.proofs.{Improving.{next_is_evaluated, ends_at_none_better}, Ending.{none_twice}, Deciding.{has_reference}}
+use Rattle.mdp_unichain.proofs.{Nexts.{exact_is_next, has_one_exact_next}, Exact.{evaluates_exactly}, Compares.{improves_exactly}}
 use Rattle.mdp_unichain.proofs.Iterations.{one_end, holds_at_end}
 
 -- two policies are the same, or differ at a state

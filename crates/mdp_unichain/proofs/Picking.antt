@@ -1,23 +1,16 @@
 -- The reference and the class that is picked, from the parts of a policy's chain.
 use Rattle.std.proofs.Common.{◌≡◌, ◌≢◌, ℕ, ◌<◌, ◌≤◌, ◌⊎◌, inl, inr, Bool, true, false, not, ◌&&◌, ◌==◌, List, length, map, Some, refl, sym, ◌∙◌, ap, arith}
-use Rattle.std.specs.List.{range_with_len}
-use Rattle.std.specs.Prelude.{slice_index}
-use Rattle.std.proofs.lemmas.Bool.{false≢true, and_parts, and_from, eqb-true, eq-eqb, ne_eqb}
-use Rattle.std.proofs.Math.ListN.{get_or-eq_default}
+use Rattle.std.proofs.{lemmas.Bool.{false≢true, and_parts, and_from, eqb-true, eq-eqb, ne_eqb}, Math.ListN.{get_or-eq_default}}
 use Rattle.std.proofs.lemmas.List.FromFn.{length-map-range_with_len}
+use Rattle.std.specs.{List.{range_with_len}, Prelude.{slice_index}}
 use Rattle.mdp_math.proofs.Numbers.{le_or}
 use Rattle.mdp_spec.specs.Mdp.{Entry}
 use Rattle.mdp_graph.specs.Sets.{marked}
-use Rattle.mdp_unichain.specs.Chain.{IsChain, AllLeadTo, IsReference, IsClosedClass}
-use Rattle.mdp_unichain.specs.Component.{Component, count, is_state, row_by, IsPolicy, IsComponent}
-use Rattle.mdp_unichain.specs.Improvement.{KeepsClasses}
-use Rattle.mdp_unichain.specs.Next.{HoldsChanged}
+use Rattle.mdp_unichain.specs.{Chain.{IsChain, AllLeadTo, IsReference, IsClosedClass}, Component.{Component, count, is_state, row_by, IsPolicy, IsComponent}}
+use Rattle.mdp_unichain.specs.{Improvement.{KeepsClasses}, Next.{HoldsChanged}}
 use Rattle.mdp_unichain.specs.Classes.{differs, has_flag, shares_part, AreClasses, is_in_class, is_in_changed_class, Picks}
-use Rattle.mdp_unichain.proofs.Chains.{same_or_other}
-use Rattle.mdp_unichain.proofs.Classes.{holds, leads_into, into_class}
-use Rattle.mdp_unichain.proofs.ClassesFound.{flag-is, flag_from, flag_by}
-use Rattle.mdp_unichain.proofs.Improving.{policy-chain, state-below}
-use Rattle.mdp_unichain.proofs.Reaching.{test_or_not, clash_test, has_class}
+use Rattle.mdp_unichain.proofs.{Chains.{same_or_other}, Classes.{holds, leads_into, into_class}, ClassesFound.{flag-is, flag_from, flag_by}}
+use Rattle.mdp_unichain.proofs.{Improving.{policy-chain, state-below}, Reaching.{test_or_not, clash_test, has_class}}
 
 -- the first number below n that passes a test, where one does
 pub record IsFirst (test : ℕ → Bool) (n t : ℕ) : Type 0 where

@@ -7,8 +7,7 @@ use Rattle.mdp_rows.specs.Preds.{leads_to}
 use Rattle.mdp_graph.specs.Layers.{reached}
 use Rattle.mdp_ends.specs.Walks.{chosen_step, comes_to, Reaches}
 use Rattle.mdp_ends.proofs.Walking.{step-has, here, one_more}
-use Rattle.mdp_unichain.proofs.Reaching.{LeastOf, least_of, test_or_not}
-use Rattle.mdp_unichain.proofs.Chains.{same_or_other}
+use Rattle.mdp_unichain.proofs.{Reaching.{LeastOf, least_of, test_or_not}, Chains.{same_or_other}}
 
 module _ (m : Mdp) (chosen : ℕ → ℕ → Bool) (t : ℕ) where
   at_start : (s : ℕ) → comes_to m chosen t 0 s ≡ true → s ≡ t

@@ -1,9 +1,8 @@
 -- Search in a finite chain: all its states lead to t, or some of them form a closed set without t. And each closed set holds a closed class.
 use Rattle.std.proofs.Common.{◌≡◌, ◌≢◌, ℕ, zero, suc, ◌<◌, ◌≤◌, ◌⊎◌, inl, inr, Bool, true, false, not}
-use Rattle.std.proofs.Common.{◌&&◌, ◌||◌, eqb, if◌then◌else◌, List, [], ◌∷◌, refl, sym, ◌∙◌, ap, subst, arith}
-use Rattle.std.specs.List.{All, Any}
-use Rattle.std.proofs.lemmas.List.Elements.{All-nil, All-cons}
+use Rattle.std.proofs.{Common.{◌&&◌, ◌||◌, eqb, if◌then◌else◌, List, [], ◌∷◌, refl, sym, ◌∙◌, ap, subst, arith}, lemmas.List.Elements.{All-nil, All-cons}}
 use Rattle.std.proofs.lemmas.Bool.{or_left, or_right, or_cases}
+use Rattle.std.specs.List.{All, Any}
 use Rattle.mdp_math.proofs.Numbers.{last_or, le_or, eqb-same}
 use Rattle.mdp_spec.specs.Mdp.{Entry}
 use Rattle.mdp_unichain.specs.Chain.{IsChain, AllLeadTo, IsClosedClass}

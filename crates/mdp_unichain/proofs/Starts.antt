@@ -1,14 +1,11 @@
 -- There is exactly one start of the path.
 use Rattle.std.proofs.Common.{◌≡◌, ◌≢◌, ℕ, suc, ◌≤◌, ◌⊎◌, inl, inr, Bool, true, false, eqb, List, refl, sym, ◌∙◌, ap, subst, arith}
-use Rattle.std.specs.Prelude.{slice_index}
 use Rattle.std.proofs.lemmas.List.FromFn.{fill_by_all}
+use Rattle.std.specs.Prelude.{slice_index}
 use Rattle.mdp_math.proofs.Numbers.{eqb-same}
-use Rattle.mdp_unichain.specs.Component.{Component, Choice, count, choice_at, IsInner, is_state, IsPolicy, IsComponent}
-use Rattle.mdp_unichain.specs.Next.{IsNearest}
+use Rattle.mdp_unichain.specs.{Component.{Component, Choice, count, choice_at, IsInner, is_state, IsPolicy, IsComponent}, Next.{IsNearest}}
 use Rattle.mdp_unichain.specs.Path.{IsFirst, HasOneFirst}
-use Rattle.mdp_unichain.proofs.Chains.{same_number, same_or_other, other_number}
-use Rattle.mdp_unichain.proofs.Reaching.{test_or_not, clash_test, least_of}
-use Rattle.mdp_unichain.proofs.Improving.{state-below}
+use Rattle.mdp_unichain.proofs.{Chains.{same_number, same_or_other, other_number}, Reaching.{test_or_not, clash_test, least_of}, Improving.{state-below}}
 use Rattle.mdp_unichain.proofs.Best.{inner_of_state, listed, listed-at, listed-policy}
 use Rattle.mdp_unichain.proofs.Nexts.{nearer_same, rank_of, ranks_toward, goes, goes-is, goes-kept, goes-toward}
 

@@ -1,24 +1,16 @@
 -- The pass toward some states of a part: its ranks and choices are those of the path.
 use Rattle.std.proofs.Common.{◌≡◌, ℕ, suc, ◌<◌, ◌≤◌, inl, Bool, true, false, ◌&&◌, nat_lt, List, length, Option, sym, ◌∙◌, ap, subst, arith}
-use Rattle.std.specs.List.{All, Any}
-use Rattle.std.specs.Prelude.{slice_index}
 use Rattle.std.proofs.lemmas.Bool.{or_right, and_parts, and_from, ltb-true, lt-ltb}
+use Rattle.std.specs.{List.{All, Any}, Prelude.{slice_index}}
 use Rattle.mdp_spec.specs.Mdp.{Entry, Mdp, states_of, choices_at, row_at}
-use Rattle.mdp_rows.specs.declared.dir.Dir.{Dir}
-use Rattle.mdp_graph.specs.Sets.{marked}
-use Rattle.mdp_graph.specs.Layers.{reached}
-use Rattle.mdp_graph.specs.Reach.{falls}
-use Rattle.mdp_rows.specs.Preds.{leads_to}
-use Rattle.mdp_ends.specs.Ends.{in_part, is_inside}
-use Rattle.mdp_ends.specs.Toward.{inner_step, target_in, inner_falls, IsToward}
+use Rattle.mdp_rows.specs.{declared.dir.Dir.{Dir}, Preds.{leads_to}}
+use Rattle.mdp_graph.specs.{Sets.{marked}, Layers.{reached}, Reach.{falls}}
+use Rattle.mdp_ends.specs.{Ends.{in_part, is_inside}, Toward.{inner_step, target_in, inner_falls, IsToward}}
 use Rattle.mdp_ends.proofs.Walking.{enters-at, enters-by, step-by, target-below}
 use Rattle.mdp_unichain.specs.Component as component
-use Rattle.mdp_unichain.specs.Component.{Component, Choice, IsInner, is_state, IsComponent}
-use Rattle.mdp_unichain.specs.Model.{IsInside}
-use Rattle.mdp_unichain.specs.Next.{LeadsNearer, AreRanksToward, IsNearest}
+use Rattle.mdp_unichain.specs.{Component.{Component, Choice, IsInner, is_state, IsComponent}, Model.{IsInside}, Next.{LeadsNearer, AreRanksToward, IsNearest}}
 use Rattle.mdp_unichain.specs.Part.{IsPart, is_inner, inner_component}
-use Rattle.mdp_unichain.proofs.Entries.{any-target, target-any, all-target, target-all}
-use Rattle.mdp_unichain.proofs.Members.{inside_of, inner_of, row-is}
+use Rattle.mdp_unichain.proofs.{Entries.{any-target, target-any, all-target, target-all}, Members.{inside_of, inner_of, row-is}}
 use Rattle.mdp_unichain.proofs.Parts.{member-below, inner_inside, inside_inner, part-component, part-state}
 
 module _ (dir : Dir) (m : Mdp) (parts : List (Option ℕ)) (i r : ℕ) (k : IsPart m parts i) (target marks : List Bool) (ranks choices : List ℕ)

@@ -1,23 +1,13 @@
 -- What a gain says of trees: where no choice of the component is better, no tree of its choices earns more than the gain in each step.
 use Rattle.std.proofs.Common.{◌≡◌, ℕ, ◌<◌, Bool, true, false, List, [], length, sym, ◌∙◌, ap, subst, zero-add, map}
-use Rattle.std.specs.Prelude.{slice_index_or}
-use Rattle.std.specs.List.{range_with_len}
 use Rattle.std.proofs.lemmas.List.FromFn.{get_or-map-range_with_len}
-use Rattle.mdp_math.specs.Rational.{ℚ, ◌+ℚ◌, ◌-ℚ◌, ◌≤ℚ◌}
-use Rattle.mdp_math.proofs.Order.{≤ℚ_refl, ≤ℚ_of_eq}
-use Rattle.mdp_spec.specs.Mdp.{Mdp, states_of, choices_at, row_at}
-use Rattle.mdp_spec.specs.Row.{IsMdp}
-use Rattle.mdp_spec.specs.Tree.{Tree}
-use Rattle.mdp_spec.proofs.Above.{row_weigh}
-use Rattle.mdp_rows.specs.declared.dir.Dir.{Dir}
-use Rattle.mdp_rows.specs.declared.dir.Dir.TheVariants.{Max, Min}
+use Rattle.std.specs.{Prelude.{slice_index_or}, List.{range_with_len}}
+use Rattle.mdp_math.specs.{Rational.{ℚ, ◌+ℚ◌, ◌-ℚ◌, ◌≤ℚ◌}, Sum.{EachAt}}
+use Rattle.mdp_math.proofs.{Order.{≤ℚ_refl, ≤ℚ_of_eq}, SumsAt.{EachAt_mono, EachAt_both}}
+use Rattle.mdp_spec.specs.{Mdp.{Mdp, states_of, choices_at, row_at}, Row.{IsMdp, IsRow}, Tree.{Tree}}
+use Rattle.mdp_spec.proofs.{Above.{row_weigh}, Rows.{rows_known, targets_at, row_weigh-const}, Steps.{Uses}, Mean.{total-le_by, total-ge_by}}
+use Rattle.mdp_rows.specs.{declared.dir.Dir.{Dir}, declared.dir.Dir.TheVariants.{Max, Min}}
 use Rattle.mdp_unichain.specs.Component as component
-use Rattle.mdp_math.specs.Sum.{EachAt}
-use Rattle.mdp_math.proofs.SumsAt.{EachAt_mono, EachAt_both}
-use Rattle.mdp_spec.specs.Row.{IsRow}
-use Rattle.mdp_spec.proofs.Rows.{rows_known, targets_at, row_weigh-const}
-use Rattle.mdp_spec.proofs.Steps.{Uses}
-use Rattle.mdp_spec.proofs.Mean.{total-le_by, total-ge_by}
 use Rattle.mdp_unichain.specs.Model.{choice_of, component_of, Takes, NoTreeEarnsMore, NoTreeEarnsLess}
 
 -- trees that take choices by a test, at states of the model

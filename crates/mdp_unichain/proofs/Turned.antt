@@ -1,12 +1,9 @@
 -- Both directions at once: what a row weighs of negated values, and negation back.
 use Rattle.std.proofs.Common.{◌≡◌, ℕ, List, [], ◌∷◌, refl, sym, negsuc}
 use Rattle.mdp_math.specs.Rational.{ℚ}
-use Rattle.mdp_math.proofs.Ring.{⊖, lit}
-use Rattle.mdp_math.proofs.Linear.{combine, equal}
-use Rattle.mdp_math.proofs.Kernel.{weigh-neg}
+use Rattle.mdp_math.proofs.{Ring.{⊖, lit}, Linear.{combine, equal}, Kernel.{weigh-neg}}
 use Rattle.mdp_spec.specs.Mdp.{Entry}
-use Rattle.mdp_rows.specs.declared.dir.Dir.{Dir}
-use Rattle.mdp_rows.specs.declared.dir.Dir.TheVariants.{Max, Min}
+use Rattle.mdp_rows.specs.{declared.dir.Dir.{Dir}, declared.dir.Dir.TheVariants.{Max, Min}}
 use Rattle.mdp_policy_iteration.proofs.Turned.{turn}
 use Rattle.mdp_unichain.specs.Evaluation.{mean}
 

@@ -1,9 +1,7 @@
 -- A gain with a bias and a choice for each state, as the optimality equation has them.
 use Rattle.std.specs.Prelude.{◌≡◌, ℕ, true}
 use Rattle.mdp_math.specs.Rational.{ℚ, ◌+ℚ◌}
-use Rattle.mdp_unichain.specs.Chain.{AllLeadTo}
-use Rattle.mdp_unichain.specs.Component.{Component, Choice, choice_at, IsInner, is_state}
-use Rattle.mdp_unichain.specs.Improvement.{worth, NoneBetter}
+use Rattle.mdp_unichain.specs.{Chain.{AllLeadTo}, Component.{Component, Choice, choice_at, IsInner, is_state}, Improvement.{worth, NoneBetter}}
 
 pub record HasBestGain (p : Component) (gain : ℚ) (bias : ℕ → ℚ) (choice : ℕ → ℕ) : Type 0 where
   pub takes : (s : ℕ) → is_state p s ≡ true → IsInner p s (choice s)

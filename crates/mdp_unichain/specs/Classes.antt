@@ -1,11 +1,7 @@
 -- The closed classes of a policy's chain as parts of the states: strong components by the policy's choices, and which of them are left.
-use Rattle.std.specs.Prelude.{◌≡◌, ℕ, ◌<◌, Bool, true, false, ◌&&◌, ◌==◌, not, List, length, slice_index, Option, Some, None}
-use Rattle.std.specs.List.{list_any, range_with_len}
+use Rattle.std.specs.{Prelude.{◌≡◌, ℕ, ◌<◌, Bool, true, false, ◌&&◌, ◌==◌, not, List, length, slice_index, Option, Some, None}, List.{list_any, range_with_len}}
 use Rattle.mdp_graph.specs.Sets.{marked}
-use Rattle.mdp_unichain.specs.Chain.{IsClosedClass}
-use Rattle.mdp_unichain.specs.Component.{Component, count, is_state, row_by}
-use Rattle.mdp_unichain.specs.Improvement.{KeepsClasses}
-use Rattle.mdp_unichain.specs.Next.{IsPicked}
+use Rattle.mdp_unichain.specs.{Chain.{IsClosedClass}, Component.{Component, count, is_state, row_by}, Improvement.{KeepsClasses}, Next.{IsPicked}}
 
 -- choice c of state s is the policy's, at a state of the component
 abbrev pub takes : Component → List ℕ → ℕ → ℕ → Bool

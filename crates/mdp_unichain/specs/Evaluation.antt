@@ -1,10 +1,8 @@
 -- The gain and the bias of a chain with rewards and one closed class (Puterman 1994, section 8.2).
 use Rattle.std.specs.Prelude.{◌≡◌, ℕ, Bool, true, false, not, ◌&&◌, List, pos}
 use Rattle.std.proofs.Common.{eqb}
-use Rattle.mdp_math.specs.Rational.{ℚ, of_int, ◌+ℚ◌, ◌-ℚ◌, ◌*ℚ◌}
-use Rattle.mdp_math.specs.Kernel.{weigh}
-use Rattle.mdp_math.proofs.Order.{◌/ℚ◌}
-use Rattle.mdp_math.proofs.Solutions.{Solves}
+use Rattle.mdp_math.specs.{Rational.{ℚ, of_int, ◌+ℚ◌, ◌-ℚ◌, ◌*ℚ◌}, Kernel.{weigh}}
+use Rattle.mdp_math.proofs.{Order.{◌/ℚ◌}, Solutions.{Solves}}
 use Rattle.mdp_spec.specs.Mdp.{Entry}
 
 -- the sum of probability times value over a row; the values are those of a list by `value_at`

@@ -2,9 +2,8 @@
 use Rattle.std.specs.Prelude.{◌≡◌, ◌≢◌, ◌⊎◌, ℕ, Bool, true, List, slice_index}
 use Rattle.mdp_math.specs.Rational.{ℚ, ◌+ℚ◌}
 use Rattle.mdp_unichain.specs.Chain.{IsReference, IsClosedClass, AllLeadInto}
-use Rattle.mdp_unichain.specs.Component.{Component, Choice, choice_at, IsInner, is_state, row_by, reward_by, IsPolicy}
+use Rattle.mdp_unichain.specs.{Component.{Component, Choice, choice_at, IsInner, is_state, row_by, reward_by, IsPolicy}, Evaluation.{mean, IsEvaluation}}
 use Rattle.mdp_rows.specs.Better.{IsBetter, IsAsGood}
-use Rattle.mdp_unichain.specs.Evaluation.{mean, IsEvaluation}
 
 -- a policy of the path: it has one closed class, with the reference t, and this gain and bias
 pub record IsEvaluated (p : Component) (policy : List ℕ) (t : ℕ) (gain : ℚ) (bias : ℕ → ℚ) : Type 0 where

@@ -1,11 +1,10 @@
 -- What policy iteration for the gain does, round by round, in exact numbers.
 use Rattle.std.specs.Prelude.{◌≡◌, ℕ, ◌<◌, Bool, true, List, slice_index, pos}
 use Rattle.mdp_math.specs.Rational.{ℚ, of_int, ◌+ℚ◌, ◌≤ℚ◌}
-use Rattle.mdp_unichain.specs.Chain.{AllLeadTo, IsReference}
-use Rattle.mdp_unichain.specs.Component.{Component, is_state, row_by, reward_by, IsPolicy, IsComponent}
-use Rattle.mdp_rows.specs.Better.{IsBetter, IsAsGood}
+use Rattle.mdp_unichain.specs.{Chain.{AllLeadTo, IsReference}, Component.{Component, is_state, row_by, reward_by, IsPolicy, IsComponent}}
 use Rattle.mdp_unichain.specs.Evaluation.{mean, IsEvaluation, IsGain}
 use Rattle.mdp_unichain.specs.Improvement.{IsEvaluated, IsImproved, IsChanged, KeepsClasses, GoesToward, IsNext, NoneBetter}
+use Rattle.mdp_rows.specs.Better.{IsBetter, IsAsGood}
 
 -- a policy of which all states lead to t has one gain and one bias
 abbrev pub HasOneEvaluation : Type 0

@@ -1,20 +1,11 @@
 -- An end component of a model, for the reward of name r. Choices keep their numbers.
-use Rattle.std.specs.Prelude.{◌≡◌, ◌≢◌, ℕ, zero, suc, ◌<◌, Bool, true, length, map}
-use Rattle.std.specs.List.{All, Any, range_with_len}
-use Rattle.mdp_math.specs.Rational.{ℚ, ◌+ℚ◌, ◌-ℚ◌, ◌*ℚ◌, ◌≤ℚ◌}
-use Rattle.mdp_spec.specs.Mdp.{Mdp, states_of, row_at}
-use Rattle.mdp_spec.specs.Mdp as mdp
-use Rattle.mdp_spec.specs.Row.{IsMdp}
-use Rattle.mdp_spec.specs.Unit.{count_at, reward_of}
-use Rattle.mdp_math.specs.Sum.{EachAt}
-use Rattle.mdp_spec.specs.Tree.{Tree}
-use Rattle.mdp_spec.specs.Tree.Tree.{leaf, node}
-use Rattle.mdp_spec.specs.Pay.{total}
+use Rattle.std.specs.{Prelude.{◌≡◌, ◌≢◌, ℕ, zero, suc, ◌<◌, Bool, true, length, map}, List.{All, Any, range_with_len}}
+use Rattle.mdp_math.specs.{Rational.{ℚ, ◌+ℚ◌, ◌-ℚ◌, ◌*ℚ◌, ◌≤ℚ◌}, Sum.{EachAt}}
+use Rattle.mdp_spec.specs.{Mdp.{Mdp, states_of, row_at}, Row.{IsMdp}, Unit.{count_at, reward_of}, Tree.{Tree}, Tree.Tree.{leaf, node}, Pay.{total}}
 use Rattle.mdp_spec.specs.Bounds.{whole}
-use Rattle.mdp_rows.specs.declared.dir.Dir.{Dir}
-use Rattle.mdp_rows.specs.declared.dir.Dir.TheVariants.{Max, Min}
-use Rattle.mdp_unichain.specs.Component.{Component, Choice, is_state, IsComponent}
-use Rattle.mdp_unichain.specs.Improvement.{NoneBetter}
+use Rattle.mdp_spec.specs.Mdp as mdp
+use Rattle.mdp_rows.specs.{declared.dir.Dir.{Dir}, declared.dir.Dir.TheVariants.{Max, Min}}
+use Rattle.mdp_unichain.specs.{Component.{Component, Choice, is_state, IsComponent}, Improvement.{NoneBetter}}
 
 abbrev pub choice_of : Mdp → ℕ → (ℕ → ℕ → Bool) → ℕ → ℕ → Choice
 choice_of m r inner s c = record { inner = inner s c; reward = reward_of (mdp.choice_at m s c) r; row = row_at m s c }

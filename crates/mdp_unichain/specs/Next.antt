@@ -1,8 +1,6 @@
 -- The next policy, to the last choice: which class is picked, and how the other states go toward it. Exactly one policy is it.
-use Rattle.std.specs.Prelude.{◌≡◌, ◌≢◌, ◌⊎◌, ℕ, suc, ◌<◌, ◌≤◌, Bool, true, false, List, slice_index}
-use Rattle.std.specs.List.{All, Any}
-use Rattle.mdp_unichain.specs.Chain.{IsClosedClass}
-use Rattle.mdp_unichain.specs.Component.{Component, choice_at, IsInner, is_state, row_by, IsPolicy, IsComponent}
+use Rattle.std.specs.{Prelude.{◌≡◌, ◌≢◌, ◌⊎◌, ℕ, suc, ◌<◌, ◌≤◌, Bool, true, false, List, slice_index}, List.{All, Any}}
+use Rattle.mdp_unichain.specs.{Chain.{IsClosedClass}, Component.{Component, choice_at, IsInner, is_state, row_by, IsPolicy, IsComponent}}
 use Rattle.mdp_unichain.specs.Improvement.{KeepsClasses, IsNext}
 
 -- a class holds a state where the two policies differ

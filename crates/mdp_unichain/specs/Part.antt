@@ -1,12 +1,9 @@
 -- Part i of the maximal end components of a model as a component: its states and its choices.
-use Rattle.std.specs.Prelude.{ℕ, ◌<◌, Bool, ◌&&◌, List, filter, Option}
-use Rattle.std.specs.List.{range_with_len}
-use Rattle.mdp_spec.specs.Mdp.{Mdp, states_of}
-use Rattle.mdp_spec.specs.Row.{IsMdp}
+use Rattle.std.specs.{Prelude.{ℕ, ◌<◌, Bool, ◌&&◌, List, filter, Option}, List.{range_with_len}}
+use Rattle.mdp_spec.specs.{Mdp.{Mdp, states_of}, Row.{IsMdp}}
 use Rattle.mdp_rows.specs.declared.dir.Dir.{Dir}
 use Rattle.mdp_ends.specs.Ends.{AreEnds, count_of, in_part, is_inside}
-use Rattle.mdp_unichain.specs.Component.{Component}
-use Rattle.mdp_unichain.specs.Model.{component_of}
+use Rattle.mdp_unichain.specs.{Component.{Component}, Model.{component_of}}
 
 pub record IsPart (m : Mdp) (parts : List (Option ℕ)) (i : ℕ) : Type 0 where
   pub model : IsMdp m

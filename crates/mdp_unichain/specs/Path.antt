@@ -2,16 +2,10 @@
 use Rattle.std.specs.Prelude.{◌≡◌, ◌≢◌, ◌⊎◌, ℕ, ◌+◌, ◌≤◌, true, List, slice_index, Result, Ok, Err}
 use Rattle.std.proofs.Common.{eqb}
 use Rattle.mdp_spec.specs.Mdp.{value_at}
-use Rattle.mdp_unichain.specs.Chain.{IsReference}
-use Rattle.mdp_unichain.specs.Component.{Component, is_state, IsInner, row_by, IsPolicy, IsComponent}
-use Rattle.mdp_unichain.specs.Improvement.{IsEvaluated, NoneBetter}
-use Rattle.mdp_unichain.specs.Next.{AreRanksToward, IsNearest, IsExactNext}
-use Rattle.mdp_policy_iteration.specs.Iteration.{Step, next, done, refused}
-use Rattle.mdp_policy_iteration.specs.Path.{Round, Refusal}
-use Rattle.mdp_policy_iteration.specs.Laws.{first}
-use Rattle.mdp_unichain.specs.Iteration.{EndsWith}
-use Rattle.mdp_policy_iteration.specs.Places.{Place}
+use Rattle.mdp_unichain.specs.{Chain.{IsReference}, Component.{Component, is_state, IsInner, row_by, IsPolicy, IsComponent}}
+use Rattle.mdp_unichain.specs.{Improvement.{IsEvaluated, NoneBetter}, Next.{AreRanksToward, IsNearest, IsExactNext}, Iteration.{EndsWith}}
 use Rattle.mdp_unichain.specs.Written.{Values, written_values, written_improved}
+use Rattle.mdp_policy_iteration.specs.{Iteration.{Step, next, done, refused}, Path.{Round, Refusal}, Laws.{first}, Places.{Place}}
 
 -- the last policy, its reference, and its gain and biases
 pub record Found : Type 0 where

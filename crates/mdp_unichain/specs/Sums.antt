@@ -1,8 +1,7 @@
 -- The written terms of a round: the gain and the bias from what is earned and from the number of steps, and what a choice is worth. Nothing where a term is
 -- past width.
 use Rattle.std.specs.Prelude.{ℕ, List, Option, Some, if◌then◌else◌, pos}
-use Rattle.mdp_math.specs.Rational.{ℚ, of_int}
-use Rattle.mdp_math.specs.Written.{written_mul, ◌>>=◌}
+use Rattle.mdp_math.specs.{Rational.{ℚ, of_int}, Written.{written_mul, ◌>>=◌}}
 use Rattle.mdp_num.specs.Written.{written_sub, written_div}
 use Rattle.mdp_spec.specs.Written.{written_sum}
 use Rattle.mdp_rows.specs.declared.dir.Dir.{Dir}

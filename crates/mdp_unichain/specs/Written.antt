@@ -1,16 +1,11 @@
 -- A round in written arithmetic: the evaluation of a policy with the reference t, and the comparison of all choices of the component.
 use Rattle.std.specs.Prelude.{ℕ, zero, suc, Bool, true, false, List, [], ◌∷◌, length, map, slice_index, slice_index_or, None, Result, Ok, if◌then◌else◌, pos}
 use Rattle.std.specs.List.{range_with_len}
-use Rattle.mdp_math.specs.Rational.{ℚ, of_int}
-use Rattle.mdp_math.specs.Result.{◌>>=◌}
-use Rattle.mdp_math.specs.Written.{written_add}
+use Rattle.mdp_math.specs.{Rational.{ℚ, of_int}, Result.{◌>>=◌}, Written.{written_add}}
 use Rattle.mdp_spec.specs.Mdp.{Entry, value_at}
 use Rattle.mdp_elim.specs.Solve.{written_solution}
-use Rattle.mdp_policy_iteration.specs.Places.{Place, at_place, up_to}
-use Rattle.mdp_policy_iteration.specs.Candidates.{Best}
-use Rattle.mdp_policy_iteration.specs.Path.{evaluating, placed, comparing, or_kept}
-use Rattle.mdp_unichain.specs.Component.{Component, count, choices_at, choice_at, is_state, row_by, reward_by}
-use Rattle.mdp_unichain.specs.Evaluation.{active}
+use Rattle.mdp_policy_iteration.specs.{Places.{Place, at_place, up_to}, Candidates.{Best}, Path.{evaluating, placed, comparing, or_kept}}
+use Rattle.mdp_unichain.specs.{Component.{Component, count, choices_at, choice_at, is_state, row_by, reward_by}, Evaluation.{active}}
 use Rattle.mdp_unichain.specs.Sums.{written_ratio, written_bias, compared}
 
 -- ---- evaluation

@@ -1,11 +1,8 @@
 -- What written arithmetic tells is exact.
 use Rattle.std.specs.Prelude.{◌≡◌, ℕ, List, Ok}
 use Rattle.mdp_spec.specs.Mdp.{value_at}
-use Rattle.mdp_unichain.specs.Chain.{AllLeadTo}
-use Rattle.mdp_unichain.specs.Component.{Component, is_state, row_by, reward_by, IsPolicy, IsComponent}
-use Rattle.mdp_unichain.specs.Evaluation.{IsEvaluation}
-use Rattle.mdp_unichain.specs.Improvement.{IsImproved}
-use Rattle.mdp_unichain.specs.Written.{Values, written_values, written_improved}
+use Rattle.mdp_unichain.specs.{Chain.{AllLeadTo}, Component.{Component, is_state, row_by, reward_by, IsPolicy, IsComponent}, Evaluation.{IsEvaluation}}
+use Rattle.mdp_unichain.specs.{Improvement.{IsImproved}, Written.{Values, written_values, written_improved}}
 
 abbrev pub EvaluatesExactly : Type 0
 EvaluatesExactly =

@@ -1,8 +1,6 @@
 -- The first term past width of a query, as contracts see it.
 use Rattle.std.specs.Prelude.{ℕ, List, Option}
-use Rattle.mdp_wide.specs.declared.too_wide.Kind.{Kind}
-use Rattle.mdp_wide.specs.declared.too_wide.Part.{Part}
-use Rattle.mdp_wide.specs.declared.too_wide.TooWide.{TooWide}
+use Rattle.mdp_wide.specs.{declared.too_wide.Kind.{Kind}, declared.too_wide.Part.{Part}, declared.too_wide.TooWide.{TooWide}}
 
 -- where: the part, the number of the round, that round's policy, what was computed, and the state and the choice where there is one
 pub record WideTerm : Type 0 where

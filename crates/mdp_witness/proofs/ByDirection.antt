@@ -1,13 +1,10 @@
 -- What a certificate that was found shows, in either direction.
 use Rattle.std.proofs.Common.{◌≡◌, ℕ, ◌<◌, Bool, List, length, Ok}
 use Rattle.mdp_math.specs.Rational.{ℚ}
-use Rattle.mdp_spec.specs.Mdp.{Mdp, states_of}
-use Rattle.mdp_spec.specs.Row.{IsMdp}
-use Rattle.mdp_rows.specs.declared.dir.Dir.{Dir}
-use Rattle.mdp_rows.specs.declared.dir.Dir.TheVariants.{Max, Min}
+use Rattle.mdp_spec.specs.{Mdp.{Mdp, states_of}, Row.{IsMdp}}
+use Rattle.mdp_rows.specs.{declared.dir.Dir.{Dir}, declared.dir.Dir.TheVariants.{Max, Min}}
 use Rattle.mdp_subsystem_rules.specs.Laws.{ListedFlowShape, ListedFloorShape}
-use Rattle.mdp_witness.specs.Query.{PlainSubsystem, EndsSo}
-use Rattle.mdp_witness.specs.Shown.{HasShape, Holds}
+use Rattle.mdp_witness.specs.{Query.{PlainSubsystem, EndsSo}, Shown.{HasShape, Holds}}
 use Rattle.mdp_witness.proofs.Showing.{shape-max, holds-max, shape-min, holds-min}
 
 pub shape-found : (dir : Dir) (m : Mdp) (goals : List Bool) (start : ℕ) (threshold : ℚ) (found : PlainSubsystem) → IsMdp m → length goals ≡ states_of m → start < states_of m

@@ -4,8 +4,7 @@ use Rattle.mdp_math.specs.Rational.{ℚ}
 use Rattle.mdp_spec.specs.Mdp.{Mdp, value_at}
 use Rattle.mdp_rows.specs.declared.dir.Dir.{Dir}
 use Rattle.mdp_farkas.specs.Compare.{is_at_least}
-use Rattle.mdp_reach.specs.Query.{Answer}
-use Rattle.mdp_reach.specs.Round.{EndsWithRound}
+use Rattle.mdp_reach.specs.{Query.{Answer}, Round.{EndsWithRound}}
 use Rattle.mdp_witness.specs.Query.{PlainSubsystem, Refusal, below, too_wide, comparing, AfterComparison, FromFirst, EndsSo}
 
 module _ (dir : Dir) (m : Mdp) (goals : List Bool) (start : ℕ) (threshold : ℚ) (n : ℕ) (a : Answer) (solved : EndsWithRound dir m goals n (Ok a)) where

@@ -2,24 +2,20 @@
 -- its second choice to 2; states 1 and 2 go to 3 and to 4 with 1/2 each; states 3 and 4 are left nowhere. From 0 the goal is reached with 3/4 at most
 -- and 1/2 at least.
 use Rattle.std.proofs.Common.{◌≡◌, true, false, [], ◌∷◌, Some, None, Result, Ok, Err, refl, ap, pos}
-use Rattle.mdp_math.specs.Gcd.{gcd, gcd_with_fuel}
-use Rattle.mdp_math.specs.Rational.{ℚ, of_int, ratio, lt_ℚ, ◌+ℚ◌, ◌*ℚ◌, neg_ℚ, inv_ℚ}
+use Rattle.mdp_math.specs.{Gcd.{gcd, gcd_with_fuel}, Rational.{ℚ, of_int, ratio, lt_ℚ, ◌+ℚ◌, ◌*ℚ◌, neg_ℚ, inv_ℚ}}
 use Rattle.mdp_math.specs.Written.{written_add, written_mul, written_compare, narrow, narrow_ℚ}
 use Rattle.mdp_spec.proofs.Small.{half, nought, one, three_quarters}
-use Rattle.mdp_elim.specs.Elimination.{divided_rest, plus_equation, eliminated, evaluated}
-use Rattle.mdp_elim.specs.System.{equation_of}
+use Rattle.mdp_elim.specs.{Elimination.{divided_rest, plus_equation, eliminated, evaluated}, System.{equation_of}}
 use Rattle.mdp_wide.specs.declared.too_wide.Part.TheVariants as part
 use Rattle.mdp_wide.specs.declared.too_wide.Kind.TheVariants.{Evaluate, Compare, Check}
 use Rattle.mdp_rows.specs.declared.dir.Dir.TheVariants.{Max}
 use Rattle.mdp_claims.specs.declared.verdict.Verdict.TheVariants.{Yes, No, Wide}
-use Rattle.mdp_reach.specs.Query.{Answer}
-use Rattle.mdp_witness_trials.specs.Evaluation.{Visited, visited, visited_value}
-use Rattle.mdp_witness_trials.specs.Trial.{trial_set, trial_of, is_wide}
-use Rattle.mdp_witness_trials.proofs.Examples.{five, goals, greatest, least, best, worst, two_states, three_states, start_alone, no_states, first_max, left}
-use Rattle.mdp_witness.specs.Query.{PlainSubsystem, flow, floor, Refusal, below, too_wide, visiting, in_floor, flow_of, floor_of, verdict_on, FlowHeld, FloorHeld}
-use Rattle.mdp_witness.specs.Query.{AfterComparison, FromFirst}
-use Rattle.mdp_witness.specs.Shown.{kept_of, kept_in, HasShape, Holds}
 use Rattle.mdp_claims.specs.declared.rule.Rule.TheVariants.{FlowsBalance, FlowsReachGoals, StateIsKept, ValueOnEachChoice}
+use Rattle.mdp_reach.specs.Query.{Answer}
+use Rattle.mdp_witness.specs.{Evaluation.{Visited, visited, visited_value}, Trial.{trial_set, trial_of, is_wide}}
+use Rattle.mdp_witness.specs.Query.{PlainSubsystem, flow, floor, Refusal, below, too_wide, visiting, in_floor, flow_of, floor_of, verdict_on, FlowHeld, FloorHeld}
+use Rattle.mdp_witness.specs.{Query.{AfterComparison, FromFirst}, Shown.{kept_of, kept_in, HasShape, Holds}}
+use Rattle.mdp_witness.proofs.TrialExamples.{five, goals, greatest, least, best, worst, two_states, three_states, start_alone, no_states, first_max, left}
 
 -- the answers to the queries of the greatest and of the least probability
 abbrev at_most : Answer

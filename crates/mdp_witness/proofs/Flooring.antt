@@ -1,45 +1,24 @@
 -- The certificate of what the trials for the least probability leave.
 use Rattle.std.proofs.Common.{◌≡◌, ℕ, ◌<◌, ⊎_elim, Bool, true, false, ◌||◌, List, length, Option, Some, option_map, Ok, refl, sym, ◌∙◌, ap, subst}
-use Rattle.std.specs.Prelude.{replicate}
-use Rattle.std.specs.Option.{IsSome}
-use Rattle.std.specs.declared.cmp.Ordering.{Ordering}
-use Rattle.std.proofs.lemmas.List.{get_or-replicate}
-use Rattle.std.proofs.lemmas.List.Elements.{All-from_recursion}
-use Rattle.mdp_math.specs.Rational.{ℚ, ◌≤ℚ◌}
-use Rattle.mdp_math.specs.Written.{written_compare}
-use Rattle.mdp_math.proofs.Booleans.{or-true}
-use Rattle.mdp_math.proofs.Order.{≤ℚ_refl, ≤ℚ_antisymm}
-use Rattle.mdp_spec.specs.Bounds.{ReachMin}
-use Rattle.mdp_spec.specs.Mdp.{Mdp, states_of, value_at}
-use Rattle.mdp_spec.specs.Row.{IsMdp}
-use Rattle.mdp_spec.specs.Rules.{MeetsReachMin}
-use Rattle.mdp_spec.specs.Sub.{sub_of}
-use Rattle.mdp_spec.specs.Tree.{is_marked}
+use Rattle.std.proofs.{lemmas.List.{get_or-replicate}, lemmas.List.Elements.{All-from_recursion}}
+use Rattle.std.specs.{Prelude.{replicate}, Option.{IsSome}, declared.cmp.Ordering.{Ordering}}
+use Rattle.mdp_math.specs.{Rational.{ℚ, ◌≤ℚ◌}, Written.{written_compare}}
+use Rattle.mdp_math.proofs.{Booleans.{or-true}, Order.{≤ℚ_refl, ≤ℚ_antisymm}}
+use Rattle.mdp_spec.specs.{Bounds.{ReachMin}, Mdp.{Mdp, states_of, value_at}, Row.{IsMdp}, Rules.{MeetsReachMin}, Sub.{sub_of}, Tree.{is_marked}}
 use Rattle.mdp_spec.proofs.Subsystem.{sub-states, sub_is_mdp}
 use Rattle.mdp_rows.specs.declared.dir.Dir.TheVariants.{Min}
 use Rattle.mdp_graph.specs.Laws.{RestMeets}
 use Rattle.mdp_policy_iteration.specs.Laws.{EndsAtBest}
-use Rattle.mdp_farkas.specs.Compare.{not_less, is_at_least}
-use Rattle.mdp_farkas.specs.Verdict.{verdict_of, InWidth}
-use Rattle.mdp_claims.specs.declared.verdict.Verdict.{Verdict}
-use Rattle.mdp_claims.specs.declared.verdict.Verdict.TheVariants.{Yes}
+use Rattle.mdp_farkas.specs.{Compare.{not_less, is_at_least}, Verdict.{verdict_of, InWidth}}
+use Rattle.mdp_claims.specs.{declared.verdict.Verdict.{Verdict}, declared.verdict.Verdict.TheVariants.{Yes}}
 use Rattle.mdp_farkas.proofs.Comparing.{le_of_at_least}
-use Rattle.mdp_subsystem_rules.specs.FloorChecks.{floor_checks, HoldsFloor}
-use Rattle.mdp_subsystem_rules.specs.Laws.{WholeIsModel, LeastGrows, ListedMeetsFloor, ListedFloorShape}
-use Rattle.mdp_subsystem_rules.specs.Listed.{listed, values_at, ranks_at}
-use Rattle.mdp_subsystem_rules.specs.Shape.{IsFloorShape}
+use Rattle.mdp_subsystem_rules.specs.{FloorChecks.{floor_checks, HoldsFloor}, Laws.{WholeIsModel, LeastGrows, ListedMeetsFloor, ListedFloorShape}}
+use Rattle.mdp_subsystem_rules.specs.{Listed.{listed, values_at, ranks_at}, Shape.{IsFloorShape}}
 use Rattle.mdp_subsystem_rules.proofs.FloorRules.{floor_rules}
-use Rattle.mdp_reach.specs.Laws.{HasOneEnd, AnswersMeetRules, AnswersAreLeast}
-use Rattle.mdp_reach.specs.Query.{Answer, EndsSo}
-use Rattle.mdp_witness_trials.specs.First.{IsFirst}
-use Rattle.mdp_witness_trials.specs.LeastEvaluation.{Evaluates, value_from}
-use Rattle.mdp_witness_trials.specs.Laws.{LeastFirstReaches, MinKeptIsFloor}
-use Rattle.mdp_witness_trials.specs.Trial.{AreLeft}
-use Rattle.mdp_witness_trials.proofs.Left.{left_by}
-use Rattle.mdp_witness_trials.proofs.Lengths.{sized}
+use Rattle.mdp_reach.specs.{Laws.{HasOneEnd, AnswersMeetRules, AnswersAreLeast}, Query.{Answer, EndsSo}}
+use Rattle.mdp_witness.specs.{First.{IsFirst}, LeastEvaluation.{Evaluates, value_from}, TrialLaws.{LeastFirstReaches, MinKeptIsFloor}, Trial.{AreLeft}}
 use Rattle.mdp_witness.specs.Query.{PlainSubsystem, flow, floor, floor_of, verdict_on, FloorHeld, FromFirst}
-use Rattle.mdp_witness.proofs.InWidth.{floor_in_width}
-use Rattle.mdp_witness.proofs.Passing.{same_answer}
+use Rattle.mdp_witness.proofs.{Left.{left_by}, Lengths.{sized}, InWidth.{floor_in_width}, Passing.{same_answer}}
 
 -- a certificate that holds, and one that has its shape
 abbrev pub HoldsIt : Mdp → List Bool → ℕ → ℚ → PlainSubsystem → Type 0

@@ -1,22 +1,12 @@
 -- The certificate of what the trials for the greatest probability leave.
 use Rattle.std.proofs.Common.{◌≡◌, ℕ, ◌<◌, Bool, List, Result, Ok, Err, sym, subst}
 use Rattle.mdp_math.specs.Rational.{ℚ, ◌≤ℚ◌}
-use Rattle.mdp_spec.specs.Mdp.{Mdp, states_of, value_at}
-use Rattle.mdp_spec.specs.Row.{IsMdp}
-use Rattle.mdp_spec.specs.Rules.{MeetsReachMax}
+use Rattle.mdp_spec.specs.{Mdp.{Mdp, states_of, value_at}, Row.{IsMdp}, Rules.{MeetsReachMax}}
 use Rattle.mdp_rows.specs.declared.dir.Dir.TheVariants.{Max}
-use Rattle.mdp_subsystem_rules.specs.Flow.{MeetsFlow}
-use Rattle.mdp_subsystem_rules.specs.Kept.{kept_marks}
-use Rattle.mdp_subsystem_rules.specs.Laws.{ListedAreMarks, ListedFlowShape}
-use Rattle.mdp_subsystem_rules.specs.Shape.{IsFlowShape}
-use Rattle.mdp_subsystem_rules.specs.Visits.{visit_flows}
+use Rattle.mdp_subsystem_rules.specs.{Flow.{MeetsFlow}, Kept.{kept_marks}, Laws.{ListedAreMarks, ListedFlowShape}, Shape.{IsFlowShape}, Visits.{visit_flows}}
 use Rattle.mdp_claims.specs.declared.subsystem.Flow.{Flow}
-use Rattle.mdp_reach.specs.Laws.{AnswersMeetRules}
-use Rattle.mdp_reach.specs.Query.{Answer, EndsSo}
-use Rattle.mdp_witness_trials.specs.First.{IsFirst}
-use Rattle.mdp_witness_trials.specs.Evaluation.{Visited, visited, Visits, visited_value}
-use Rattle.mdp_witness_trials.specs.Laws.{MaxKeptIsFlow}
-use Rattle.mdp_witness_trials.specs.Trial.{AreLeft}
+use Rattle.mdp_reach.specs.{Laws.{AnswersMeetRules}, Query.{Answer, EndsSo}}
+use Rattle.mdp_witness.specs.{First.{IsFirst}, Evaluation.{Visited, visited, Visits, visited_value}, TrialLaws.{MaxKeptIsFlow}, Trial.{AreLeft}}
 use Rattle.mdp_witness.specs.Query.{PlainSubsystem, flow, floor, Refusal, too_wide, visiting, flow_of, verdict_on, FlowHeld, AfterVisits, FromFirst}
 use Rattle.mdp_witness.proofs.Passing.{same_answer}
 

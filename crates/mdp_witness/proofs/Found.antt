@@ -2,18 +2,13 @@
 use Rattle.std.proofs.Common.{◌≡◌, ℕ, Bool, true, false, List, Option, Some, None, Result, Ok, Err, refl}
 use Rattle.mdp_math.specs.Rational.{ℚ}
 use Rattle.mdp_spec.specs.Mdp.{Mdp, value_at}
-use Rattle.mdp_rows.specs.declared.dir.Dir.{Dir}
-use Rattle.mdp_rows.specs.declared.dir.Dir.TheVariants.{Max, Min}
+use Rattle.mdp_rows.specs.{declared.dir.Dir.{Dir}, declared.dir.Dir.TheVariants.{Max, Min}}
 use Rattle.mdp_wide.specs.Term.{WideTerm}
 use Rattle.mdp_farkas.specs.Compare.{is_at_least}
-use Rattle.mdp_claims.specs.declared.verdict.Verdict.{Verdict}
-use Rattle.mdp_claims.specs.declared.verdict.Verdict.TheVariants.{Yes, No, Wide}
-use Rattle.mdp_reach.specs.Query.{Answer}
+use Rattle.mdp_claims.specs.{declared.verdict.Verdict.{Verdict}, declared.verdict.Verdict.TheVariants.{Yes, No, Wide}}
+use Rattle.mdp_reach.specs.{Query.{Answer}, Round.{EndsWithRound}}
 use Rattle.mdp_reach.specs.Query as reach
-use Rattle.mdp_reach.specs.Round.{EndsWithRound}
-use Rattle.mdp_witness_trials.specs.Evaluation.{Visited, visited, Visits, visited_value}
-use Rattle.mdp_witness_trials.specs.LeastEvaluation.{Evaluates, value_from}
-use Rattle.mdp_witness_trials.specs.Trial.{AreLeft}
+use Rattle.mdp_witness.specs.{Evaluation.{Visited, visited, Visits, visited_value}, LeastEvaluation.{Evaluates, value_from}, Trial.{AreLeft}}
 use Rattle.mdp_witness.specs.Query.{PlainSubsystem, Refusal, below, flow_of, floor_of, verdict_on, FlowHeld, FloorHeld, AfterVisits, AfterFirstQuery, FromFirst}
 use Rattle.mdp_witness.specs.Query.{AfterComparison, AfterWhole, EndsSo}
 

@@ -1,37 +1,23 @@
 -- No term of the check of a floor is past width, where its values and ranks are the answer to the query of the subsystem, and where the value at the
 -- start was compared with the threshold: each sum is one of the check of that answer.
 use Rattle.std.proofs.Common.{◌≡◌, ℕ, zero, suc, ◌<◌, inl, inr, ⊎_elim, Bool, true, false, not, ◌||◌, cond, List}
-use Rattle.std.proofs.Common.{[], ◌∷◌, ◌++◌, length, get_or, Option, Some, None, refl, sym, ◌∙◌, ap, subst, arith, pos}
-use Rattle.std.specs.List.{Any}
-use Rattle.std.specs.Option.{IsSome}
-use Rattle.std.proofs.lemmas.Bool.{cases_Bool}
-use Rattle.std.proofs.lemmas.List.{get_or-map}
-use Rattle.std.proofs.lemmas.List.Elements.{recursion_from_All}
-use Rattle.mdp_math.specs.Rational.{ℚ, of_int, lt_ℚ}
-use Rattle.mdp_math.specs.Written.{◌>>=◌, written_add, written_mul}
+use Rattle.std.proofs.{Common.{[], ◌∷◌, ◌++◌, length, get_or, Option, Some, None, refl, sym, ◌∙◌, ap, subst, arith, pos}, lemmas.Bool.{cases_Bool}}
+use Rattle.std.proofs.{lemmas.List.{get_or-map}, lemmas.List.Elements.{recursion_from_All}}
+use Rattle.std.specs.{List.{Any}, Option.{IsSome}}
+use Rattle.mdp_math.specs.{Rational.{ℚ, of_int, lt_ℚ}, Written.{◌>>=◌, written_add, written_mul}}
 use Rattle.mdp_math.proofs.Order.{0ℚ, 1ℚ, ≤ℚ_antisymm, ≤ℚ_or_gt}
-use Rattle.mdp_spec.specs.Mdp.{Entry, Choice, Mdp, no_choice, states_of, choices_at, row_at, value_at}
-use Rattle.mdp_spec.specs.Row.{IsMdp}
-use Rattle.mdp_spec.specs.Rules.{MeetsReachMin}
-use Rattle.mdp_spec.specs.Sub.{loop_at, sub_of}
-use Rattle.mdp_spec.specs.Tree.{is_marked}
-use Rattle.mdp_spec.specs.Written.{written_sum}
+use Rattle.mdp_spec.specs.{Mdp.{Entry, Choice, Mdp, no_choice, states_of, choices_at, row_at, value_at}, Row.{IsMdp}, Rules.{MeetsReachMin}}
+use Rattle.mdp_spec.specs.{Sub.{loop_at, sub_of}, Tree.{is_marked}, Written.{written_sum}}
 use Rattle.mdp_spec.proofs.Subsystem.{stays-kept, sub-states, sub-stays, sub-loops, stays-row}
 use Rattle.mdp_rows.specs.declared.dir.Dir.TheVariants.{Min}
-use Rattle.mdp_farkas.specs.Bellman.{stands, sum_stands, stands_at, bound_check, bound_checks}
-use Rattle.mdp_farkas.specs.Compare.{is_at_least}
-use Rattle.mdp_farkas.specs.Reach.{value_checks, policy_check, rank_checks, reach_at, reach_checks, IsReach}
-use Rattle.mdp_farkas.specs.Upper.{goal_check}
+use Rattle.mdp_farkas.specs.{Bellman.{stands, sum_stands, stands_at, bound_check, bound_checks}, Compare.{is_at_least}}
+use Rattle.mdp_farkas.specs.{Reach.{value_checks, policy_check, rank_checks, reach_at, reach_checks, IsReach}, Upper.{goal_check}}
 use Rattle.mdp_farkas.specs.Verdict.{InWidth, at_choices}
 use Rattle.mdp_farkas.proofs.Holds.{Each, each_append, each_left, each_flat, each_flat_at, each_map, each_map_at, each_if, each_if_false}
 use Rattle.mdp_subsystem_rules.specs.FloorChecks as floor
 use Rattle.mdp_subsystem_rules.specs.FloorChecks.{spread_values, line_value, line_rank, line_values, cover_check, rank_check, fall_check, line_checks, checks_of_line, each_line, start_check, floor_checks}
-use Rattle.mdp_subsystem_rules.specs.FlowChecks.{kept_check}
-use Rattle.mdp_subsystem_rules.specs.Kept.{kept_marks}
-use Rattle.mdp_subsystem_rules.specs.Listed.{listed, values_at, ranks_at}
-use Rattle.mdp_subsystem_rules.proofs.Counted.{line_values-at}
-use Rattle.mdp_subsystem_rules.proofs.Floors.{as_kept, as_neither}
-use Rattle.mdp_subsystem_rules.proofs.Kept.{listed-at, spread-at}
+use Rattle.mdp_subsystem_rules.specs.{FlowChecks.{kept_check}, Kept.{kept_marks}, Listed.{listed, values_at, ranks_at}}
+use Rattle.mdp_subsystem_rules.proofs.{Counted.{line_values-at}, Floors.{as_kept, as_neither}, Kept.{listed-at, spread-at}}
 use Rattle.mdp_subsystem_rules.proofs.Listed.{listed-in_range, is_listed-listed, kept_marks-listed, looked_up-map}
 
 -- a loop leads to no smaller rank

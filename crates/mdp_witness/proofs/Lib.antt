@@ -10,3 +10,23 @@ pub mod Showing
 pub mod ByDirection
 pub mod OneEnd
 mod Examples
+pub mod Fronts
+pub mod Finding
+pub mod Arrivals
+pub mod Trying
+pub mod Steps
+pub mod Duality
+pub mod Lengths
+pub mod Floor
+pub mod FirstSet
+pub mod FirstMax
+pub mod FirstMin
+pub mod Visiting
+pub mod Values
+pub mod Left
+pub mod OneLeft
+pub mod Within
+pub mod Kept
+pub mod Needed
+pub mod TrialExamples
+pub mod ExamplesLeft

@@ -1,22 +1,15 @@
 -- The query of a witness has one end at most.
-use Rattle.std.proofs.Common.{◌≡◌, ℕ, ◌<◌, Bool, true, false, List, Option, Some, None, Result, Ok, Err, sym, ◌∙◌, ap, subst, arith}
-use Rattle.std.proofs.lemmas.List.{ext_get_or}
+use Rattle.std.proofs.{Common.{◌≡◌, ℕ, ◌<◌, Bool, true, false, List, Option, Some, None, Result, Ok, Err, sym, ◌∙◌, ap, subst, arith}, lemmas.List.{ext_get_or}}
 use Rattle.mdp_math.specs.Rational.{ℚ}
 use Rattle.mdp_math.proofs.Booleans.{same_truth}
-use Rattle.mdp_spec.specs.Mdp.{Mdp, states_of, value_at}
-use Rattle.mdp_spec.specs.Sub.{sub_of}
-use Rattle.mdp_spec.specs.Tree.{is_marked}
-use Rattle.mdp_rows.specs.declared.dir.Dir.{Dir}
-use Rattle.mdp_rows.specs.declared.dir.Dir.TheVariants.{Max, Min}
+use Rattle.mdp_spec.specs.{Mdp.{Mdp, states_of, value_at}, Sub.{sub_of}, Tree.{is_marked}}
+use Rattle.mdp_rows.specs.{declared.dir.Dir.{Dir}, declared.dir.Dir.TheVariants.{Max, Min}}
 use Rattle.mdp_wide.specs.Term.{WideTerm}
 use Rattle.mdp_farkas.specs.Compare.{is_at_least}
-use Rattle.mdp_claims.specs.declared.verdict.Verdict.{Verdict}
-use Rattle.mdp_claims.specs.declared.verdict.Verdict.TheVariants.{Yes, No, Wide}
+use Rattle.mdp_claims.specs.{declared.verdict.Verdict.{Verdict}, declared.verdict.Verdict.TheVariants.{Yes, No, Wide}}
 use Rattle.mdp_reach.specs.Laws as reach
 use Rattle.mdp_reach.specs.Query.{Answer}
-use Rattle.mdp_witness_trials.specs.First.{IsFirst}
-use Rattle.mdp_witness_trials.specs.Evaluation.{Visited, visited}
-use Rattle.mdp_witness_trials.specs.Laws.{VisitsLeaveOne, ValuesLeaveOne}
+use Rattle.mdp_witness.specs.{First.{IsFirst}, Evaluation.{Visited, visited}, TrialLaws.{VisitsLeaveOne, ValuesLeaveOne}}
 use Rattle.mdp_witness.specs.Query.{PlainSubsystem, Refusal, flow_of, floor_of, verdict_on, FlowHeld, FloorHeld, AfterVisits, AfterFirstQuery, AfterFirst, FromFirst}
 use Rattle.mdp_witness.specs.Query.{AfterComparison, AfterWhole, EndsSo}
 

@@ -1,17 +1,13 @@
 -- The lists of a certificate, as the states are gone through: one more state.
 use Rattle.std.proofs.Common.{◌≡◌, ℕ, ◌+◌, ◌<◌, Bool, true, false, List, [], ◌∷◌, ◌++◌, map, get_or, sym, ◌∙◌, ap, subst, if◌then◌else◌}
+use Rattle.std.proofs.{lemmas.List.{append-nil}, lemmas.List.Elements.{filter-append}}
 use Rattle.std.specs.List.{All, filter, range_with_len}
-use Rattle.std.proofs.lemmas.List.{append-nil}
-use Rattle.std.proofs.lemmas.List.Elements.{filter-append}
 use Rattle.mdp_math.specs.Rational.{ℚ, lt_ℚ}
-use Rattle.mdp_math.proofs.Lists.{range_more, map_more}
-use Rattle.mdp_math.proofs.Order.{0ℚ}
-use Rattle.mdp_spec.specs.Mdp.{value_at}
-use Rattle.mdp_spec.specs.Tree.{is_marked}
+use Rattle.mdp_math.proofs.{Lists.{range_more, map_more}, Order.{0ℚ}}
+use Rattle.mdp_spec.specs.{Mdp.{value_at}, Tree.{is_marked}}
 use Rattle.mdp_claims.specs.declared.subsystem.Flow.{Flow}
-use Rattle.mdp_subsystem_rules.specs.Listed.{listed}
+use Rattle.mdp_subsystem_rules.specs.{Listed.{listed}, Visits.{visit_flow, visit_flows}}
 use Rattle.mdp_subsystem_rules.proofs.Listed.{listed-in_range}
-use Rattle.mdp_subsystem_rules.specs.Visits.{visit_flow, visit_flows}
 
 one_passes : {A : Type 0} (p : A → Bool) (x : A) (b : Bool) → p x ≡ b → filter p (x ∷ []) ≡ (if b then x ∷ [] else [])
 one_passes p x b e = ap (λ (c : Bool). if c then x ∷ [] else []) e

@@ -2,9 +2,7 @@
 use Rattle.std.proofs.Common.{◌≡◌, ℕ, List, Result, Ok, Err, IfOk, IfErr, sym, ap, ◌∙◌, subst}
 use Rattle.mdp_math.specs.Rational.{ℚ}
 use Rattle.mdp_reach.specs.Query.{Answer}
-use Rattle.mdp_witness.specs.Query.{PlainSubsystem, Refusal, below}
-use Rattle.mdp_witness.specs.Code.{Answers, IfBelow}
-use Rattle.mdp_witness.specs.declared.subsystem.WitnessError.{WitnessError}
+use Rattle.mdp_witness.specs.{Query.{PlainSubsystem, Refusal, below}, Code.{Answers, IfBelow}, declared.subsystem.WitnessError.{WitnessError}}
 use Rattle.mdp_witness.specs.declared.subsystem.WitnessError.TheVariants as refused
 
 -- what the code answers to a part serves the query

@@ -1,50 +1,28 @@
 -- What a subsystem that was found shows.
 use Rattle.std.proofs.Common.{◌≡◌, ℕ, ◌<◌, Bool, true, false, List, length, get_or, Option, Some, None, option_map, Result, Ok, Err, refl, sym, ◌∙◌, ap, subst}
-use Rattle.std.specs.declared.cmp.Ordering.{Ordering}
-use Rattle.std.specs.declared.cmp.Ordering.TheVariants.{Less, Equal, Greater}
 use Rattle.std.proofs.lemmas.List.{get_or-map}
-use Rattle.mdp_math.specs.Rational.{ℚ, ◌<ℚ◌}
-use Rattle.mdp_math.specs.Written.{written_compare}
-use Rattle.mdp_math.proofs.Order.{lt_of_cmp}
-use Rattle.mdp_math.proofs.Written.{written_compare-some}
-use Rattle.mdp_spec.specs.Bounds.{SubMax, SubMin}
-use Rattle.mdp_spec.specs.Mdp.{Mdp, states_of, value_at}
-use Rattle.mdp_spec.specs.Row.{IsMdp}
-use Rattle.mdp_spec.specs.Rules.{MeetsReachMax}
-use Rattle.mdp_spec.specs.Sub.{sub_of, policy_on}
+use Rattle.std.specs.{declared.cmp.Ordering.{Ordering}, declared.cmp.Ordering.TheVariants.{Less, Equal, Greater}}
+use Rattle.mdp_math.specs.{Rational.{ℚ, ◌<ℚ◌}, Written.{written_compare}}
+use Rattle.mdp_math.proofs.{Order.{lt_of_cmp}, Written.{written_compare-some}}
+use Rattle.mdp_spec.specs.{Bounds.{SubMax, SubMin}, Mdp.{Mdp, states_of, value_at}, Row.{IsMdp}, Rules.{MeetsReachMax}, Sub.{sub_of, policy_on}}
 use Rattle.mdp_spec.specs.Tree.{is_marked}
-use Rattle.mdp_rows.specs.declared.dir.Dir.{Dir}
-use Rattle.mdp_rows.specs.declared.dir.Dir.TheVariants.{Max, Min}
+use Rattle.mdp_rows.specs.{declared.dir.Dir.{Dir}, declared.dir.Dir.TheVariants.{Max, Min}}
 use Rattle.mdp_wide.specs.Term.{WideTerm}
-use Rattle.mdp_farkas.specs.Compare.{not_less}
-use Rattle.mdp_farkas.specs.Verdict.{verdict_of}
+use Rattle.mdp_farkas.specs.{Compare.{not_less}, Verdict.{verdict_of}}
 use Rattle.mdp_farkas.proofs.Comparing.{le_of_at_least}
-use Rattle.mdp_subsystem_rules.specs.FlowChecks.{flow_checks, HoldsFlow}
-use Rattle.mdp_subsystem_rules.specs.FloorChecks.{floor_checks, HoldsFloor, spread_values, spread_ranks}
-use Rattle.mdp_subsystem_rules.specs.Flow.{flow_total}
-use Rattle.mdp_subsystem_rules.specs.Kept.{kept_marks}
+use Rattle.mdp_subsystem_rules.specs.{FlowChecks.{flow_checks, HoldsFlow}, FloorChecks.{floor_checks, HoldsFloor, spread_values, spread_ranks}}
+use Rattle.mdp_subsystem_rules.specs.{Flow.{flow_total}, Kept.{kept_marks}}
 use Rattle.mdp_subsystem_rules.specs.Laws.{FloorShows, FlowShows, PolicyShows, ListedAreMarks, ListedFlowShape, ListedFloorShape}
-use Rattle.mdp_subsystem_rules.specs.Listed.{listed, marks_at, values_at, ranks_at}
-use Rattle.mdp_subsystem_rules.specs.Policy.{PolicyWithin, FallsShort}
-use Rattle.mdp_subsystem_rules.specs.Visits.{visit_flows}
+use Rattle.mdp_subsystem_rules.specs.{Listed.{listed, marks_at, values_at, ranks_at}, Policy.{PolicyWithin, FallsShort}, Visits.{visit_flows}}
 use Rattle.mdp_claims.specs.declared.subsystem.Flow.{Flow}
-use Rattle.mdp_subsystem_rules.proofs.FlowRules.{flow_rules}
-use Rattle.mdp_subsystem_rules.proofs.FloorRules.{floor_rules}
-use Rattle.mdp_subsystem_rules.proofs.Kept.{listed-at}
-use Rattle.mdp_subsystem_rules.proofs.Listed.{listed-in_range, is_listed-listed}
-use Rattle.mdp_reach.specs.Laws.{HasOneEnd, AnswersMeetRules, AnswersAreGreatest, AnswersAreLeast}
-use Rattle.mdp_reach.specs.Query.{Answer, EndsSo}
-use Rattle.mdp_witness_trials.specs.First.{IsFirst}
-use Rattle.mdp_witness_trials.specs.Evaluation.{Visited, visited, Visits, visited_value}
-use Rattle.mdp_witness_trials.specs.LeastEvaluation.{Evaluates, value_from}
-use Rattle.mdp_witness_trials.specs.Laws.{MaxKeptIsFlow, MaxKeptAreNeeded, MinKeptAreNeeded}
-use Rattle.mdp_witness_trials.specs.Trial.{trial_set, without, trial_of, is_wide}
+use Rattle.mdp_subsystem_rules.proofs.{FlowRules.{flow_rules}, FloorRules.{floor_rules}, Kept.{listed-at}, Listed.{listed-in_range, is_listed-listed}}
+use Rattle.mdp_reach.specs.{Laws.{HasOneEnd, AnswersMeetRules, AnswersAreGreatest, AnswersAreLeast}, Query.{Answer, EndsSo}}
+use Rattle.mdp_witness.specs.{First.{IsFirst}, Evaluation.{Visited, visited, Visits, visited_value}, LeastEvaluation.{Evaluates, value_from}}
+use Rattle.mdp_witness.specs.{TrialLaws.{MaxKeptIsFlow, MaxKeptAreNeeded, MinKeptAreNeeded}, Trial.{trial_set, without, trial_of, is_wide}}
 use Rattle.mdp_witness.specs.Query.{PlainSubsystem, flow_of, floor_of, verdict_on}
-use Rattle.mdp_witness.specs.Query as query
 use Rattle.mdp_witness.specs.Shown.{kept_in, HasShape, Holds, PolicyReaches, IsNeededMax, IsNeededMin, AreNeeded, MarksAreExactMax, MarksAreExactMin, IsBest, IsBestBelow}
-use Rattle.mdp_witness.proofs.OneEnd.{one_first}
-use Rattle.mdp_witness.proofs.Sized.{kept_first}
-use Rattle.mdp_witness.proofs.Found.{IsFrom, IsLeftMax, IsLeftMin, left-max, left-min, is-from, is-below}
+use Rattle.mdp_witness.specs.Query as query
+use Rattle.mdp_witness.proofs.{OneEnd.{one_first}, Sized.{kept_first}, Found.{IsFrom, IsLeftMax, IsLeftMin, left-max, left-min, is-from, is-below}}
 
 -- ---- listed states
 

@@ -1,25 +1,15 @@
 -- What the trials leave has one entry for each state.
 use Rattle.std.proofs.Common.{◌≡◌, ℕ, ◌<◌, ⊎_elim, Bool, true, false, true≢false, List, length, get_or, Result, Ok, refl, sym, ◌∙◌, ap, arith, pos, if◌then◌else◌}
+use Rattle.std.proofs.{lemmas.Bool.{cases_lt, cases_Bool}, lemmas.List.{get_or_past, length-replicate}, lemmas.List.FromFn.{length-map-range_with_len}}
 use Rattle.std.specs.Prelude.{replicate}
-use Rattle.std.proofs.lemmas.Bool.{cases_lt, cases_Bool}
-use Rattle.std.proofs.lemmas.List.{get_or_past, length-replicate}
-use Rattle.std.proofs.lemmas.List.FromFn.{length-map-range_with_len}
 use Rattle.mdp_math.specs.Rational.{ℚ, of_int}
-use Rattle.mdp_spec.specs.Mdp.{Mdp, states_of, row_at}
-use Rattle.mdp_spec.specs.Row.{IsMdp}
-use Rattle.mdp_spec.specs.Rules.{MeetsReachMax}
-use Rattle.mdp_spec.specs.Tree.{is_marked}
+use Rattle.mdp_spec.specs.{Mdp.{Mdp, states_of, row_at}, Row.{IsMdp}, Rules.{MeetsReachMax}, Tree.{is_marked}}
 use Rattle.mdp_rows.specs.declared.dir.Dir.TheVariants.{Max}
-use Rattle.mdp_elim.specs.System.{Leaves}
-use Rattle.mdp_elim.specs.Visits.{written_visits}
+use Rattle.mdp_elim.specs.{System.{Leaves}, Visits.{written_visits}}
 use Rattle.mdp_elim.proofs.OneSolution.{gives_visits}
 use Rattle.mdp_reach.specs.Query.{policy_rows}
-use Rattle.mdp_witness_trials.specs.First.{IsFirst}
-use Rattle.mdp_witness_trials.specs.Evaluation.{Visited, Visits, visited_value}
-use Rattle.mdp_witness_trials.specs.Trial.{AreLeft}
-use Rattle.mdp_witness_trials.proofs.FirstMax.{are_rows, first-leaves}
-use Rattle.mdp_witness_trials.proofs.Steps.{leaves_subset}
-use Rattle.mdp_witness_trials.proofs.Values.{visits_by_start}
+use Rattle.mdp_witness.specs.{First.{IsFirst}, Evaluation.{Visited, Visits, visited_value}, Trial.{AreLeft}}
+use Rattle.mdp_witness.proofs.{FirstMax.{are_rows, first-leaves}, Steps.{leaves_subset}, Values.{visits_by_start}}
 
 -- what is left is within the first set
 pub kept_first : {E W : Type 0} (Evaluates : List Bool → Result E W → Type 0) (value : E → ℚ) (threshold : ℚ) (first kept wide : List Bool) (last : E)

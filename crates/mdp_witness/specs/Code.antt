@@ -2,16 +2,13 @@
 use Rattle.std.specs.Prelude.{◌≡◌, ℕ, Result, Ok, Err}
 use Rattle.mdp_math.specs.Rational.{ℚ}
 use Rattle.mdp_wide.specs.declared.too_wide.Part.TheVariants as part
-use Rattle.mdp_wide.specs.Errors.{SolveError}
+use Rattle.mdp_wide.specs.{Errors.{SolveError}, Term.{shown}}
 use Rattle.mdp_wide.specs.declared.unfinished.Unfinished.TheVariants as solve
 use Rattle.mdp_policy_iteration.specs.Ends.{capped}
-use Rattle.mdp_wide.specs.Term.{shown}
-use Rattle.mdp_claims.specs.declared.subsystem.FlowCert.{FlowCert}
-use Rattle.mdp_claims.specs.declared.subsystem.FloorCert.{FloorCert}
-use Rattle.mdp_witness.specs.Query.{PlainSubsystem, flow, floor, Refusal, below, too_wide}
-use Rattle.mdp_witness.specs.declared.subsystem.Subsystem.{Subsystem}
-use Rattle.mdp_witness.specs.declared.subsystem.Subsystem.TheVariants as subsystem
+use Rattle.mdp_claims.specs.{declared.subsystem.FlowCert.{FlowCert}, declared.subsystem.FloorCert.{FloorCert}}
+use Rattle.mdp_witness.specs.{Query.{PlainSubsystem, flow, floor, Refusal, below, too_wide}, declared.subsystem.Subsystem.{Subsystem}}
 use Rattle.mdp_witness.specs.declared.subsystem.WitnessError.{WitnessError}
+use Rattle.mdp_witness.specs.declared.subsystem.Subsystem.TheVariants as subsystem
 use Rattle.mdp_witness.specs.declared.subsystem.WitnessError.TheVariants as refused
 
 abbrev pub plain_flow : FlowCert → PlainSubsystem

@@ -2,3 +2,11 @@ pub mod Query
 pub mod Code
 pub mod Shown
 pub mod Laws
+pub mod First
+pub mod FrontCode
+pub mod Trial
+pub mod StepCode
+pub mod Evaluation
+pub mod EvaluationCode
+pub mod LeastEvaluation
+pub mod TrialLaws

@@ -8,26 +8,15 @@
 use Rattle.std.specs.Prelude.{◌≡◌, ℕ, Bool, true, false, List, slice_index, Option, Some, None, Result, Ok, Err}
 use Rattle.mdp_math.specs.Rational.{ℚ}
 use Rattle.mdp_spec.specs.Mdp.{Mdp, states_of, value_at}
-use Rattle.mdp_rows.specs.declared.dir.Dir.{Dir}
-use Rattle.mdp_rows.specs.declared.dir.Dir.TheVariants.{Max, Min}
+use Rattle.mdp_rows.specs.{declared.dir.Dir.{Dir}, declared.dir.Dir.TheVariants.{Max, Min}}
 use Rattle.mdp_wide.specs.declared.too_wide.Part.TheVariants as part
-use Rattle.mdp_wide.specs.declared.too_wide.Kind.TheVariants.{Evaluate, Compare, Check}
-use Rattle.mdp_wide.specs.Term.{WideTerm}
-use Rattle.mdp_farkas.specs.Compare.{is_at_least}
-use Rattle.mdp_farkas.specs.Verdict.{verdict_of}
-use Rattle.mdp_claims.specs.declared.verdict.Verdict.{Verdict}
-use Rattle.mdp_claims.specs.declared.verdict.Verdict.TheVariants.{Yes, No, Wide}
-use Rattle.mdp_claims.specs.declared.subsystem.Flow.{Flow}
-use Rattle.mdp_subsystem_rules.specs.FlowChecks.{flow_checks}
-use Rattle.mdp_subsystem_rules.specs.FloorChecks.{floor_checks}
-use Rattle.mdp_subsystem_rules.specs.Listed.{listed, marks_at, values_at, ranks_at}
+use Rattle.mdp_wide.specs.{declared.too_wide.Kind.TheVariants.{Evaluate, Compare, Check}, Term.{WideTerm}}
+use Rattle.mdp_farkas.specs.{Compare.{is_at_least}, Verdict.{verdict_of}}
+use Rattle.mdp_claims.specs.{declared.verdict.Verdict.{Verdict}, declared.verdict.Verdict.TheVariants.{Yes, No, Wide}, declared.subsystem.Flow.{Flow}}
+use Rattle.mdp_subsystem_rules.specs.{FlowChecks.{flow_checks}, FloorChecks.{floor_checks}, Listed.{listed, marks_at, values_at, ranks_at}}
 use Rattle.mdp_subsystem_rules.specs.Visits.{visit_flows}
-use Rattle.mdp_reach.specs.Query.{Answer}
-use Rattle.mdp_reach.specs.Round.{EndsWithRound}
-use Rattle.mdp_witness_trials.specs.First.{IsFirst}
-use Rattle.mdp_witness_trials.specs.Evaluation.{Visited, visited, Visits, visited_value}
-use Rattle.mdp_witness_trials.specs.LeastEvaluation.{Evaluates, value_from}
-use Rattle.mdp_witness_trials.specs.Trial.{AreLeft}
+use Rattle.mdp_reach.specs.{Query.{Answer}, Round.{EndsWithRound}}
+use Rattle.mdp_witness.specs.{First.{IsFirst}, Evaluation.{Visited, visited, Visits, visited_value}, LeastEvaluation.{Evaluates, value_from}, Trial.{AreLeft}}
 
 -- what is printed: the kept states, and for each whether it is kept for want of width; then the flows, or the values and the ranks of the kept states
 pub data PlainSubsystem : Type 0 where

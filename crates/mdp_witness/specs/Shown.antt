@@ -1,25 +1,14 @@
 -- What a subsystem that was found shows: its certificate holds, it reaches the threshold, and each of its states that isn't marked as wide is needed.
 use Rattle.std.specs.Prelude.{◌≡◌, ℕ, ◌<◌, Bool, true, false, List, length, slice_index, slice_index_or, Result, Ok}
 use Rattle.mdp_math.specs.Rational.{ℚ, ◌<ℚ◌}
-use Rattle.mdp_spec.specs.Mdp.{Mdp, states_of, value_at}
-use Rattle.mdp_spec.specs.Bounds.{ReachMax, ReachMin}
-use Rattle.mdp_spec.specs.Sub.{sub_of, policy_on}
-use Rattle.mdp_spec.specs.Tree.{IsPolicy}
-use Rattle.mdp_rows.specs.declared.dir.Dir.{Dir}
-use Rattle.mdp_rows.specs.declared.dir.Dir.TheVariants.{Max, Min}
+use Rattle.mdp_spec.specs.{Mdp.{Mdp, states_of, value_at}, Bounds.{ReachMax, ReachMin}, Sub.{sub_of, policy_on}, Tree.{IsPolicy}}
+use Rattle.mdp_rows.specs.{declared.dir.Dir.{Dir}, declared.dir.Dir.TheVariants.{Max, Min}}
 use Rattle.mdp_wide.specs.Term.{WideTerm}
-use Rattle.mdp_subsystem_rules.specs.Flow.{flow_total}
-use Rattle.mdp_subsystem_rules.specs.FlowChecks.{HoldsFlow}
-use Rattle.mdp_subsystem_rules.specs.FloorChecks.{HoldsFloor}
-use Rattle.mdp_subsystem_rules.specs.Kept.{kept_marks}
-use Rattle.mdp_subsystem_rules.specs.Policy.{PolicyWithin, FallsShort}
+use Rattle.mdp_subsystem_rules.specs.{Flow.{flow_total}, FlowChecks.{HoldsFlow}, FloorChecks.{HoldsFloor}, Kept.{kept_marks}, Policy.{PolicyWithin, FallsShort}}
 use Rattle.mdp_subsystem_rules.specs.Shape.{IsFlowShape, IsFloorShape}
 use Rattle.mdp_reach.specs.Query.{Answer, EndsSo}
-use Rattle.mdp_witness_trials.specs.First.{IsFirst}
-use Rattle.mdp_witness_trials.specs.Evaluation.{visited, visited_value}
-use Rattle.mdp_witness_trials.specs.LeastEvaluation.{Evaluates, value_from}
-use Rattle.mdp_witness_trials.specs.Trial.{trial_set, without, trial_of, is_wide}
-use Rattle.mdp_witness.specs.Query.{PlainSubsystem, flow, floor}
+use Rattle.mdp_witness.specs.{First.{IsFirst}, Evaluation.{visited, visited_value}, LeastEvaluation.{Evaluates, value_from}}
+use Rattle.mdp_witness.specs.{Trial.{trial_set, without, trial_of, is_wide}, Query.{PlainSubsystem, flow, floor}}
 
 -- the kept states; for each whether it is marked as wide; and whether each state of the model is kept
 abbrev pub kept_of : PlainSubsystem → List ℕ

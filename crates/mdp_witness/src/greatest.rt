@@ -2,17 +2,17 @@ ghost use Rattle.std.specs.Prelude.{◌≡◌, ◌<◌, length, true, Some, Ok, 
 ghost use Rattle.mdp_spec.specs.Mdp.{states_of, value_at};
 ghost use Rattle.mdp_rows.specs.declared.dir.Dir.TheVariants.{Max};
 ghost use Rattle.mdp_farkas.specs.Compare.{is_at_least};
-ghost use Rattle.mdp_subsystem_rules.specs.Flow.{MeetsFlow};
-ghost use Rattle.mdp_subsystem_rules.specs.Kept.{kept_marks};
-ghost use Rattle.mdp_subsystem_rules.specs.Shape.{IsFlowShape};
+ghost use Rattle.mdp_subsystem_rules.specs.{Flow.{MeetsFlow}, Kept.{kept_marks}, Shape.{IsFlowShape}};
 ghost use Rattle.mdp_reach.specs.Query.{EndsSo};
 ghost use Rattle.mdp_reach.specs.Query as reach;
-ghost use Rattle.mdp_witness_trials.specs.EvaluationCode.{plain};
-ghost use Rattle.mdp_witness.specs.Query.{too_wide, visiting, flow_of, verdict_on, FlowHeld, FromFirst};
-ghost use Rattle.mdp_witness.specs.Code.{plain_flow, Answers};
+ghost use Rattle.mdp_witness.specs.{EvaluationCode.{plain}, Query.{too_wide, visiting, flow_of, verdict_on, FlowHeld, FromFirst}, Code.{plain_flow, Answers}};
 
+use crate::first::Query;
 use crate::listing::{flows_of, listed, marks_at};
+use crate::max_trials::MaxLeft;
 use crate::subsystem::WitnessError;
+use crate::trial_laws::kept_law;
+use crate::visited::Policy;
 use mdp_elim::ElimError;
 use mdp_farkas::{ReachCert, Verdict};
 use mdp_graph::avoid_law;
@@ -22,7 +22,6 @@ use mdp_reach::query_law;
 use mdp_rows::{Dir, Marks, Model};
 use mdp_subsystem_rules::{FlowCert, holds_flow, listed_law, never_no_law};
 use mdp_wide::{Kind, Part, TooWide};
-use mdp_witness_trials::{MaxLeft, Policy, Query, kept_law};
 use std::alloc::Global;
 
 /// The certificate of what the trials leave: the kept states, those of them that are marked as wide, and the flows of their visits.

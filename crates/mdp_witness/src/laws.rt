@@ -1,9 +1,9 @@
 ghost use Rattle.mdp_witness.specs.Laws.{HasOneEnd, FoundHaveShape, FoundHold, FoundReachMax, FoundReachMin, PoliciesReach};
 ghost use Rattle.mdp_witness.specs.Laws.{FoundNeededMax, FoundNeededMin, FoundMarkedMax, FoundMarkedMin, BelowIsBest};
 
+use crate::trial_laws::{kept_law, left_law, needed_law};
 use mdp_reach::query_law;
 use mdp_subsystem_rules::{floor_law, flow_law, listed_law};
-use mdp_witness_trials::{kept_law, left_law, needed_law};
 
 /// The query of a witness has one end at most. A subsystem that is found has a certificate that holds; it reaches the threshold, by some policy or
 /// by each, and for the greatest probability by the policy of the model's query; each of its states that isn't marked as wide is needed, and those

@@ -2,14 +2,15 @@ ghost use Rattle.std.specs.Prelude.{◌≡◌, ◌<◌, length, true, Some, Ok, 
 ghost use Rattle.mdp_spec.specs.Mdp.{states_of, value_at};
 ghost use Rattle.mdp_rows.specs.declared.dir.Dir.TheVariants.{Min};
 ghost use Rattle.mdp_farkas.specs.Compare.{is_at_least};
-ghost use Rattle.mdp_subsystem_rules.specs.FloorChecks.{HoldsFloor};
-ghost use Rattle.mdp_subsystem_rules.specs.Shape.{IsFloorShape};
+ghost use Rattle.mdp_subsystem_rules.specs.{FloorChecks.{HoldsFloor}, Shape.{IsFloorShape}};
 ghost use Rattle.mdp_reach.specs.Query.{EndsSo, plain};
-ghost use Rattle.mdp_witness.specs.Query.{floor_of, FromFirst};
-ghost use Rattle.mdp_witness.specs.Code.{plain_floor, in_floor, Answers};
+ghost use Rattle.mdp_witness.specs.{Query.{floor_of, FromFirst}, Code.{plain_floor, in_floor, Answers}};
 
+use crate::first::Query;
 use crate::listing::{listed, marks_at, ranks_at, values_at};
+use crate::min_trials::{MinLeft, Subsystems};
 use crate::subsystem::WitnessError;
+use crate::trial_laws::{first_law, kept_law};
 use mdp_farkas::{ReachCert, Verdict};
 use mdp_graph::avoid_law;
 use mdp_num::{Frac, Memory};
@@ -18,7 +19,6 @@ use mdp_reach::query_law;
 use mdp_rows::{Dir, Marks, Model};
 use mdp_subsystem_rules::{FloorCert, fewer_law, holds_floor, listed_law};
 use mdp_wide::{Part, SolveError, TooWide};
-use mdp_witness_trials::{MinLeft, Query, Subsystems, first_law, kept_law};
 use std::alloc::Global;
 
 /// The certificate of what the trials leave: the kept states, those of them that are marked as wide, and their values and ranks.

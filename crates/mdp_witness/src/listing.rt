@@ -1,8 +1,7 @@
 ghost use Rattle.std.specs.Prelude.{◌≡◌, ◌<◌, length, pos, All, IfOk};
 ghost use Rattle.mdp_math.specs.Rational.{of_int, lt_ℚ};
 ghost use Rattle.mdp_spec.specs.Mdp.{states_of};
-ghost use Rattle.mdp_subsystem_rules.specs.Listed.{listed, marks_at, values_at, ranks_at};
-ghost use Rattle.mdp_subsystem_rules.specs.Visits.{visit_flows};
+ghost use Rattle.mdp_subsystem_rules.specs.{Listed.{listed, marks_at, values_at, ranks_at}, Visits.{visit_flows}};
 
 use mdp_num::{Frac, Memory};
 use mdp_rows::Marks;

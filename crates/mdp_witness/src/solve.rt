@@ -1,13 +1,10 @@
-ghost use Rattle.std.specs.Prelude.{◌≡◌, ◌<◌, length, pos, true, Some, Ok, IfOk, IfErr};
-ghost use Rattle.std.specs.Result.{result_ok};
+ghost use Rattle.std.specs.{Prelude.{◌≡◌, ◌<◌, length, pos, true, Some, Ok, IfOk, IfErr}, Result.{result_ok}};
 ghost use Rattle.mdp_math.specs.Rational.{◌≤ℚ◌, of_int};
-ghost use Rattle.mdp_spec.specs.Bounds.{SubMax, SubMin};
-ghost use Rattle.mdp_spec.specs.Mdp.{states_of, value_at};
+ghost use Rattle.mdp_spec.specs.{Bounds.{SubMax, SubMin}, Mdp.{states_of, value_at}};
 ghost use Rattle.mdp_rows.specs.declared.dir.Dir.TheVariants.{Max, Min};
 ghost use Rattle.mdp_farkas.specs.Compare.{is_at_least};
 ghost use Rattle.mdp_reach.specs.Query as reach;
-ghost use Rattle.mdp_witness.specs.Query.{EndsSo, FromFirst};
-ghost use Rattle.mdp_witness.specs.Code.{plain, Answers, IfBelow};
+ghost use Rattle.mdp_witness.specs.{Query.{EndsSo, FromFirst}, Code.{plain, Answers, IfBelow}};
 ghost use Rattle.mdp_witness.specs.Shown.{kept_in, HasShape, Holds, PolicyReaches, IsNeededMax, IsNeededMin, AreNeeded, IsBestBelow};
 ghost use Rattle.mdp_witness.specs.Shown.{MarksAreExactMax, MarksAreExactMin};
 

@@ -1,21 +1,15 @@
 -- Worked files.
 use Rattle.std.proofs.Common.{◌≡◌, ℕ, List, [], ◌∷◌, ◌++◌, Err, pos, negsuc, refl}
 use Rattle.std.specs.Prelude.{codes, map}
-use Rattle.mdp_math.specs.Gcd.{gcd, gcd_with_fuel}
-use Rattle.mdp_math.specs.Rational.{ℚ, of_int, ratio, neg_ℚ, ◌+ℚ◌, ◌*ℚ◌, inv_ℚ, le_ℚ}
-use Rattle.mdp_math.specs.Written.{narrow, narrow_ℚ, written_add}
+use Rattle.mdp_math.specs.{Gcd.{gcd, gcd_with_fuel}, Rational.{ℚ, of_int, ratio, neg_ℚ, ◌+ℚ◌, ◌*ℚ◌, inv_ℚ, le_ℚ}, Written.{narrow, narrow_ℚ, written_add}}
 use Rattle.mdp_num.specs.Numeral.{numeral_of, parts_of}
 use Rattle.mdp_spec.specs.Mdp.{Mdp, State, Choice, Entry}
 use Rattle.mdp_spec.proofs.Small.{entry, half, labelled, number}
 use Rattle.mdp_rows.specs.declared.rule.RowRule.TheVariants.{Exact, Scaled}
-use Rattle.mdp_drn.specs.declared.error.DrnKind.{DrnKind}
+use Rattle.mdp_drn.specs.{declared.error.DrnKind.{DrnKind}, Values.{value_of, reward_of, rewards_in}, Header.{names_in}, Labels.{labels_in}}
+use Rattle.mdp_drn.specs.{Body.{state_read, action_read, entry_read, model_line}, Reading.{at_line, at_end, outcome, Refused, Reads}}
 use Rattle.mdp_drn.specs.declared.error.DrnKind.TheVariants as kind
-use Rattle.mdp_drn.specs.Values.{value_of, reward_of, rewards_in}
-use Rattle.mdp_drn.specs.Header.{names_in}
 use Rattle.mdp_drn.specs.Header as header
-use Rattle.mdp_drn.specs.Labels.{labels_in}
-use Rattle.mdp_drn.specs.Body.{state_read, action_read, entry_read, model_line}
-use Rattle.mdp_drn.specs.Reading.{at_line, at_end, outcome, Refused, Reads}
 
 -- ---- what is computed below
 

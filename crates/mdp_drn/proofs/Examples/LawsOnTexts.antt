@@ -1,9 +1,7 @@
 -- What the laws of reading speak of, on small texts.
 use Rattle.std.proofs.Common.{◌≡◌, [], ◌∷◌, refl}
 use Rattle.std.specs.Prelude.{codes}
-use Rattle.mdp_drn.specs.Labels.{labels_in}
-use Rattle.mdp_drn.specs.Lines.{content}
-use Rattle.mdp_drn.specs.Laws.{contents_of, labels_on, model_part, moved, seen}
+use Rattle.mdp_drn.specs.{Labels.{labels_in}, Lines.{content}, Laws.{contents_of, labels_on, model_part, moved, seen}}
 
 -- blanks, tabs and one CR at the ends
 framed : content (codes "\tstate 0 init\t \r") ≡ codes "state 0 init"

@@ -1,8 +1,6 @@
 -- The text of a small model, by computation.
-use Rattle.std.proofs.Common.{◌≡◌, ℕ, List, [], ◌∷◌, ◌++◌, codes, refl, lit<, pos}
-use Rattle.std.proofs.lemmas.Fmt.{decimal_digit}
-use Rattle.mdp_math.specs.Gcd.{gcd, gcd_with_fuel}
-use Rattle.mdp_math.specs.Rational.{of_int, ratio}
+use Rattle.std.proofs.{Common.{◌≡◌, ℕ, List, [], ◌∷◌, ◌++◌, codes, refl, lit<, pos}, lemmas.Fmt.{decimal_digit}}
+use Rattle.mdp_math.specs.{Gcd.{gcd, gcd_with_fuel}, Rational.{of_int, ratio}}
 use Rattle.mdp_num.specs.Value.{spelling}
 use Rattle.mdp_spec.specs.Mdp.{Mdp}
 use Rattle.mdp_drn.specs.Writing.{names_text, text_of}

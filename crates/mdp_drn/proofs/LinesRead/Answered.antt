@@ -2,11 +2,7 @@
 use Rattle.std.proofs.Common.{◌≡◌, ℕ, ◌⊎◌, inl, inr, Result, Err}
 use Rattle.mdp_rows.specs.declared.error.RowsError.{RowsError}
 use Rattle.mdp_rows.specs.declared.error.RowsError.TheVariants as rows
-use Rattle.mdp_drn.specs.declared.error.DrnError.{DrnError}
-use Rattle.mdp_drn.specs.Outcome.{Refusal}
-use Rattle.mdp_drn.specs.Body.{Body, kind_of, line_of}
-use Rattle.mdp_drn.specs.BodyView.{error_of}
-use Rattle.mdp_drn.specs.Feeding.{Fails}
+use Rattle.mdp_drn.specs.{declared.error.DrnError.{DrnError}, Outcome.{Refusal}, Body.{Body, kind_of, line_of}, BodyView.{error_of}, Feeding.{Fails}}
 
 fails-of : {Y : Type 0} (b : Body) (line : ℕ) (e : RowsError) (said : Result Y Refusal) → said ≡ Err (record { kind = kind_of e; line = line_of b line e })
     → Fails (error_of b.state_line b.action_line line e) said

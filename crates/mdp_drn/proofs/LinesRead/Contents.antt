@@ -1,11 +1,8 @@
 -- What of a line is read.
 use Rattle.std.proofs.Common.{◌≡◌, ℕ, zero, suc, ◌+◌, ◌-◌, Bool, true, false, cond, List, [], ◌∷◌, take, drop, length, refl, subst, arith}
-use Rattle.std.specs.List.{prefix_len, suffix_len}
-use Rattle.std.specs.Io.BufRead.{strip_last, ends_with_byte}
 use Rattle.std.proofs.lemmas.List.Elements.{All-take, All-drop}
-use Rattle.mdp_drn.specs.Lines.{is_blank, is_line_feed, content, without_blanks_before}
-use Rattle.mdp_drn.specs.Labels.{begins_blank}
-use Rattle.mdp_drn.specs.BodyView.{IsOneLine}
+use Rattle.std.specs.{List.{prefix_len, suffix_len}, Io.BufRead.{strip_last, ends_with_byte}}
+use Rattle.mdp_drn.specs.{Lines.{is_blank, is_line_feed, content, without_blanks_before}, Labels.{begins_blank}, BodyView.{IsOneLine}}
 
 abbrev NoFeed : ℕ → Type 0
 NoFeed b = is_line_feed b ≡ false

@@ -1,18 +1,13 @@
 -- The end of a model: as many states and choices as were announced.
 use Rattle.std.proofs.Common.{◌≡◌, ℕ, Bool, true, false, not, cond, ◌⊎◌, inl, inr, ◌==◌, sum_by, length, List, Option, Some, None, Result, Ok, Err, refl, sym, ap, ◌∙◌}
 use Rattle.mdp_spec.specs.Mdp.{Mdp, State}
-use Rattle.mdp_rows.specs.Draft.{Draft, finished, after_finish, all_closed}
+use Rattle.mdp_rows.specs.{Draft.{Draft, finished, after_finish, all_closed}, declared.error.RowsError.{RowsError}}
 use Rattle.mdp_rows.specs.Draft as draft
-use Rattle.mdp_rows.specs.declared.error.RowsError.{RowsError}
 use Rattle.mdp_rows.specs.declared.error.RowsError.TheVariants as rows
-use Rattle.mdp_drn.specs.declared.error.DrnError.{DrnError}
+use Rattle.mdp_drn.specs.{declared.error.DrnError.{DrnError}, Outcome.{◌>>=◌, Refusal, refuse_if, at_line_of}, Body.{Body, judged}}
+use Rattle.mdp_drn.specs.{Reading.{InModel, at_end_of, has_choices}, BodyView.{as_announced, error_of}, Feeding.{Fails, Gives}}
 use Rattle.mdp_drn.specs.declared.error.DrnError.TheVariants as error
 use Rattle.mdp_drn.specs.declared.error.DrnKind.TheVariants as kind
-use Rattle.mdp_drn.specs.Outcome.{◌>>=◌, Refusal, refuse_if, at_line_of}
-use Rattle.mdp_drn.specs.Body.{Body, judged}
-use Rattle.mdp_drn.specs.Reading.{InModel, at_end_of, has_choices}
-use Rattle.mdp_drn.specs.BodyView.{as_announced, error_of}
-use Rattle.mdp_drn.specs.Feeding.{Fails, Gives}
 use Rattle.mdp_drn.proofs.LinesRead.Answered.{fails}
 
 abbrev model_of : Draft → Mdp

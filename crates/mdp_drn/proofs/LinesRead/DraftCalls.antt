@@ -1,17 +1,13 @@
 -- What the calls keep of a draft, and what follows where a call is let through.
 use Rattle.std.proofs.Common.{◌≡◌, ℕ, suc, ◌+◌, ◌^◌, ◌<◌, Bool, true, false, cond, eqb, ltb, leb, ◌||◌, List, [], ◌∷◌, ◌++◌, length, refl, sym, ap}
-use Rattle.std.proofs.Common.{subst, ◌∙◌, arith, Option, Some, None, Result, Ok, Err}
-use Rattle.std.specs.List.{position_or_len}
-use Rattle.std.specs.Str.{bytes_eq}
-use Rattle.std.proofs.lemmas.Bool.Decides.{nat_tests}
-use Rattle.std.proofs.lemmas.List.{length-append}
+use Rattle.std.proofs.{Common.{subst, ◌∙◌, arith, Option, Some, None, Result, Ok, Err}, lemmas.Bool.Decides.{nat_tests}, lemmas.List.{length-append}}
+use Rattle.std.specs.{List.{position_or_len}, Str.{bytes_eq}}
 use Rattle.mdp_math.specs.Rational.{ℚ}
 use Rattle.mdp_spec.specs.Mdp.{Entry, State}
 use Rattle.mdp_rows.specs.Draft.{Draft, OpenState, OpenChoice, ◌>>=◌, choice_closed, choice_closed_in, with_choice_closed, closed_row, state_closed}
 use Rattle.mdp_rows.specs.Draft.{state_closed_in, all_closed, state_opened, new_state, choice_opened, choice_opened_in, summed_rewards}
 use Rattle.mdp_rows.specs.Draft.{closed_choices, after_label, label_in, with_name, with_place, after_entry, entry_in, with_choice_entry, has_target}
-use Rattle.mdp_rows.specs.Draft.{with_entry, has_open_target, has_choice}
-use Rattle.mdp_rows.specs.declared.error.RowsError.{RowsError}
+use Rattle.mdp_rows.specs.{Draft.{with_entry, has_open_target, has_choice}, declared.error.RowsError.{RowsError}}
 use Rattle.mdp_rows.specs.declared.error.RowsError.TheVariants.{NoChoice, TooMany, Target, Twice, Count}
 
 -- ---- outcomes

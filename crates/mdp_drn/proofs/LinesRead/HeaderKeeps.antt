@@ -1,34 +1,21 @@
 -- What a header keeps from line to line.
 use Rattle.std.proofs.Common.{◌≡◌, ℕ, suc, ◌^◌, ◌≤◌, Bool, true, false, not, cond, ◌&&◌, ◌||◌, ◌==◌, eqb, nat_lt, nat_le, List, [], ◌∷◌, filter, drop}
-use Rattle.std.proofs.Common.{length, Option, Some, None, Result, Ok, Err, IsTrue, refl, sym, ap, subst, ◌∙◌, arith, is_some}
-use Rattle.std.specs.Prelude.{codes, IfOk, IfErr}
-use Rattle.std.specs.List.{All, list_any, slice_split, onto_first}
-use Rattle.std.specs.Str.{bytes_eq}
-use Rattle.std.proofs.lemmas.Bool.Decides.{nat_tests}
+use Rattle.std.proofs.{Common.{length, Option, Some, None, Result, Ok, Err, IsTrue, refl, sym, ap, subst, ◌∙◌, arith, is_some}, lemmas.Bool.Decides.{nat_tests}}
 use Rattle.std.proofs.lemmas.List.Elements.{All-cons, All-nil, All-head, All-tail, All-filter, filter_passes}
-use Rattle.mdp_rows.specs.Name.{IsRewardName, AreRewardNames, are_different, begins_reserved, first_is_reserved}
-use Rattle.mdp_drn.specs.declared.error.DrnKind.{DrnKind}
-use Rattle.mdp_drn.specs.declared.error.DrnKind.TheVariants as kind
-use Rattle.mdp_drn.specs.declared.header.ModelType.{ModelType}
-use Rattle.mdp_drn.specs.Lines.{is_blank, is_line_feed, is_comment, begins_with, without_blanks_before}
-use Rattle.mdp_drn.specs.Labels.{begins_blank}
-use Rattle.mdp_drn.specs.declared.error.DrnError.{DrnError}
-use Rattle.mdp_drn.specs.declared.error.DrnError.TheVariants as error
-use Rattle.mdp_drn.specs.declared.line_error.LineError.{LineError}
-use Rattle.mdp_drn.specs.declared.line_error.LineError.TheVariants.{Kind, Memory}
-use Rattle.mdp_drn.specs.Outcome.{◌>>=◌, refuse_if, given_or, at_line_of, Refusal}
+use Rattle.std.specs.{Prelude.{codes, IfOk, IfErr}, List.{All, list_any, slice_split, onto_first}, Str.{bytes_eq}}
+use Rattle.mdp_rows.specs.{Name.{IsRewardName, AreRewardNames, are_different, begins_reserved, first_is_reserved}, declared.rule.RowRule.{RowRule}}
+use Rattle.mdp_drn.specs.{declared.error.DrnKind.{DrnKind}, declared.header.ModelType.{ModelType}}
+use Rattle.mdp_drn.specs.{Lines.{is_blank, is_line_feed, is_comment, begins_with, without_blanks_before}, Labels.{begins_blank}}
+use Rattle.mdp_drn.specs.{declared.error.DrnError.{DrnError}, declared.line_error.LineError.{LineError}}
+use Rattle.mdp_drn.specs.{declared.line_error.LineError.TheVariants.{Kind, Memory}, Outcome.{◌>>=◌, refuse_if, given_or, at_line_of, Refusal}}
 use Rattle.mdp_drn.specs.Header.{Header, Next, AnyEntry, BlankLine, RewardNames, StateCount, ChoiceCount, Model, read, type_named, type_entry}
 use Rattle.mdp_drn.specs.Header.{value_type_entry, parameters_entry, reward_models_entry, nr_states_entry, nr_choices_entry, model_entry, entry_line}
 use Rattle.mdp_drn.specs.Header.{is_bad_name, names_in, words_of, count_in, with_states, is_entry, header_line, names_line, states_line, choices_line}
-use Rattle.mdp_drn.specs.Header.{is_word, or_else, names_or_one}
+use Rattle.mdp_drn.specs.{Header.{is_word, or_else, names_or_one}, BodyView.{IsOneLine}, DocumentView.{IsHeader, AreGiven, IsCount, IsCounted}}
+use Rattle.mdp_drn.specs.{HeaderView.{is_model}, Parsing.{FailsAs, error_at}, Feeding.{Fails, Gives}, Reading.{InHeader, begun, kept_line}}
+use Rattle.mdp_drn.specs.declared.error.DrnKind.TheVariants as kind
+use Rattle.mdp_drn.specs.declared.error.DrnError.TheVariants as error
 use Rattle.mdp_num.specs.Digits.{is_digits, number}
-use Rattle.mdp_drn.specs.BodyView.{IsOneLine}
-use Rattle.mdp_drn.specs.DocumentView.{IsHeader, AreGiven, IsCount, IsCounted}
-use Rattle.mdp_drn.specs.HeaderView.{is_model}
-use Rattle.mdp_rows.specs.declared.rule.RowRule.{RowRule}
-use Rattle.mdp_drn.specs.Parsing.{FailsAs, error_at}
-use Rattle.mdp_drn.specs.Feeding.{Fails, Gives}
-use Rattle.mdp_drn.specs.Reading.{InHeader, begun, kept_line}
 
 -- ---- names
 

@@ -1,17 +1,12 @@
 -- Labels that are read are names: 1 to 255 bytes without `"` and LF.
 use Rattle.std.proofs.Common.{◌≡◌, ℕ, zero, suc, Bool, true, false, not, cond, ◌&&◌, ◌||◌, ◌==◌, ◌+◌, eqb, nat_lt, nat_le, List, [], ◌∷◌, take}
-use Rattle.std.proofs.Common.{length, Result, Ok, Err, IsTrue, refl, ap, subst, ◌∙◌, arith}
-use Rattle.std.specs.List.{All, list_any, prefix_len}
-use Rattle.std.proofs.lemmas.Bool.Decides.{nat_tests}
+use Rattle.std.proofs.{Common.{length, Result, Ok, Err, IsTrue, refl, ap, subst, ◌∙◌, arith}, lemmas.Bool.Decides.{nat_tests}}
 use Rattle.std.proofs.lemmas.List.Elements.{All-take, All-drop, All-cons, All-nil, All-head, All-tail}
+use Rattle.std.specs.List.{All, list_any, prefix_len}
 use Rattle.mdp_rows.specs.Name.{IsName}
-use Rattle.mdp_drn.specs.declared.error.DrnKind.{DrnKind}
-use Rattle.mdp_drn.specs.declared.error.DrnKind.TheVariants.{Label}
-use Rattle.mdp_drn.specs.Lines.{is_blank, is_line_feed, without_blanks_before}
+use Rattle.mdp_drn.specs.{declared.error.DrnKind.{DrnKind}, declared.error.DrnKind.TheVariants.{Label}, Lines.{is_blank, is_line_feed, without_blanks_before}}
 use Rattle.mdp_drn.specs.Labels.{is_quote, is_sized, before_first, from_first, begins_blank, quoted_at, quoted, bare, label_at, labels_within, labels_in}
-use Rattle.mdp_drn.specs.Outcome.{◌>>=◌}
-use Rattle.mdp_drn.specs.Body.{bracket_at, bracket_to}
-use Rattle.mdp_drn.specs.BodyView.{IsOneLine}
+use Rattle.mdp_drn.specs.{Outcome.{◌>>=◌}, Body.{bracket_at, bracket_to}, BodyView.{IsOneLine}}
 
 no_quote : (bytes : List ℕ) → list_any is_quote (before_first is_quote bytes) ≡ false
 no_quote [] = refl

@@ -1,17 +1,11 @@
 -- Labels, read one after the other.
 use Rattle.std.proofs.Common.{◌≡◌, ℕ, zero, suc, ◌-◌, ◌<◌, ◌≤◌, Bool, true, false, cond, ltb, leb, not, min, ◌==◌, ◌||◌, ◌&&◌, length-take, List, []}
-use Rattle.std.proofs.Common.{◌∷◌, ◌++◌, length, Result, Ok, Err, refl, sym, ap, ◌∙◌, append_assoc, arith, length-drop}
-use Rattle.std.specs.List.{prefix_len}
-use Rattle.std.proofs.lemmas.List.{append-nil}
-use Rattle.std.proofs.lemmas.List.Sums.{prefix_len-le-length}
-use Rattle.mdp_drn.specs.declared.error.DrnKind.{DrnKind}
-use Rattle.mdp_drn.specs.declared.error.DrnKind.TheVariants.{Label}
-use Rattle.mdp_drn.specs.Lines.{is_blank, without_blanks_before}
+use Rattle.std.proofs.{Common.{◌∷◌, ◌++◌, length, Result, Ok, Err, refl, sym, ap, ◌∙◌, append_assoc, arith, length-drop}, lemmas.List.{append-nil}}
+use Rattle.std.proofs.{lemmas.List.Sums.{prefix_len-le-length}, lemmas.Bool.Decides.{nat_tests}}
+use Rattle.std.specs.{List.{prefix_len}, Borrow.{Bor}}
+use Rattle.mdp_drn.specs.{declared.error.DrnKind.{DrnKind}, declared.error.DrnKind.TheVariants.{Label}, Lines.{is_blank, without_blanks_before}}
 use Rattle.mdp_drn.specs.Labels.{is_quote, before_first, from_first, quoted_at, quoted, bare, label_at, labels_within, labels_in, is_sized, begins_blank}
-use Rattle.mdp_drn.specs.Outcome.{◌>>=◌}
-use Rattle.std.specs.Borrow.{Bor}
-use Rattle.std.proofs.lemmas.Bool.Decides.{nat_tests}
-use Rattle.mdp_drn.specs.Parsing.{first_label, told, both_now}
+use Rattle.mdp_drn.specs.{Outcome.{◌>>=◌}, Parsing.{first_label, told, both_now}}
 
 -- the labels of bytes without blanks before them
 abbrev pub labels_from : List ℕ → Result (List (List ℕ)) DrnKind

@@ -1,16 +1,11 @@
 -- Labels, given one after the other.
 use Rattle.std.proofs.Common.{◌≡◌, ℕ, zero, suc, ◌+◌, ◌<◌, List, [], ◌∷◌, drop, get_or, length, map, Result, Ok, Err, refl, sym, ap, subst, ◌∙◌, arith}
-use Rattle.std.specs.Borrow.{Bor}
-use Rattle.std.specs.List.{All}
-use Rattle.mdp_rows.specs.Draft.{Draft, after_label, ◌>>=◌}
-use Rattle.mdp_rows.specs.Name.{IsName}
-use Rattle.mdp_rows.specs.declared.error.RowsError.{RowsError}
+use Rattle.std.specs.{Borrow.{Bor}, List.{All}}
+use Rattle.mdp_rows.specs.{Draft.{Draft, after_label, ◌>>=◌}, Name.{IsName}, declared.error.RowsError.{RowsError}}
 use Rattle.mdp_rows.specs.declared.error.RowsError.TheVariants as rows
-use Rattle.mdp_drn.specs.declared.error.DrnError.{DrnError}
+use Rattle.mdp_drn.specs.{declared.error.DrnError.{DrnError}, Body.{judged, with_labels}, Feeding.{Fails}}
 use Rattle.mdp_drn.specs.declared.error.DrnError.TheVariants as error
-use Rattle.mdp_drn.specs.Body.{judged, with_labels}
 use Rattle.mdp_drn.specs.Body as spec
-use Rattle.mdp_drn.specs.Feeding.{Fails}
 use Rattle.mdp_drn.proofs.LinesRead.Listing.{map-at}
 
 abbrev pub names : List (Bor (List ℕ)) → List (List ℕ)

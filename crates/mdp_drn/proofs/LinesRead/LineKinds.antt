@@ -1,7 +1,6 @@
 -- Which of the three kinds a line of the model is.
 use Rattle.std.proofs.Common.{◌≡◌, ℕ, Bool, true, false, cond, List, drop, Result, ap, ◌∙◌}
-use Rattle.mdp_drn.specs.Lines.{without_blanks_before}
-use Rattle.mdp_drn.specs.Outcome.{Refusal}
+use Rattle.mdp_drn.specs.{Lines.{without_blanks_before}, Outcome.{Refusal}}
 use Rattle.mdp_drn.specs.Body.{Body, state_line, action_line, entry_line, model_line, is_state_line, is_action_line}
 
 module _ (body : Body) (line : ℕ) (text : List ℕ) where

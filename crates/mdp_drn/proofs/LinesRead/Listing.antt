@@ -1,7 +1,7 @@
 -- Lists of what the elements of another list show.
 use Rattle.std.proofs.Common.{◌≡◌, ℕ, ◌+◌, ◌<◌, Bool, true, false, ◌||◌, List, [], ◌∷◌, drop, get_or, length, map, refl, ap, ◌∙◌, add-one, drop-cons}
-use Rattle.std.specs.List.{list_any}
 use Rattle.std.proofs.lemmas.List.{drop-map}
+use Rattle.std.specs.List.{list_any}
 
 pub list_any_either : (p q : ℕ → Bool) (xs : List ℕ) → list_any (λ x. p x || q x) xs ≡ (list_any p xs || list_any q xs)
 list_any_either p q [] = refl

@@ -1,15 +1,10 @@
 -- Rewards, judged one after the other.
 use Rattle.std.proofs.Common.{◌≡◌, ℕ, zero, suc, ◌+◌, ◌<◌, ◌≤◌, List, [], ◌∷◌, ◌++◌, drop, get_or, length, map, Result, Ok, Err, refl, sym, ap, ◌∙◌, append_assoc, arith}
-use Rattle.std.proofs.Common.{IfOk}
-use Rattle.std.proofs.Math.ListN.{get_or-map}
-use Rattle.std.proofs.lemmas.List.{append-nil, length-map}
-use Rattle.mdp_drn.specs.declared.line_error.LineError.{LineError}
-use Rattle.mdp_drn.specs.Parsing.{Says}
-use Rattle.mdp_math.specs.Rational.{ℚ}
-use Rattle.mdp_drn.specs.declared.error.DrnKind.{DrnKind}
-use Rattle.mdp_drn.specs.Outcome.{◌>>=◌}
-use Rattle.std.specs.Borrow.{Bor}
+use Rattle.std.proofs.{Common.{IfOk}, Math.ListN.{get_or-map}, lemmas.List.{append-nil, length-map}}
+use Rattle.mdp_drn.specs.{declared.line_error.LineError.{LineError}, Parsing.{Says}, declared.error.DrnKind.{DrnKind}, Outcome.{◌>>=◌}}
 use Rattle.mdp_drn.specs.Values.{reward_of, each_reward, trimmed}
+use Rattle.mdp_math.specs.Rational.{ℚ}
+use Rattle.std.specs.Borrow.{Bor}
 use Rattle.mdp_drn.proofs.LinesRead.Listing.{map-at}
 
 -- the rewards of these texts, where those of all texts begin with the rewards so far

@@ -1,8 +1,7 @@
 -- Lines, as a text grows at its end.
-use Rattle.std.proofs.Common.{◌≡◌, ℕ, Bool, true, false, cond, List, [], ◌∷◌, ◌++◌, refl, sym, ap, subst, ◌∙◌, append_assoc}
-use Rattle.std.specs.List.{slice_split, onto_first, All}
-use Rattle.std.proofs.lemmas.List.{append-nil}
+use Rattle.std.proofs.{Common.{◌≡◌, ℕ, Bool, true, false, cond, List, [], ◌∷◌, ◌++◌, refl, sym, ap, subst, ◌∙◌, append_assoc}, lemmas.List.{append-nil}}
 use Rattle.std.proofs.lemmas.List.Splits.{slice_split_none}
+use Rattle.std.specs.List.{slice_split, onto_first, All}
 use Rattle.mdp_drn.specs.Lines.{is_line_feed, all_but_last, last_part, whole_lines, open_line}
 
 -- front before the first part

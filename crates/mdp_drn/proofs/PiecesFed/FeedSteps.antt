@@ -1,20 +1,13 @@
 -- What the steps of a feed leave.
 use Rattle.std.proofs.Common.{◌≡◌, ℕ, ◌+◌, ◌-◌, ◌<◌, ◌≤◌, Bool, true, false, cond, ltb, List, [], ◌∷◌}
-use Rattle.std.proofs.Common.{◌++◌, length, Option, Some, None, Result, Ok, is_some, sym, ap, subst, ◌∙◌, arith}
-use Rattle.std.specs.Prelude.{IfSome}
-use Rattle.std.specs.List.{All}
-use Rattle.std.proofs.lemmas.List.{length-append}
+use Rattle.std.proofs.{Common.{◌++◌, length, Option, Some, None, Result, Ok, is_some, sym, ap, subst, ◌∙◌, arith}, lemmas.List.{length-append}}
 use Rattle.std.proofs.lemmas.Bool.Decides.{nat_tests}
-use Rattle.mdp_drn.specs.declared.error.DrnKind.TheVariants.{LongLine}
-use Rattle.mdp_drn.specs.declared.error.DrnError.{DrnError}
+use Rattle.std.specs.{Prelude.{IfSome}, List.{All}}
+use Rattle.mdp_drn.specs.{declared.error.DrnKind.TheVariants.{LongLine}, declared.error.DrnError.{DrnError}, Lines.{is_line_feed}, Outcome.{◌>>=◌, Refusal}}
+use Rattle.mdp_drn.specs.{Reading.{Document, named, longest_line, at_line, at_end, outcome}, Ending.{ended}}
+use Rattle.mdp_drn.specs.Feeding.{Refusing, Reading, stand_from, stand_of, stand_with, Fails}
 use Rattle.mdp_drn.specs.declared.error.DrnError.TheVariants as error
 use Rattle.mdp_rows.specs.declared.rule.RowRule.{RowRule}
-use Rattle.mdp_drn.specs.Lines.{is_line_feed}
-use Rattle.mdp_drn.specs.Outcome.{◌>>=◌, Refusal}
-use Rattle.mdp_drn.specs.Reading.{Document}
-use Rattle.mdp_drn.specs.Reading.{named, longest_line, at_line, at_end, outcome}
-use Rattle.mdp_drn.specs.Ending.{ended}
-use Rattle.mdp_drn.specs.Feeding.{Refusing, Reading, stand_from, stand_of, stand_with, Fails}
 use Rattle.mdp_drn.proofs.PiecesFed.StandGrows.{stand-tail, stand-closed, stand-whole, end-reading, end-refusing, keeps}
 
 module _ (rule : RowRule) (d : Document) (tail : List ℕ) where

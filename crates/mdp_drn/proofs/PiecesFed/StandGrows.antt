@@ -1,17 +1,12 @@
 -- Where a feed stands, as its text grows.
 use Rattle.std.proofs.Common.{◌≡◌, ℕ, zero, suc, ◌+◌, ◌<◌, ◌⊎◌, inl, inr, Bool, true, false, cond, ltb, List, [], ◌∷◌, ◌++◌, length, Result, Ok, Err}
-use Rattle.std.proofs.Common.{refl, sym, ap, subst, ◌∙◌, append_assoc, arith}
+use Rattle.std.proofs.{Common.{refl, sym, ap, subst, ◌∙◌, append_assoc, arith}, lemmas.List.{append-nil, length-append}, lemmas.Bool.Decides.{nat_tests}}
 use Rattle.std.specs.List.{All}
-use Rattle.std.proofs.lemmas.List.{append-nil, length-append}
-use Rattle.std.proofs.lemmas.Bool.Decides.{nat_tests}
 use borrow.Author.Tests.{ltb-true}
-use Rattle.mdp_drn.specs.declared.error.DrnKind.TheVariants.{LongLine}
-use Rattle.mdp_rows.specs.declared.rule.RowRule.{RowRule}
-use Rattle.mdp_drn.specs.Lines.{is_line_feed, whole_lines, open_line, lines_of}
-use Rattle.mdp_drn.specs.Outcome.{◌>>=◌, Refusal}
-use Rattle.mdp_drn.specs.Reading.{Document, nothing_read}
-use Rattle.mdp_drn.specs.Reading.{named, longest_line, at_line, at_end, after_lines, outcome}
+use Rattle.mdp_drn.specs.{declared.error.DrnKind.TheVariants.{LongLine}, Lines.{is_line_feed, whole_lines, open_line, lines_of}, Outcome.{◌>>=◌, Refusal}}
+use Rattle.mdp_drn.specs.Reading.{Document, nothing_read, named, longest_line, at_line, at_end, after_lines, outcome}
 use Rattle.mdp_drn.specs.Feeding.{Refusing, Reading, stand_at, stand_from, stand_of}
+use Rattle.mdp_rows.specs.declared.rule.RowRule.{RowRule}
 use Rattle.mdp_drn.proofs.PiecesFed.Cutting.{whole-same, open-more, whole-more, open-none}
 
 abbrev long : Document → Refusal

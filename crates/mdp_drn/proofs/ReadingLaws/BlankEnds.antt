@@ -1,12 +1,9 @@
 -- Blanks at the ends of a line, and one CR behind them.
 use Rattle.std.proofs.Common.{◌≡◌, ℕ, suc, ◌+◌, ◌-◌, ◌≤◌, Bool, true, false, cond, eqb, List, [], ◌∷◌, ◌++◌, length, take, drop, reverse}
-use Rattle.std.proofs.Common.{append_assoc, refl, sym, ap, subst, ◌∙◌, arith}
-use Rattle.std.specs.List.{list_all, prefix_len, suffix_len}
-use Rattle.std.specs.Io.BufRead.{strip_last, ends_with_byte}
-use Rattle.std.proofs.lemmas.Bool.Decides.{nat_tests}
+use Rattle.std.proofs.{Common.{append_assoc, refl, sym, ap, subst, ◌∙◌, arith}, lemmas.Bool.Decides.{nat_tests}}
 use Rattle.std.proofs.lemmas.List.{append-nil, length-append, take_at, take-append-le, reverse-append}
-use Rattle.mdp_drn.specs.Lines.{is_blank, content, without_blanks_before, without_blanks_behind}
-use Rattle.mdp_drn.specs.Laws.{DropsBlanks}
+use Rattle.std.specs.{List.{list_all, prefix_len, suffix_len}, Io.BufRead.{strip_last, ends_with_byte}}
+use Rattle.mdp_drn.specs.{Lines.{is_blank, content, without_blanks_before, without_blanks_behind}, Laws.{DropsBlanks}}
 use Rattle.mdp_drn.proofs.TextWritten.Bytes.{Pass, and-parts, pass-reverse, length-reversed, prefix-none, ends-with}
 
 -- ---- in front

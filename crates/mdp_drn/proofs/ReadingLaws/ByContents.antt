@@ -3,13 +3,10 @@ use Rattle.std.proofs.Common.{◌≡◌, ℕ, suc, ◌+◌, ◌≤◌, Bool, tru
 use Rattle.std.proofs.lemmas.Bool.Decides.{nat_tests}
 use Rattle.mdp_spec.specs.Mdp.{Mdp}
 use Rattle.mdp_rows.specs.declared.rule.RowRule.{RowRule}
-use Rattle.mdp_drn.specs.Lines.{lines_of, content, is_comment}
-use Rattle.mdp_drn.specs.Outcome.{◌>>=◌, Refusal}
-use Rattle.mdp_drn.specs.Header.{no_entries, AnyEntry}
+use Rattle.mdp_drn.specs.{Lines.{lines_of, content, is_comment}, Outcome.{◌>>=◌, Refusal}, Header.{no_entries, AnyEntry}}
 use Rattle.mdp_drn.specs.Reading.{Part, InHeader, Document, nothing_read, named, longest_line, kept_line, at_line, at_end_of, at_end, after_lines, outcome}
 use Rattle.mdp_drn.specs.Laws.{contents_of, AreShort, without_line, IsReadByContents}
-use Rattle.mdp_drn.proofs.ReadingLaws.Renumbered.{refusal-at, result-at, part-at, kept_line-at, at_end-at, doc}
-use Rattle.mdp_drn.proofs.ReadingLaws.LineNumbers.{comment-read}
+use Rattle.mdp_drn.proofs.{ReadingLaws.Renumbered.{refusal-at, result-at, part-at, kept_line-at, at_end-at, doc}, ReadingLaws.LineNumbers.{comment-read}}
 
 -- line numbers forgotten
 abbrev none : ℕ → ℕ

@@ -1,16 +1,13 @@
 -- What the calls do to the list of labels of a draft: a label is put behind those that are known, and nothing else changes it.
 use Rattle.std.proofs.Common.{◌≡◌, ℕ, ◌+◌, ◌^◌, cond, eqb, ltb, leb, ◌||◌, List, [], ◌∷◌, ◌++◌, length, refl, sym, ap, subst, ◌∙◌, Option, Some, None, Result, Ok, Err}
-use Rattle.std.specs.List.{position_or_len}
-use Rattle.std.specs.Str.{bytes_eq}
+use Rattle.std.specs.{List.{position_or_len}, Str.{bytes_eq}}
 use Rattle.mdp_math.specs.Rational.{ℚ}
 use Rattle.mdp_spec.specs.Mdp.{Entry, State}
 use Rattle.mdp_rows.specs.Draft.{Draft, OpenState, OpenChoice, ◌>>=◌, choice_closed, choice_closed_in, with_choice_closed, closed_row, state_closed}
 use Rattle.mdp_rows.specs.Draft.{state_closed_in, all_closed, state_opened, new_state, choice_opened, choice_opened_in, summed_rewards, closed_choices}
 use Rattle.mdp_rows.specs.Draft.{after_label, label_in, with_name, with_place, after_entry, entry_in, with_choice_entry, has_target, with_entry}
-use Rattle.mdp_rows.specs.declared.error.RowsError.{RowsError}
-use Rattle.mdp_rows.specs.declared.error.RowsError.TheVariants.{NoChoice, TooMany, Target, Twice, Count}
-use Rattle.mdp_drn.specs.Body.{with_labels}
-use Rattle.mdp_drn.specs.Laws.{seen}
+use Rattle.mdp_rows.specs.{declared.error.RowsError.{RowsError}, declared.error.RowsError.TheVariants.{NoChoice, TooMany, Target, Twice, Count}}
+use Rattle.mdp_drn.specs.{Body.{with_labels}, Laws.{seen}}
 use Rattle.mdp_drn.proofs.LinesRead.DraftCalls.{HasState, ok-is, passed, bound, label-given, state-opened}
 
 abbrev given : Draft → Result Draft RowsError

@@ -1,11 +1,9 @@
 -- The first line that breaks a rule.
 use Rattle.std.proofs.Common.{◌≡◌, ℕ, ◌⊎◌, inl, inr, List, [], ◌∷◌, ◌++◌, Result, Ok, Err, refl, ap, ◌∙◌}
 use Rattle.mdp_rows.specs.declared.rule.RowRule.{RowRule}
-use Rattle.mdp_drn.specs.Lines.{lines_of}
-use Rattle.mdp_spec.specs.Mdp.{Mdp}
-use Rattle.mdp_drn.specs.Outcome.{◌>>=◌, Refusal}
-use Rattle.mdp_drn.specs.Reading.{Document, nothing_read, at_line, at_end, after_lines}
+use Rattle.mdp_drn.specs.{Lines.{lines_of}, Outcome.{◌>>=◌, Refusal}, Reading.{Document, nothing_read, at_line, at_end, after_lines}}
 use Rattle.mdp_drn.specs.Laws.{BreaksInside, BreaksAtEnd, RefusedAtFirst, DependsOnNothingBehind}
+use Rattle.mdp_spec.specs.Mdp.{Mdp}
 use Rattle.mdp_drn.proofs.PiecesFed.StandGrows.{after_lines-append}
 
 -- these lines, read behind a document, are stopped at one of them

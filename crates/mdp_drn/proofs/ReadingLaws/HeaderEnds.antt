@@ -1,16 +1,12 @@
 -- The header ends exactly at the line `@model`.
 use Rattle.std.proofs.Common.{◌≡◌, ℕ, Bool, true, false, not, cond, ◌==◌, ◌&&◌, ◌||◌, ◌^◌, List, [], length, drop, Some, Result, Ok, Err, refl, sym, ap, subst, is_some, codes}
-use Rattle.std.specs.Str.{bytes_eq}
 use Rattle.std.proofs.lemmas.Slice.Eq.{bytes_eq-Decides}
-use Rattle.mdp_drn.specs.declared.error.DrnKind.{DrnKind}
-use Rattle.mdp_drn.specs.declared.error.DrnKind.TheVariants as kind
-use Rattle.mdp_drn.specs.Lines.{begins_with, without_blanks_before}
-use Rattle.mdp_drn.specs.Outcome.{◌>>=◌, refuse_if, given_or}
-use Rattle.mdp_drn.specs.Header.{Header, Next, AnyEntry, BlankLine, RewardNames, StateCount, ChoiceCount, Model, read, is_word, type_named}
-use Rattle.mdp_drn.specs.Header.{type_entry, value_type_entry}
-use Rattle.mdp_drn.specs.Header.{model_entry, entry_line, is_entry, names_in, words_of, count_in, with_states}
-use Rattle.mdp_drn.specs.Header.{header_line}
+use Rattle.std.specs.Str.{bytes_eq}
+use Rattle.mdp_drn.specs.{declared.error.DrnKind.{DrnKind}, Lines.{begins_with, without_blanks_before}, Outcome.{◌>>=◌, refuse_if, given_or}}
+use Rattle.mdp_drn.specs.Header.{Header, Next, AnyEntry, BlankLine, RewardNames, StateCount, ChoiceCount, Model, read, is_word, type_named, header_line}
+use Rattle.mdp_drn.specs.Header.{type_entry, value_type_entry, model_entry, entry_line, is_entry, names_in, words_of, count_in, with_states}
 use Rattle.mdp_drn.specs.HeaderView.{is_model}
+use Rattle.mdp_drn.specs.declared.error.DrnKind.TheVariants as kind
 
 -- what is read goes on in this way, if it is read
 abbrev Goes : Bool → Result (Header × Next) DrnKind → Type 0

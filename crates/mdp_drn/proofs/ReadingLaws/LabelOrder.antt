@@ -1,29 +1,21 @@
 -- A model's labels stand in the order in which the lines of its states spell them first.
 use Rattle.std.proofs.Common.{◌≡◌, ℕ, ◌+◌, Option, leb, Bool, true, false, not, cond, eqb, ltb, List, [], ◌∷◌, ◌++◌, length, drop, refl, sym, ap, subst, ◌∙◌, Result, Ok, Err, codes}
-use Rattle.std.specs.List.{flat_map}
-use Rattle.std.specs.Str.{bytes_eq}
 use Rattle.std.proofs.lemmas.List.Concat.{flat_map-cons}
+use Rattle.std.specs.{List.{flat_map}, Str.{bytes_eq}}
 use Rattle.mdp_spec.specs.Mdp.{Mdp}
 use Rattle.mdp_num.specs.Digits.{front_digits, behind_digits, number}
 use Rattle.mdp_rows.specs.Draft.{Draft, with_name, all_closed, choice_closed, state_opened, choice_opened, after_entry, finished}
-use Rattle.mdp_rows.specs.declared.error.RowsError.{RowsError}
+use Rattle.mdp_rows.specs.{declared.error.RowsError.{RowsError}, declared.rule.RowRule.{RowRule}}
 use Rattle.mdp_rows.specs.declared.error.RowsError.TheVariants as rows
-use Rattle.mdp_rows.specs.declared.rule.RowRule.{RowRule}
-use Rattle.mdp_drn.specs.declared.error.DrnKind.{DrnKind}
-use Rattle.mdp_drn.specs.declared.error.DrnKind.TheVariants as kind
-use Rattle.mdp_drn.specs.Lines.{lines_of, content, is_comment, without_blanks_before}
-use Rattle.mdp_drn.specs.Outcome.{◌>>=◌, refuse_if, Refusal, at_line_of}
-use Rattle.mdp_drn.specs.Labels.{labels_in}
-use Rattle.mdp_drn.specs.Values.{rewards_in}
-use Rattle.mdp_drn.specs.Header.{Header, Next, header_line}
+use Rattle.mdp_drn.specs.{declared.error.DrnKind.{DrnKind}, Lines.{lines_of, content, is_comment, without_blanks_before}}
+use Rattle.mdp_drn.specs.{Outcome.{◌>>=◌, refuse_if, Refusal, at_line_of}, Labels.{labels_in}, Values.{rewards_in}, Header.{Header, Next, header_line}}
 use Rattle.mdp_drn.specs.HeaderView.{is_model}
 use Rattle.mdp_drn.specs.Body.{Body, StateRead, judged, with_labels, begins_as, is_other_mark, is_rest_of_state, bracket_at, state_read}
-use Rattle.mdp_drn.specs.Body.{action_read, entry_read, state_line, action_line, entry_line, model_line}
-use Rattle.mdp_drn.specs.Body.{is_state_line, is_action_line}
+use Rattle.mdp_drn.specs.Body.{action_read, entry_read, state_line, action_line, entry_line, model_line, is_state_line, is_action_line}
 use Rattle.mdp_drn.specs.Reading.{Part, InHeader, InModel, Document, nothing_read, named, longest_line, begun, kept_line, judged_line, at_line, at_end_of, at_end, after_lines, has_choices}
 use Rattle.mdp_drn.specs.Laws.{contents_of, or_none, labels_on, model_part, seen, ListsLabelsBySight}
-use Rattle.mdp_drn.proofs.LinesRead.HeaderKeeps.{begun_model, begun_other}
-use Rattle.mdp_drn.proofs.TextWritten.Bytes.{not_empty}
+use Rattle.mdp_drn.specs.declared.error.DrnKind.TheVariants as kind
+use Rattle.mdp_drn.proofs.{LinesRead.HeaderKeeps.{begun_model, begun_other}, TextWritten.Bytes.{not_empty}}
 use Rattle.mdp_drn.proofs.ReadingLaws.DraftLabels.{all_closed-labels, state_opened-labels, action-labels, entry-labels, labels-put, opened-state}
 use Rattle.mdp_drn.proofs.ReadingLaws.HeaderEnds.{ends-at_model}
 

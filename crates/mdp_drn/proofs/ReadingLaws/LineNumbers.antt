@@ -1,12 +1,9 @@
 -- Which lines a refusal can name, and what a comment does to their numbers.
 use Rattle.std.proofs.Common.{◌≡◌, ℕ, suc, ◌+◌, ◌^◌, ◌<◌, ◌≤◌, min, true, false, ltb, List, [], ◌∷◌, ◌++◌, length, Result, Ok, Err}
-use Rattle.std.proofs.Common.{refl, ap, ap₂, subst, sym, ◌∙◌, arith, length-append}
-use Rattle.std.proofs.lemmas.Bool.Decides.{nat_tests}
+use Rattle.std.proofs.{Common.{refl, ap, ap₂, subst, sym, ◌∙◌, arith, length-append}, lemmas.Bool.Decides.{nat_tests}}
 use Rattle.mdp_spec.specs.Mdp.{Mdp}
 use Rattle.mdp_rows.specs.declared.rule.RowRule.{RowRule}
-use Rattle.mdp_drn.specs.Lines.{lines_of, content, is_comment}
-use Rattle.mdp_drn.specs.Outcome.{◌>>=◌, Refusal}
-use Rattle.mdp_drn.specs.Header.{no_entries, AnyEntry}
+use Rattle.mdp_drn.specs.{Lines.{lines_of, content, is_comment}, Outcome.{◌>>=◌, Refusal}, Header.{no_entries, AnyEntry}}
 use Rattle.mdp_drn.specs.Reading.{Part, InHeader, InModel, Document, nothing_read, named, longest_line, at_line, at_end, after_lines, outcome}
 use Rattle.mdp_drn.specs.Laws.{NamesNoLaterLine, NamesLineOfText, moved, with_moved, IsMovedByComment}
 use Rattle.mdp_drn.proofs.PiecesFed.StandGrows.{after_lines-append}

@@ -1,43 +1,31 @@
 -- What a text reads as keeps all that a model keeps: each line makes of what keeps it what keeps it too.
 use Rattle.std.proofs.Common.{◌≡◌, ℕ, ◌+◌, Bool, true, false, not, cond, eqb, ltb, leb, List, [], ◌∷◌, length, map, drop, refl}
 use Rattle.std.proofs.Common.{sym, ap, subst, ◌∙◌, arith, Option, Some, None, Result, Ok, Err, IfOk, pos, codes, is_some, eqb-true, ◌&&◌}
-use Rattle.std.specs.Prelude.{replicate}
-use Rattle.std.specs.List.{All, slice_split, onto_first, prefix_len}
-use Rattle.std.specs.Char.{is_ascii_digit}
-use Rattle.std.proofs.lemmas.List.{length-replicate}
-use Rattle.std.proofs.lemmas.List.Elements.{All-nil, All-cons, All-head, All-tail, All-append, All-drop}
+use Rattle.std.proofs.{lemmas.List.{length-replicate}, lemmas.List.Elements.{All-nil, All-cons, All-head, All-tail, All-append, All-drop}}
+use Rattle.std.specs.{Prelude.{replicate}, List.{All, slice_split, onto_first, prefix_len}, Char.{is_ascii_digit}}
 use Rattle.mdp_math.specs.Rational.{ℚ, of_int, ratio}
 use Rattle.mdp_spec.specs.Mdp.{Mdp}
-use Rattle.mdp_num.specs.Digits.{front_digits, behind_digits, number}
-use Rattle.mdp_num.specs.Meaning.{AreWithinLimit, IsWithinLimit}
-use Rattle.mdp_num.specs.Numeral.{parts_of, terms_of, numeral_of}
-use Rattle.mdp_num.specs.Numeral as numeral
+use Rattle.mdp_num.specs.{Digits.{front_digits, behind_digits, number}, Meaning.{AreWithinLimit, IsWithinLimit}, Numeral.{parts_of, terms_of, numeral_of}}
 use Rattle.mdp_num.specs.declared.errors.NumeralError.{NumeralError}
+use Rattle.mdp_num.specs.Numeral as numeral
 use Rattle.mdp_num.proofs.Meaning.{terms-all_within, value-within}
-use Rattle.mdp_rows.specs.Name.{IsName, IsRewardName, AreRewardNames}
-use Rattle.mdp_rows.specs.Limits.{IsModel}
+use Rattle.mdp_rows.specs.{Name.{IsName, IsRewardName, AreRewardNames}, Limits.{IsModel}}
 use Rattle.mdp_rows.specs.Draft.{Draft, all_closed, choice_closed, state_opened, choice_opened, after_label, after_entry, finished, new_draft, has_choice, has_open_target}
-use Rattle.mdp_rows.specs.Sound.{IsSound}
-use Rattle.mdp_rows.specs.declared.rule.RowRule.{RowRule}
+use Rattle.mdp_rows.specs.{Sound.{IsSound}, declared.rule.RowRule.{RowRule}}
 use Rattle.mdp_rows.proofs.Calls.Closes.{all_are_closed}
 use Rattle.mdp_rows.proofs.SoundCalls.{new_draft-sound, all_closed-sound, choice_closed-sound, state_opened-sound, choice_opened-sound, after_label-sound, after_entry-sound, finished-sound}
 use Rattle.mdp_drn.specs.declared.error.DrnKind.TheVariants as kind
 use Rattle.mdp_drn.specs.Lines.{is_line_feed, all_but_last, last_part, whole_lines, open_line, lines_of, content, is_blank, is_comment, begins_with, without_blanks_before}
-use Rattle.mdp_drn.specs.Outcome.{◌>>=◌, refuse_if, Refusal, at_line_of}
-use Rattle.mdp_drn.specs.Labels.{labels_in, begins_blank}
+use Rattle.mdp_drn.specs.{Outcome.{◌>>=◌, refuse_if, Refusal, at_line_of}, Labels.{labels_in, begins_blank}}
 use Rattle.mdp_drn.specs.Values.{value_of, from_numeral, each_reward, rewards_in, trimmed, is_comma}
 use Rattle.mdp_drn.specs.Header.{Header, Next, AnyEntry, BlankLine, RewardNames, StateCount, ChoiceCount, Model, no_entries, header_line, announced, names_of, names_or_one, or_else}
 use Rattle.mdp_drn.specs.Body.{Body, StateRead, EntryRead, judged, with_labels, begins_as, is_other_mark, is_rest_of_state, bracket_at, bracket_behind, has_digits, value_text, has_action}
 use Rattle.mdp_drn.specs.Body.{state_read, action_read, entry_read, state_line, action_line, entry_line, model_line, is_state_line, is_action_line}
-use Rattle.mdp_drn.specs.BodyView.{IsOneLine}
-use Rattle.mdp_drn.specs.DocumentView.{IsHeader, AreGiven, IsCounted}
+use Rattle.mdp_drn.specs.{BodyView.{IsOneLine}, DocumentView.{IsHeader, AreGiven, IsCounted}}
 use Rattle.mdp_drn.specs.Reading.{Part, InHeader, InModel, Document, nothing_read, named, longest_line, begun, kept_line, judged_line, at_line, at_end_of, at_end, after_lines, has_choices}
 use Rattle.mdp_drn.specs.Laws.{ReadsAsModel}
-use Rattle.mdp_drn.proofs.LinesRead.DraftCalls.{bound}
-use Rattle.mdp_drn.proofs.LinesRead.Contents.{content_plain, content_front}
-use Rattle.mdp_drn.proofs.LinesRead.HeaderKeeps.{header_keeps}
-use Rattle.mdp_drn.proofs.LinesRead.LabelNames.{label_names, behind_plain}
-use Rattle.mdp_drn.proofs.LinesRead.RewardsFrom.{count-rewards}
+use Rattle.mdp_drn.proofs.{LinesRead.DraftCalls.{bound}, LinesRead.Contents.{content_plain, content_front}, LinesRead.HeaderKeeps.{header_keeps}}
+use Rattle.mdp_drn.proofs.{LinesRead.LabelNames.{label_names, behind_plain}, LinesRead.RewardsFrom.{count-rewards}}
 use Rattle.mdp_drn.proofs.ReadingLaws.LabelOrder.{one-done, not-refused, read-by, judged-is, line-is}
 
 -- ---- lines

@@ -2,17 +2,14 @@
 use Rattle.std.proofs.Common.{◌≡◌, ℕ, suc, ◌+◌, Bool, true, false, not, cond, ltb, ◌==◌, List, [], ◌∷◌, length, drop, Result, Ok, Err, refl, ap, subst, sym, ◌∙◌, zero-add, arith}
 use Rattle.mdp_num.specs.Digits.{front_digits, behind_digits}
 use Rattle.mdp_rows.specs.Draft.{Draft, new_draft, all_closed, choice_closed, state_opened, choice_opened, after_entry, finished}
-use Rattle.mdp_rows.specs.declared.error.RowsError.{RowsError}
+use Rattle.mdp_rows.specs.{declared.error.RowsError.{RowsError}, declared.rule.RowRule.{RowRule}}
 use Rattle.mdp_rows.specs.declared.error.RowsError.TheVariants as rows
-use Rattle.mdp_rows.specs.declared.rule.RowRule.{RowRule}
-use Rattle.mdp_drn.specs.declared.error.DrnKind.{DrnKind}
-use Rattle.mdp_drn.specs.declared.error.DrnKind.TheVariants as kind
-use Rattle.mdp_drn.specs.Lines.{content, is_comment, without_blanks_before}
-use Rattle.mdp_drn.specs.Outcome.{◌>>=◌, refuse_if, Refusal, at_line_of}
+use Rattle.mdp_drn.specs.{declared.error.DrnKind.{DrnKind}, Lines.{content, is_comment, without_blanks_before}, Outcome.{◌>>=◌, refuse_if, Refusal, at_line_of}}
 use Rattle.mdp_drn.specs.Header.{Header, Next, AnyEntry, BlankLine, RewardNames, StateCount, ChoiceCount, Model, header_line, is_chain, announced, names_of}
 use Rattle.mdp_drn.specs.Body.{Body, line_of, kind_of, judged, with_labels, state_read, action_read, entry_read, state_line, action_line}
 use Rattle.mdp_drn.specs.Body.{entry_line, model_line, is_state_line, is_action_line}
 use Rattle.mdp_drn.specs.Reading.{Part, InHeader, InModel, Document, named, longest_line, begun, kept_line, judged_line, at_line, after_lines, at_end_of, at_end, has_choices}
+use Rattle.mdp_drn.specs.declared.error.DrnKind.TheVariants as kind
 
 -- refused or not, under other numbers
 abbrev pub refusal-at : (ℕ → ℕ) → Refusal → Refusal

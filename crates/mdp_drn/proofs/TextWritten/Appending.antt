@@ -1,7 +1,6 @@
 -- What a loop keeps that appends a text piece by piece.
 use Rattle.std.proofs.Common.{◌≡◌, ℕ, ◌≤◌, min, List, [], ◌++◌, length, take, Result, Ok, Err, OnOk, refl, sym, ap, ◌∙◌, append_assoc, append-nil, arith}
-use Rattle.std.proofs.Math.Seq.{take-length}
-use Rattle.std.proofs.lemmas.List.{take-take, length-take}
+use Rattle.std.proofs.{Math.Seq.{take-length}, lemmas.List.{take-take, length-take}}
 
 -- what is written and what is left are the whole text, behind what was there
 pub record Appending (old now rest whole : List ℕ) : Type 0 where

@@ -1,17 +1,12 @@
 -- The rewards in a bracket, as they are read.
 use Rattle.std.proofs.Common.{◌≡◌, ℕ, suc, ◌*◌, ◌<◌, ◌≤◌, Bool, true, false, not, eqb, eq-eqb, ◌||◌, List, [], ◌∷◌, ◌++◌, length, map, append_assoc}
-use Rattle.std.proofs.Common.{refl, sym, ap, ap₂, subst, ◌∙◌, arith, lit<, pos, Ok}
-use Rattle.std.specs.Char.{is_ascii_digit}
-use Rattle.std.specs.List.{All, list_all, prefix_len, slice_split}
-use Rattle.std.proofs.lemmas.Bool.Decides.{nat_tests}
-use Rattle.std.proofs.lemmas.List.{append-nil, length-append}
+use Rattle.std.proofs.{Common.{refl, sym, ap, ap₂, subst, ◌∙◌, arith, lit<, pos, Ok}, lemmas.Bool.Decides.{nat_tests}, lemmas.List.{append-nil, length-append}}
 use Rattle.std.proofs.lemmas.Fmt.{decimal_digit}
+use Rattle.std.specs.{Char.{is_ascii_digit}, List.{All, list_all, prefix_len, slice_split}}
 use Rattle.mdp_math.specs.Rational.{ℚ, of_int}
 use Rattle.mdp_num.specs.Value.{spelling}
 use Rattle.mdp_rows.specs.Limits.{HasSmallTerms}
-use Rattle.mdp_drn.specs.Lines.{is_blank, without_blanks_behind}
-use Rattle.mdp_drn.specs.Values.{each_reward, trimmed, rewards_in}
-use Rattle.mdp_drn.specs.Writing.{joined}
+use Rattle.mdp_drn.specs.{Lines.{is_blank, without_blanks_behind}, Values.{each_reward, trimmed, rewards_in}, Writing.{joined}}
 use Rattle.mdp_drn.proofs.TextWritten.Bytes.{Pass, Fail, and-parts, pass-append, pass-weaken, prefix-none, split-at, split-none}
 use Rattle.mdp_drn.proofs.TextWritten.Lines.{EndsWell, BeginsWell, is_plain_byte, ends-append, ends-plain, before-well, behind-well, before-space}
 use Rattle.mdp_drn.proofs.TextWritten.Numbers.{is_spelling_byte, IsSpelling, IsRewardText, spelling-reward, zero-text}

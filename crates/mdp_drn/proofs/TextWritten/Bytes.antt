@@ -1,12 +1,8 @@
 -- Bytes that pass a test, in texts that are put together.
 use Rattle.std.proofs.Common.{◌≡◌, ℕ, suc, ◌+◌, ◌-◌, Bool, true, false, not, cond, eqb, ltb, ◌&&◌, ◌||◌, List, [], ◌∷◌, ◌++◌, length, take, drop}
-use Rattle.std.proofs.Common.{reverse, append_assoc, get_or, refl, sym, ap, ap₂, ◌∙◌, arith}
-use Rattle.std.specs.List.{list_all, list_any, prefix_len, suffix_len, after_last, slice_split, onto_first}
-use Rattle.std.specs.Io.BufRead.{ends_with_byte, strip_last}
-use Rattle.std.proofs.lemmas.List.{take_at, drop_at, reverse-append, length-append}
-use Rattle.std.proofs.Math.Seq.{get_or-append_seam}
-use Rattle.std.proofs.lemmas.List.Folds.{list_all-append}
-use Rattle.std.proofs.lemmas.Bool.Decides.{nat_tests}
+use Rattle.std.proofs.{Common.{reverse, append_assoc, get_or, refl, sym, ap, ap₂, ◌∙◌, arith}, lemmas.List.{take_at, drop_at, reverse-append, length-append}}
+use Rattle.std.proofs.{Math.Seq.{get_or-append_seam}, lemmas.List.Folds.{list_all-append}, lemmas.Bool.Decides.{nat_tests}}
+use Rattle.std.specs.{List.{list_all, list_any, prefix_len, suffix_len, after_last, slice_split, onto_first}, Io.BufRead.{ends_with_byte, strip_last}}
 
 abbrev pub Pass : (ℕ → Bool) → List ℕ → Type 0
 Pass p xs = list_all p xs ≡ true

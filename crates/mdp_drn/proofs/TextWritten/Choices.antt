@@ -1,30 +1,21 @@
 -- The lines of choices and entries, as they are read.
 use Rattle.std.proofs.Common.{◌≡◌, ℕ, ◌-◌, ◌<◌, ◌≤◌, Bool, true, false, not, cond, eqb, ltb, leb, ◌&&◌, ◌||◌, List, [], ◌∷◌, ◌++◌, length, decimal}
-use Rattle.std.proofs.Common.{codes, append_assoc, take, drop, refl, sym, ap, ap₂, ◌∙◌, arith, Ok, Err}
-use Rattle.std.specs.Char.{is_ascii_digit}
-use Rattle.std.specs.List.{list_any, prefix_len, after_last}
-use Rattle.std.specs.Option.{is_some}
-use Rattle.std.specs.Io.BufRead.{ends_with_byte}
-use Rattle.std.proofs.lemmas.Bool.{lt-leb}
-use Rattle.std.proofs.lemmas.Bool.Decides.{nat_tests}
+use Rattle.std.proofs.{Common.{codes, append_assoc, take, drop, refl, sym, ap, ap₂, ◌∙◌, arith, Ok, Err}, lemmas.Bool.{lt-leb}, lemmas.Bool.Decides.{nat_tests}}
 use Rattle.std.proofs.lemmas.List.{append-nil, length-append, take_at}
+use Rattle.std.specs.{Char.{is_ascii_digit}, List.{list_any, prefix_len, after_last}, Option.{is_some}, Io.BufRead.{ends_with_byte}}
 use Rattle.mdp_math.specs.Rational.{ℚ}
-use Rattle.mdp_num.specs.Digits.{front_digits, behind_digits, number}
-use Rattle.mdp_num.specs.Numeral.{limit}
-use Rattle.mdp_num.proofs.Grammar.{front-is, behind-is}
-use Rattle.mdp_num.proofs.Plain.{number-decimal}
+use Rattle.mdp_num.specs.{Digits.{front_digits, behind_digits, number}, Numeral.{limit}}
+use Rattle.mdp_num.proofs.{Grammar.{front-is, behind-is}, Plain.{number-decimal}}
 use Rattle.mdp_rows.specs.Draft.{Draft, choice_closed, choice_opened, after_entry, has_open_target}
 use Rattle.mdp_drn.specs.declared.error.DrnKind.TheVariants as kind
-use Rattle.mdp_drn.specs.Lines.{is_blank, is_line_feed, without_blanks_before, is_comment, content}
-use Rattle.mdp_drn.specs.Labels.{begins_blank}
+use Rattle.mdp_drn.specs.{Lines.{is_blank, is_line_feed, without_blanks_before, is_comment, content}, Labels.{begins_blank}}
 use Rattle.mdp_drn.specs.Body.{Body, has_digits, is_state_line, is_action_line, bracket_behind, action_read, value_text, entry_read, model_line}
 use Rattle.mdp_drn.specs.Writing.{joined, bracket_text}
 use Rattle.mdp_drn.proofs.TextWritten.Bytes.{Pass, Fail, pass-append, pass-weaken, any-middle, behind-last, ends-with, filled}
 use Rattle.mdp_drn.proofs.TextWritten.Lines.{EndsWell, ends-append, ends-byte, content-tab, content-tabs, before-well, before-space}
 use Rattle.mdp_drn.proofs.TextWritten.Numbers.{IsDecimal, is-decimal, decimal-digits, decimal-short, limit-wide, is_spelling_byte, IsSpelling, IsValueText, begins-other}
 use Rattle.mdp_drn.proofs.TextWritten.Brackets.{AreRewardTexts, commas, is_list_byte, joined-bytes, rewards-read, begins-digit, spelling-begins, spelling-ends}
-use Rattle.mdp_drn.proofs.TextWritten.States.{list-no_feed, decimal-no_feed}
-use Rattle.mdp_drn.proofs.LinesRead.DraftCalls.{HasState, HasChoice, has-choice}
+use Rattle.mdp_drn.proofs.{TextWritten.States.{list-no_feed, decimal-no_feed}, LinesRead.DraftCalls.{HasState, HasChoice, has-choice}}
 
 -- ---- choices
 

@@ -1,31 +1,21 @@
 -- The header, as it is read.
 use Rattle.std.proofs.Common.{◌≡◌, ℕ, ◌^◌, ◌<◌, ◌≤◌, Bool, true, false, not, eqb, ltb, List, [], ◌∷◌, ◌++◌, length, sum_by, decimal, codes}
-use Rattle.std.proofs.Common.{append_assoc, refl, sym, ap, ap₂, subst, ◌∙◌, arith, lit<, Option, Some, None, Ok}
-use Rattle.std.specs.Char.{is_ascii_digit}
-use Rattle.std.specs.List.{prefix_len}
-use Rattle.std.proofs.lemmas.Bool.{le-ltb}
-use Rattle.std.proofs.lemmas.Bool.Decides.{nat_tests}
-use Rattle.std.proofs.lemmas.List.{append-nil}
-use Rattle.mdp_num.specs.Digits.{number}
-use Rattle.mdp_num.specs.Numeral.{limit}
+use Rattle.std.proofs.{Common.{append_assoc, refl, sym, ap, ap₂, subst, ◌∙◌, arith, lit<, Option, Some, None, Ok}, lemmas.Bool.{le-ltb}}
+use Rattle.std.proofs.{lemmas.Bool.Decides.{nat_tests}, lemmas.List.{append-nil}}
+use Rattle.std.specs.{Char.{is_ascii_digit}, List.{prefix_len}}
+use Rattle.mdp_num.specs.{Digits.{number}, Numeral.{limit}}
 use Rattle.mdp_num.proofs.Plain.{number-decimal}
-use Rattle.mdp_rows.specs.Draft.{new_draft}
-use Rattle.mdp_rows.specs.Name.{AreRewardNames}
-use Rattle.mdp_rows.specs.declared.rule.RowRule.TheVariants.{Exact}
+use Rattle.mdp_rows.specs.{Draft.{new_draft}, Name.{AreRewardNames}, declared.rule.RowRule.TheVariants.{Exact}}
 use Rattle.mdp_spec.specs.Mdp.{Mdp, states_of}
 use Rattle.mdp_drn.specs.declared.error.DrnKind.TheVariants as kind
 use Rattle.mdp_drn.specs.declared.header.ModelType.TheVariants as model_type
-use Rattle.mdp_drn.specs.Lines.{is_blank, is_comment, content}
-use Rattle.mdp_drn.specs.Outcome.{◌>>=◌, refuse_if}
+use Rattle.mdp_drn.specs.{Lines.{is_blank, is_comment, content}, Outcome.{◌>>=◌, refuse_if}}
 use Rattle.mdp_drn.specs.Header.{Header, AnyEntry, BlankLine, RewardNames, StateCount, ChoiceCount, no_entries, count_in, entry_line, names_or_one}
-use Rattle.mdp_drn.specs.Reading.{Part, InHeader, InModel, kept_line}
-use Rattle.mdp_drn.specs.Writing.{line, names_text, header_text}
+use Rattle.mdp_drn.specs.{Reading.{Part, InHeader, InModel, kept_line}, Writing.{line, names_text, header_text}}
 use Rattle.mdp_drn.proofs.TextWritten.Bytes.{Pass, pass-weaken, not_empty}
 use Rattle.mdp_drn.proofs.TextWritten.Lines.{EndsWell, is_plain_byte, ends-plain, content-well, AreLines, flat}
 use Rattle.mdp_drn.proofs.TextWritten.Numbers.{IsDecimal, is-decimal, decimal-digits, decimal-short, limit-wide, begins-other}
-use Rattle.mdp_drn.proofs.TextWritten.Brackets.{begins-digit}
-use Rattle.mdp_drn.proofs.TextWritten.States.{decimal-no_feed}
-use Rattle.mdp_drn.proofs.TextWritten.Names.{IsNamesLine, names-line}
+use Rattle.mdp_drn.proofs.{TextWritten.Brackets.{begins-digit}, TextWritten.States.{decimal-no_feed}, TextWritten.Names.{IsNamesLine, names-line}}
 use Rattle.mdp_drn.proofs.TextWritten.LineByLine.{Reaches, reaches-none, reaches-line, body}
 
 -- how many choices a model has

@@ -1,16 +1,11 @@
 -- Labels in quotes, as they are read.
 use Rattle.std.proofs.Common.{◌≡◌, ℕ, zero, suc, ◌*◌, ◌≤◌, Bool, true, false, not, cond, eqb, ltb, leb, ◌&&◌, ◌||◌, List, [], ◌∷◌, ◌++◌, length, map}
-use Rattle.std.proofs.Common.{get_or, append_assoc, refl, ap, ap₂, ◌∙◌, arith, Ok, Err}
-use Rattle.std.specs.List.{list_all, list_any}
-use Rattle.std.proofs.lemmas.Bool.{leb-true}
-use Rattle.std.proofs.lemmas.Bool.Decides.{nat_tests}
+use Rattle.std.proofs.{Common.{get_or, append_assoc, refl, ap, ap₂, ◌∙◌, arith, Ok, Err}, lemmas.Bool.{leb-true}, lemmas.Bool.Decides.{nat_tests}}
 use Rattle.std.proofs.lemmas.List.{length-append}
+use Rattle.std.specs.List.{list_all, list_any}
 use Rattle.mdp_rows.specs.Name.{IsName}
-use Rattle.mdp_drn.specs.declared.error.DrnKind.TheVariants.{Label}
-use Rattle.mdp_drn.specs.Lines.{is_line_feed, without_blanks_before}
-use Rattle.mdp_drn.specs.Outcome.{◌>>=◌}
-use Rattle.mdp_drn.specs.Labels.{is_quote, begins_blank, is_sized, quoted_at, quoted, labels_within, labels_in}
-use Rattle.mdp_drn.specs.Writing.{label_text, labels_text}
+use Rattle.mdp_drn.specs.{declared.error.DrnKind.TheVariants.{Label}, Lines.{is_line_feed, without_blanks_before}, Outcome.{◌>>=◌}}
+use Rattle.mdp_drn.specs.{Labels.{is_quote, begins_blank, is_sized, quoted_at, quoted, labels_within, labels_in}, Writing.{label_text, labels_text}}
 use Rattle.mdp_drn.proofs.TextWritten.Bytes.{Fail, and-parts, and-both, not-true, pass-append, pass-weaken, take-stop, drop-stop, none-any}
 
 -- 1 to 255 bytes without a quote and a line feed

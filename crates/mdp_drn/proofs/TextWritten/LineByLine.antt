@@ -1,11 +1,8 @@
 -- Lines that are read one after another, whatever their numbers are.
 use Rattle.std.proofs.Common.{◌≡◌, ℕ, ◌+◌, ◌≤◌, Bool, false, cond, ltb, eqb, List, [], ◌∷◌, ◌++◌, length, refl, ap, ◌∙◌, arith, Option, Ok}
 use Rattle.std.proofs.lemmas.Bool.Decides.{nat_tests}
-use Rattle.mdp_rows.specs.Draft.{Draft}
-use Rattle.mdp_rows.specs.declared.rule.RowRule.TheVariants.{Exact}
-use Rattle.mdp_drn.specs.Lines.{content, is_comment}
-use Rattle.mdp_drn.specs.Outcome.{◌>>=◌}
-use Rattle.mdp_drn.specs.Body.{Body, model_line}
+use Rattle.mdp_rows.specs.{Draft.{Draft}, declared.rule.RowRule.TheVariants.{Exact}}
+use Rattle.mdp_drn.specs.{Lines.{content, is_comment}, Outcome.{◌>>=◌}, Body.{Body, model_line}}
 use Rattle.mdp_drn.specs.Reading.{Part, InModel, Document, named, longest_line, kept_line, at_line, after_lines}
 use Rattle.mdp_drn.proofs.PiecesFed.StandGrows.{after_lines-append}
 

@@ -1,8 +1,7 @@
 -- A text that is put together of lines is cut into these lines, and what is read of them.
 use Rattle.std.proofs.Common.{◌≡◌, ℕ, suc, ◌+◌, ◌-◌, Bool, true, false, not, cond, eqb, ltb, ◌&&◌, List, [], ◌∷◌, ◌++◌, length, drop, append_assoc, refl, sym, ap, ap₂, ◌∙◌, arith}
-use Rattle.std.specs.List.{list_all, prefix_len, suffix_len, slice_split}
-use Rattle.std.specs.Io.BufRead.{strip_last}
 use Rattle.std.proofs.lemmas.List.{append-nil, take_all}
+use Rattle.std.specs.{List.{list_all, prefix_len, suffix_len, slice_split}, Io.BufRead.{strip_last}}
 use Rattle.mdp_drn.specs.Lines.{is_line_feed, is_blank, all_but_last, last_part, whole_lines, open_line, lines_of, without_blanks_behind, without_blanks_before, content}
 use Rattle.mdp_drn.specs.Writing.{line}
 use Rattle.mdp_drn.proofs.PiecesFed.Cutting.{all_but_last-push, last_part-push}

@@ -1,22 +1,16 @@
 -- The lines of a model's states, read one after another, make what the calls of a builder make.
 use Rattle.std.proofs.Common.{◌≡◌, ℕ, suc, ◌+◌, ◌<◌, ◌≤◌, false, eqb, List, [], ◌∷◌, ◌++◌, length, map, sum_by, get_or, decimal, codes, append_assoc}
-use Rattle.std.proofs.Common.{refl, sym, ap, ap₂, subst, ◌∙◌, arith, Option, Ok}
-use Rattle.std.proofs.lemmas.List.{length-map}
-use Rattle.std.proofs.lemmas.List.Sums.{sum_by-cons}
-use Rattle.mdp_num.specs.Numeral.{limit}
-use Rattle.mdp_num.specs.Value.{spelling}
+use Rattle.std.proofs.{Common.{refl, sym, ap, ap₂, subst, ◌∙◌, arith, Option, Ok}, lemmas.List.{length-map}, lemmas.List.Sums.{sum_by-cons}}
+use Rattle.mdp_num.specs.{Numeral.{limit}, Value.{spelling}}
 use Rattle.mdp_spec.specs.Mdp.{Entry, Choice, State, Mdp}
 use Rattle.mdp_rows.specs.Draft.{Draft, ◌>>=◌, after_entry, after_label, after_choice, choice_closed, choice_opened, after_state, all_closed, state_opened}
 use Rattle.mdp_rows.specs.Replay.{no_rewards, with_entries, with_choices, with_states}
 use Rattle.mdp_rows.specs.Replay as replay
-use Rattle.mdp_drn.specs.Outcome.{◌>>=◌ as ◌then◌}
-use Rattle.mdp_drn.specs.Body.{with_labels}
+use Rattle.mdp_drn.specs.{Outcome.{◌>>=◌ as ◌then◌}, Body.{with_labels}}
 use Rattle.mdp_drn.specs.Writing.{line, joined, bracket_text, labels_text, entry_text, row_text, choices_text, states_text}
-use Rattle.mdp_drn.proofs.TextWritten.Bytes.{not_empty}
-use Rattle.mdp_drn.proofs.TextWritten.Lines.{flat, flat-append, AreLines, are-append}
+use Rattle.mdp_drn.proofs.{TextWritten.Bytes.{not_empty}, TextWritten.Lines.{flat, flat-append, AreLines, are-append}}
 use Rattle.mdp_drn.proofs.TextWritten.Numbers.{is-decimal, limit-wide, spelling-value}
-use Rattle.mdp_drn.proofs.TextWritten.Brackets.{spellings, zeros, lengths, commas, joined-bytes, joined-short}
-use Rattle.mdp_drn.proofs.TextWritten.Labels.{names_at}
+use Rattle.mdp_drn.proofs.{TextWritten.Brackets.{spellings, zeros, lengths, commas, joined-bytes, joined-short}, TextWritten.Labels.{names_at}}
 use Rattle.mdp_drn.proofs.LinesRead.DraftCalls.{ok-is, bound, count, Stays, stays-same, stays-then, HasState, HasChoice, choice-closed, all-closed}
 use Rattle.mdp_drn.proofs.LinesRead.DraftCalls.{state-opened, label-given, choice-opened, Enters, entry-given}
 use Rattle.mdp_drn.proofs.TextWritten.States.{state_text, state_text-is, state-content, state-no_comment, state-no_feed, state-short, state-line}

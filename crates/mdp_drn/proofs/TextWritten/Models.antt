@@ -1,26 +1,16 @@
 -- What a model keeps, state by state, that its text needs.
 use Rattle.std.proofs.Common.{◌≡◌, ℕ, suc, ◌+◌, ◌*◌, ◌/◌, ◌<◌, ◌≤◌, Bool, true, false, cond, eqb, ltb}
 use Rattle.std.proofs.Common.{List, [], ◌∷◌, length, get_or, subst, ◌∙◌, arith, lit<, ℤ, pos, ◌*ℤ◌, ◌≤ℤ◌, unsigned_abs}
+use Rattle.std.proofs.{Math.Nat.{mul-le-mul_left, mul-le-mul_right, div-mul_cancel, one-le-mul}, lemmas.Bool.Decides.{nat_tests}, lemmas.Int.{ints}}
 use Rattle.std.specs.List.{All}
-use Rattle.std.proofs.Math.Nat.{mul-le-mul_left, mul-le-mul_right, div-mul_cancel, one-le-mul}
-use Rattle.std.proofs.lemmas.Bool.Decides.{nat_tests}
-use Rattle.std.proofs.lemmas.Int.{ints}
-use Rattle.mdp_math.specs.Gcd.{gcd, gcd_is, gcd-le_right}
-use Rattle.mdp_math.specs.Rational.{ℚ, ◌+ℚ◌, ◌≤ℚ◌, quotient-pos}
-use Rattle.mdp_math.specs.Sum.{sum_of}
+use Rattle.mdp_math.specs.{Gcd.{gcd, gcd_is, gcd-le_right}, Rational.{ℚ, ◌+ℚ◌, ◌≤ℚ◌, quotient-pos}, Sum.{sum_of}}
 use Rattle.mdp_math.proofs.Laws.{den-pos, zero-+ℚ, +ℚ_comm, num-of_int, den-of_int}
-use Rattle.mdp_math.proofs.Order.{0ℚ, 1ℚ, nonneg, le_across, ≤ℚ_refl, ≤ℚ_trans, ≤ℚ_of_eq, add-le-add_ℚ}
-use Rattle.mdp_math.proofs.Sums.{sum_of-nonneg}
-use Rattle.mdp_num.specs.Meaning.{IsWithinLimit}
-use Rattle.mdp_num.specs.Numeral.{limit}
-use Rattle.mdp_spec.specs.Mdp.{Entry, Choice, State, Mdp, states_of, choices_at, no_choice, no_state}
-use Rattle.mdp_spec.specs.Row.{IsRow}
-use Rattle.mdp_spec.specs.Unit.{lcm, row_den}
+use Rattle.mdp_math.proofs.{Order.{0ℚ, 1ℚ, nonneg, le_across, ≤ℚ_refl, ≤ℚ_trans, ≤ℚ_of_eq, add-le-add_ℚ}, Sums.{sum_of-nonneg}}
+use Rattle.mdp_num.specs.{Meaning.{IsWithinLimit}, Numeral.{limit}}
+use Rattle.mdp_spec.specs.{Mdp.{Entry, Choice, State, Mdp, states_of, choices_at, no_choice, no_state}, Row.{IsRow}, Unit.{lcm, row_den}}
 use Rattle.mdp_spec.proofs.Rows.{probs_nonneg}
-use Rattle.mdp_rows.specs.Limits.{known_after, all_below, in_order_of_sight, HasSmallTerms, IsChoiceWithin, IsStateWithin, IsModel}
-use Rattle.mdp_rows.specs.Name.{IsName}
-use Rattle.mdp_drn.proofs.TextWritten.Bytes.{and-parts}
-use Rattle.mdp_drn.proofs.TextWritten.Labels.{label-of, AreLabels, names_at}
+use Rattle.mdp_rows.specs.{Limits.{known_after, all_below, in_order_of_sight, HasSmallTerms, IsChoiceWithin, IsStateWithin, IsModel}, Name.{IsName}}
+use Rattle.mdp_drn.proofs.{TextWritten.Bytes.{and-parts}, TextWritten.Labels.{label-of, AreLabels, names_at}}
 
 -- P holds of each element
 abbrev pub Each : {A : Type 0} → (A → Type 0) → List A → Type 0

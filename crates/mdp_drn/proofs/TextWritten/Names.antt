@@ -1,16 +1,10 @@
 -- The line of reward names, as it is read.
 use Rattle.std.proofs.Common.{◌≡◌, ℕ, suc, ◌*◌, ◌<◌, ◌≤◌, Bool, true, false, not, cond, eqb, ltb, leb, ◌&&◌, ◌||◌, List, [], ◌∷◌, ◌++◌, length}
-use Rattle.std.proofs.Common.{get_or, append_assoc, refl, sym, ap, subst, ◌∙◌, arith, Ok}
-use Rattle.std.specs.List.{All, list_all, list_any, prefix_len, slice_split, filter}
-use Rattle.std.specs.Bool.{IsTrue}
-use Rattle.std.specs.Str.{bytes_eq}
-use Rattle.std.proofs.lemmas.Bool.{leb-true, le-ltb}
-use Rattle.std.proofs.lemmas.Bool.Decides.{nat_tests}
-use Rattle.std.proofs.lemmas.List.{append-nil, length-append}
-use Rattle.std.proofs.lemmas.Slice.Eq.{bytes_eq-Decides}
+use Rattle.std.proofs.{Common.{get_or, append_assoc, refl, sym, ap, subst, ◌∙◌, arith, Ok}, lemmas.Bool.{leb-true, le-ltb}, lemmas.Bool.Decides.{nat_tests}}
+use Rattle.std.proofs.{lemmas.List.{append-nil, length-append}, lemmas.Slice.Eq.{bytes_eq-Decides}}
+use Rattle.std.specs.{List.{All, list_all, list_any, prefix_len, slice_split, filter}, Bool.{IsTrue}, Str.{bytes_eq}}
 use Rattle.mdp_rows.specs.Name.{IsRewardName, are_different, begins_reserved, AreRewardNames}
-use Rattle.mdp_drn.specs.Lines.{is_blank, is_line_feed, is_comment, content}
-use Rattle.mdp_drn.specs.Header.{words_of, is_bad_name, names_in, is_entry, names_or_one}
+use Rattle.mdp_drn.specs.{Lines.{is_blank, is_line_feed, is_comment, content}, Header.{words_of, is_bad_name, names_in, is_entry, names_or_one}}
 use Rattle.mdp_drn.specs.Writing.{joined, names_text}
 use Rattle.mdp_drn.proofs.TextWritten.Bytes.{Pass, Fail, and-parts, not-true, pass-append, pass-weaken, prefix-none, split-at, split-none, any-none, none-any, filled}
 use Rattle.mdp_drn.proofs.TextWritten.Lines.{EndsWell, BeginsWell, is_plain_byte, ends-append, ends-plain, content-well}

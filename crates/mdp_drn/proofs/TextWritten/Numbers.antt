@@ -1,32 +1,18 @@
 -- Decimal texts and spellings of fractions, as they are read.
-use Rattle.std.proofs.Common.{◌≡◌, ℕ, ◌+◌, ◌-◌, ◌*◌, ◌^◌, ◌<◌, ◌≤◌, zero, suc, Bool, true, false, cond, eqb, ltb, lt-ltb, ◌&&◌, List, [], ◌∷◌, ◌++◌}
+use Rattle.std.proofs.Common.{◌≡◌, ℕ, ◌+◌, ◌-◌, ◌*◌, ◌^◌, ◌<◌, ◌≤◌, zero, suc, Bool, true, false, cond, eqb, ltb, lt-ltb, ◌&&◌, List, [], ◌∷◌, ◌++◌, Some}
 use Rattle.std.proofs.Common.{length, decimal, refl, sym, ap, ap₂, subst, ◌∙◌, arith, lit<, inl, inr, ℤ, pos, negsuc, neg_ℤ, unsigned_abs, ◌≤ℤ◌, Ok}
-use Rattle.std.proofs.Common.{Some}
-use Rattle.std.specs.Char.{is_ascii_digit}
-use Rattle.std.specs.Fmt.{signed_decimal}
-use Rattle.std.specs.List.{list_all, prefix_len}
-use Rattle.std.proofs.lemmas.Bool.{cases_eq}
-use Rattle.std.proofs.lemmas.Bool.Decides.{nat_tests}
-use Rattle.std.proofs.lemmas.Fmt.{length-decimal-le_wide}
-use Rattle.std.proofs.lemmas.Int.{ints}
-use Rattle.std.proofs.lemmas.List.{append-nil, length-append}
-use Rattle.std.proofs.Math.Nat.{mul-le-mul_left, one-le-pow}
+use Rattle.std.proofs.{lemmas.Bool.{cases_eq}, lemmas.Bool.Decides.{nat_tests}, lemmas.Fmt.{length-decimal-le_wide}, lemmas.Int.{ints}}
+use Rattle.std.proofs.{lemmas.List.{append-nil, length-append}, Math.Nat.{mul-le-mul_left, one-le-pow}}
+use Rattle.std.specs.{Char.{is_ascii_digit}, Fmt.{signed_decimal}, List.{list_all, prefix_len}}
 use Rattle.mdp_math.specs.Rational.{ℚ, of_int, ratio, neg_ℚ}
-use Rattle.mdp_math.proofs.Laws.{ratio_self, den-pos, num-neg, den-neg}
-use Rattle.mdp_math.proofs.Order.{nonneg}
-use Rattle.mdp_num.specs.Digits.{number}
-use Rattle.mdp_num.specs.Grammar.{IsDigits}
-use Rattle.mdp_num.specs.Meaning.{IsWithinLimit}
+use Rattle.mdp_math.proofs.{Laws.{ratio_self, den-pos, num-neg, den-neg}, Order.{nonneg}}
+use Rattle.mdp_num.specs.{Digits.{number}, Grammar.{IsDigits}, Meaning.{IsWithinLimit}}
 use Rattle.mdp_num.specs.Numeral.{Parts, Decimal, Quotient, limit, scaled, significant, zeros_behind, decimal_terms, quotient_terms, terms_of, parts_of, numeral_of}
-use Rattle.mdp_num.specs.Numeral as numeral
 use Rattle.mdp_num.specs.Value.{spelling}
-use Rattle.mdp_num.proofs.Plain.{decimal-plain, number-decimal}
-use Rattle.mdp_num.proofs.Grammar.{complete}
-use Rattle.mdp_num.proofs.Meaning.{split}
-use Rattle.mdp_num.proofs.Scale.{scaled-whole}
-use Rattle.mdp_drn.specs.Lines.{begins_with}
+use Rattle.mdp_num.specs.Numeral as numeral
+use Rattle.mdp_num.proofs.{Plain.{decimal-plain, number-decimal}, Grammar.{complete}, Meaning.{split}, Scale.{scaled-whole}}
+use Rattle.mdp_drn.specs.{Lines.{begins_with}, Values.{value_of, reward_of}}
 use Rattle.mdp_rows.specs.Limits.{HasSmallTerms}
-use Rattle.mdp_drn.specs.Values.{value_of, reward_of}
 use Rattle.mdp_drn.proofs.TextWritten.Bytes.{Pass, and-parts, pass-append, pass-weaken, all-prefix}
 
 -- ---- decimal texts

@@ -2,22 +2,14 @@
 use Rattle.std.proofs.Common.{◌≡◌, ℕ, ◌≤◌, true, eqb, eq-eqb, List, ◌++◌, length, sum_by, refl, sym, ap, ap₂, ◌∙◌, arith, Some, Ok}
 use Rattle.mdp_num.specs.Numeral.{limit}
 use Rattle.mdp_spec.specs.Mdp.{State, Mdp, states_of}
-use Rattle.mdp_rows.specs.Draft.{Draft, new_draft, all_closed, finished, after_finish}
-use Rattle.mdp_rows.specs.Limits.{IsModel}
-use Rattle.mdp_rows.specs.Replay.{with_states, replayed, IsReplayed}
+use Rattle.mdp_rows.specs.{Draft.{Draft, new_draft, all_closed, finished, after_finish}, Limits.{IsModel}, Replay.{with_states, replayed, IsReplayed}}
 use Rattle.mdp_rows.specs.declared.rule.RowRule.TheVariants.{Exact}
-use Rattle.mdp_drn.specs.Lines.{lines_of}
-use Rattle.mdp_drn.specs.Outcome.{◌>>=◌}
-use Rattle.mdp_drn.specs.Reading.{InModel, nothing_read, after_lines, at_end, Reads, all_choices}
+use Rattle.mdp_drn.specs.{Lines.{lines_of}, Outcome.{◌>>=◌}, Reading.{InModel, nothing_read, after_lines, at_end, Reads, all_choices}}
 use Rattle.mdp_drn.specs.Writing.{text_of, ReadsBack}
-use Rattle.mdp_drn.proofs.TextWritten.Lines.{flat, flat-append, are-append, lines-flat}
-use Rattle.mdp_drn.proofs.LinesRead.DraftCalls.{bound}
-use Rattle.mdp_drn.proofs.LinesRead.CountsAtEnd.{finished_states}
-use Rattle.mdp_drn.proofs.PiecesFed.StandGrows.{after_lines-append}
-use Rattle.mdp_drn.proofs.TextWritten.LineByLine.{doc, body}
+use Rattle.mdp_drn.proofs.{TextWritten.Lines.{flat, flat-append, are-append, lines-flat}, LinesRead.DraftCalls.{bound}, LinesRead.CountsAtEnd.{finished_states}}
+use Rattle.mdp_drn.proofs.{PiecesFed.StandGrows.{after_lines-append}, TextWritten.LineByLine.{doc, body}}
 use Rattle.mdp_drn.proofs.TextWritten.Header.{choices_of, header_lines, IsHeaderFit, header-reaches, header-are_lines, header_text-flat, small-limit}
-use Rattle.mdp_drn.proofs.TextWritten.Models.{states-fit}
-use Rattle.mdp_drn.proofs.TextWritten.ModelLines.{states_lines, states-flat, states-written}
+use Rattle.mdp_drn.proofs.{TextWritten.Models.{states-fit}, TextWritten.ModelLines.{states_lines, states-flat, states-written}}
 
 text-flat : (m : Mdp) → text_of m ≡ flat (header_lines m ++ states_lines m 0 m.states)
 text-flat m = ap₂ (λ (t u : List ℕ). t ++ u) (header_text-flat m) (states-flat m 0 m.states) ∙ sym (flat-append (header_lines m) (states_lines m 0 m.states))

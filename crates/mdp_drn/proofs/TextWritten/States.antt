@@ -1,16 +1,11 @@
 -- The line of a state, as it is read.
 use Rattle.std.proofs.Common.{◌≡◌, ℕ, ◌<◌, ◌≤◌, Bool, true, false, not, eqb, ltb, leb, eq-eqb, ◌||◌, List, [], ◌∷◌, ◌++◌, length, decimal, codes}
-use Rattle.std.proofs.Common.{append_assoc, refl, sym, ap, ap₂, subst, ◌∙◌, arith, Ok}
-use Rattle.std.specs.Char.{is_ascii_digit}
-use Rattle.std.specs.List.{prefix_len}
-use Rattle.std.proofs.lemmas.Bool.{lt-leb}
-use Rattle.std.proofs.lemmas.Bool.Decides.{nat_tests}
+use Rattle.std.proofs.{Common.{append_assoc, refl, sym, ap, ap₂, subst, ◌∙◌, arith, Ok}, lemmas.Bool.{lt-leb}, lemmas.Bool.Decides.{nat_tests}}
 use Rattle.std.proofs.lemmas.List.{length-append}
+use Rattle.std.specs.{Char.{is_ascii_digit}, List.{prefix_len}}
 use Rattle.mdp_math.specs.Rational.{ℚ}
-use Rattle.mdp_num.specs.Digits.{front_digits, number}
-use Rattle.mdp_num.specs.Numeral.{limit}
-use Rattle.mdp_num.proofs.Grammar.{front-is, behind-is}
-use Rattle.mdp_num.proofs.Plain.{number-decimal}
+use Rattle.mdp_num.specs.{Digits.{front_digits, number}, Numeral.{limit}}
+use Rattle.mdp_num.proofs.{Grammar.{front-is, behind-is}, Plain.{number-decimal}}
 use Rattle.mdp_rows.specs.Draft.{Draft, all_closed, state_opened}
 use Rattle.mdp_drn.specs.Lines.{is_blank, is_line_feed, without_blanks_before, is_comment, content}
 use Rattle.mdp_drn.specs.Body.{Body, has_digits, is_state_line, is_rest_of_state, bracket_to, bracket_at, state_read, with_labels, model_line}

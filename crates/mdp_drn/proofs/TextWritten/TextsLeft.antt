@@ -1,12 +1,10 @@
 -- What is left of a text from one place of a list on, one place more and at the end.
 use Rattle.std.proofs.Common.{rules, ◌≡◌, ℕ, zero, suc, ◌+◌, ◌<◌, ◌≤◌, List, [], ◌∷◌, ◌++◌, length, get_or, drop, refl, sym, ap, subst, arith, ◌∙◌}
-use Rattle.std.proofs.Common.{append_assoc, append-nil, add-one, drop-cons, map, decimal, codes, pos}
-use Rattle.std.proofs.Math.ListN.{get_or-map}
+use Rattle.std.proofs.{Common.{append_assoc, append-nil, add-one, drop-cons, map, decimal, codes, pos}, Math.ListN.{get_or-map}}
 use Rattle.std.proofs.lemmas.List.{length-map, drop_all}
 use Rattle.mdp_math.specs.Rational.{ℚ, of_int}
 use Rattle.mdp_num.specs.Value.{spelling}
-use Rattle.mdp_spec.specs.Row.{entries}
-use Rattle.mdp_spec.specs.Mdp.{Choice, Mdp, states_of, state_at, choices_at, no_choice, no_state}
+use Rattle.mdp_spec.specs.{Row.{entries}, Mdp.{Choice, Mdp, states_of, state_at, choices_at, no_choice, no_state}}
 use Rattle.mdp_rows.specs.Limits.{IsStateWithin, IsModel}
 use Rattle.mdp_drn.specs.Writing.{line, entry_text, joined, label_text, labels_text, row_text, choices_text, states_text}
 use Rattle.mdp_drn.specs.Pieces.{separator_text, separated, zeros_of, count_text, choice_text, state_text}

@@ -1,29 +1,15 @@
 -- The open row while it closes: sorted, and then with the values that it closes with.
-use Rattle.std.proofs.Common.{◌≡◌, ℕ, ◌<◌, Bool, false, not, ◌&&◌, IsTrue, List, [], ◌∷◌, get_or, length, sym, ap, subst, ◌∙◌}
-use Rattle.std.specs.Prelude.{Result, Ok}
-use Rattle.std.specs.Global.{Vec}
-use Rattle.std.specs.Vec.{with_items}
-use Rattle.std.specs.List.{All, AllByRecursion}
-use Rattle.std.proofs.lemmas.List.{length-map}
-use Rattle.std.proofs.lemmas.List.Elements.{All-from_recursion}
-use Rattle.std.proofs.lemmas.List.Sorted.{All-permutation, length_permutation}
+use Rattle.std.proofs.{Common.{◌≡◌, ℕ, ◌<◌, Bool, false, not, ◌&&◌, IsTrue, List, [], ◌∷◌, get_or, length, sym, ap, subst, ◌∙◌}, lemmas.List.{length-map}}
+use Rattle.std.proofs.{lemmas.List.Elements.{All-from_recursion}, lemmas.List.Sorted.{All-permutation, length_permutation}}
+use Rattle.std.specs.{Prelude.{Result, Ok}, Global.{Vec}, Vec.{with_items}, List.{All, AllByRecursion}}
 use Rattle.mdp_math.specs.Rational.{◌≤ℚ◌}
 use Rattle.mdp_math.proofs.Order.{0ℚ}
-use Rattle.mdp_spec.specs.Mdp.{Entry}
-use Rattle.mdp_spec.specs.Row.{ascends_from, IsDistribution}
-use Rattle.mdp_rows.specs.Draft.{has_target, closed_row}
-use Rattle.mdp_rows.specs.FlatDraft.{IsDraft}
-use Rattle.mdp_rows.specs.Given.{row_of, entry_of}
-use Rattle.mdp_rows.specs.GivenRow.{in_order, IsGivenRow}
-use Rattle.mdp_rows.specs.declared.assembly.Assembly.TheInside.{Inside}
-use Rattle.mdp_rows.specs.declared.assembly.Stage.TheVariants.{InRow}
-use Rattle.mdp_rows.specs.declared.error.RowsError.{RowsError}
-use Rattle.mdp_rows.specs.declared.given.Given.{Given}
-use Rattle.mdp_rows.specs.declared.rule.RowRule.{RowRule}
-use Rattle.mdp_rows.proofs.Assembled.Drafts.{items_are, is_with_values}
-use Rattle.mdp_rows.proofs.Assembled.GivenRows.{in_its_place, cleared}
-use Rattle.mdp_rows.proofs.Assembled.InOrder.{in_order-permutes, in_order-has}
-use Rattle.mdp_rows.proofs.SoundCalls.Rows.{AreValues, closed_row-sound}
+use Rattle.mdp_spec.specs.{Mdp.{Entry}, Row.{ascends_from, IsDistribution}}
+use Rattle.mdp_rows.specs.{Draft.{has_target, closed_row}, FlatDraft.{IsDraft}, Given.{row_of, entry_of}, GivenRow.{in_order, IsGivenRow}}
+use Rattle.mdp_rows.specs.{declared.assembly.Assembly.TheInside.{Inside}, declared.assembly.Stage.TheVariants.{InRow}, declared.error.RowsError.{RowsError}}
+use Rattle.mdp_rows.specs.{declared.given.Given.{Given}, declared.rule.RowRule.{RowRule}}
+use Rattle.mdp_rows.proofs.{Assembled.Drafts.{items_are, is_with_values}, Assembled.GivenRows.{in_its_place, cleared}}
+use Rattle.mdp_rows.proofs.{Assembled.InOrder.{in_order-permutes, in_order-has}, SoundCalls.Rows.{AreValues, closed_row-sound}}
 use Rattle.mdp_rows.proofs.Assembled.Targets.{targets, same_length, same_ascending, same_range, same_has}
 
 -- the open row was sorted, and then its values may have changed

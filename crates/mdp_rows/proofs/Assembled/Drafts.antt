@@ -1,38 +1,20 @@
 -- What a builder's vectors say of its draft.
 use Rattle.std.proofs.Common.{◌≡◌, ◌≢◌, ℕ, ◌+◌, ◌-◌, ◌<◌, ◌≤◌, ◌^◌, Bool, true, false, not, List, [], ◌∷◌, ◌++◌, length, drop, sum_by, Option, Some, None, refl, sym, ap}
 use Rattle.std.proofs.Common.{ap₂, subst, ◌∙◌, arith, length-append, eqb, eq-eqb, if◌then◌else◌}
-use Rattle.std.specs.Prelude.{Result, Ok, Err}
-use Rattle.std.specs.List.{All}
-use Rattle.std.specs.Global.{Vec}
-use Rattle.std.specs.Vec.{with_items}
-use Rattle.std.proofs.lemmas.List.{with_items_is}
-use Rattle.std.proofs.lemmas.List.{drop-append-le, length-map, length-drop}
-use Rattle.std.proofs.lemmas.List.Elements.{All-append, All-filter}
-use Rattle.std.proofs.lemmas.List.Sums.{sum_by-append, sum_by-cons}
+use Rattle.std.proofs.{lemmas.List.{with_items_is, drop-append-le, length-map, length-drop}, lemmas.List.Elements.{All-append, All-filter}}
+use Rattle.std.proofs.{lemmas.List.Sums.{sum_by-append, sum_by-cons}, lemmas.Bool.{ne_eqb}, Math.Seq.{drop-length}}
+use Rattle.std.specs.{Prelude.{Result, Ok, Err}, List.{All}, Global.{Vec}, Vec.{with_items}}
 use Rattle.mdp_math.specs.Rational.{ℚ}
 use Rattle.mdp_spec.specs.Mdp.{Entry, Choice, State}
-use Rattle.mdp_rows.specs.ChoiceTable.{ChoiceTable}
-use Rattle.mdp_rows.specs.Pieces.{pieces}
-use Rattle.mdp_rows.specs.FlatModel.{states_from}
-use Rattle.mdp_rows.specs.Given.{row_of, entry_of}
-use Rattle.mdp_rows.specs.GivenRow.{in_order, IsGivenRow}
+use Rattle.mdp_rows.specs.{ChoiceTable.{ChoiceTable}, Pieces.{pieces}, FlatModel.{states_from}, Given.{row_of, entry_of}, GivenRow.{in_order, IsGivenRow}}
 use Rattle.mdp_rows.specs.Draft.{Draft, OpenState, OpenChoice, closed_row, kept, is_zero, choice_closed, choice_closed_in, with_choice_closed, state_closed}
 use Rattle.mdp_rows.specs.Draft.{state_closed_in, state_opened, new_state, IsChoiceClosed, ◌>>=◌}
-use Rattle.mdp_rows.specs.FlatDraft.{draft_in, open_in, state_in, choice_in, open_choices, open_states, AreStatesIn, IsDraft}
-use Rattle.mdp_rows.specs.declared.given.Given.{Given}
-use Rattle.mdp_rows.specs.declared.error.RowsError.{RowsError}
-use Rattle.mdp_rows.specs.declared.error.RowsError.TheVariants.{NoChoice, Count}
-use Rattle.mdp_rows.specs.Labelling.{Labelling}
-use Rattle.std.proofs.lemmas.Bool.{ne_eqb}
-use Rattle.std.proofs.Math.Seq.{drop-length}
-use Rattle.mdp_rows.specs.declared.assembly.Stage.{Stage}
-use Rattle.mdp_rows.specs.declared.assembly.Stage.TheVariants.{Between, InState, InRow}
+use Rattle.mdp_rows.specs.{FlatDraft.{draft_in, open_in, state_in, choice_in, open_choices, open_states, AreStatesIn, IsDraft}, declared.given.Given.{Given}}
+use Rattle.mdp_rows.specs.{declared.error.RowsError.{RowsError}, declared.error.RowsError.TheVariants.{NoChoice, Count}, Labelling.{Labelling}}
+use Rattle.mdp_rows.specs.{declared.assembly.Stage.{Stage}, declared.assembly.Stage.TheVariants.{Between, InState, InRow}}
 use Rattle.mdp_rows.specs.declared.assembly.Assembly.TheInside.{Inside}
-use Rattle.mdp_rows.proofs.Flat.Growth.{pieces-kept, pieces-last, places-more, choice-more, sum_by-one}
-use Rattle.mdp_rows.proofs.Flat.Kept.{filter_le}
-use Rattle.mdp_rows.proofs.Flat.RowsGrown.{all_one}
-use Rattle.mdp_rows.proofs.Flat.Models.{length-states_from, states_from-more}
-use Rattle.mdp_rows.proofs.Flat.Pieces.{length-pieces}
+use Rattle.mdp_rows.proofs.{Flat.Growth.{pieces-kept, pieces-last, places-more, choice-more, sum_by-one}, Flat.Kept.{filter_le}, Flat.RowsGrown.{all_one}}
+use Rattle.mdp_rows.proofs.{Flat.Models.{length-states_from, states_from-more}, Flat.Pieces.{length-pieces}}
 
 pub same_draft : (x y : Draft) → x.announced ≡ y.announced → x.rule ≡ y.rule → x.names ≡ y.names → x.labels ≡ y.labels → x.closed ≡ y.closed → x.state ≡ y.state → x.entries ≡ y.entries
     → x.refused ≡ y.refused → x ≡ y

@@ -1,33 +1,19 @@
 -- What an entry, and a choice, make of a draft.
 use Rattle.std.proofs.Common.{◌≡◌, ◌≢◌, ℕ, ◌+◌, ◌<◌, ◌≤◌, ◌^◌, ◌==◌, Bool, true, false, List, []}
 use Rattle.std.proofs.Common.{◌∷◌, ◌++◌, length, get_or, Some, None, refl, sym, ap, ap₂, subst, ◌∙◌}
-use Rattle.std.proofs.Common.{arith, leb, le-leb, ltb, lt-ltb, le-ltb, length-append, if◌then◌else◌}
-use Rattle.std.specs.Prelude.{Result, Ok, Err}
-use Rattle.std.specs.List.{list_any}
-use Rattle.std.specs.Global.{Vec}
-use Rattle.std.specs.Prelude.{slice_set}
-use Rattle.std.proofs.lemmas.List.{map-append}
+use Rattle.std.proofs.{Common.{arith, leb, le-leb, ltb, lt-ltb, le-ltb, length-append, if◌then◌else◌}, lemmas.List.{map-append}}
+use Rattle.std.specs.{Prelude.{Result, Ok, Err, slice_set}, List.{list_any}, Global.{Vec}}
 use borrow.Author.Tests.{lt-leb}
 use Rattle.mdp_math.specs.Rational.{ℚ}
 use Rattle.mdp_spec.specs.Mdp.{Entry}
-use Rattle.mdp_rows.specs.Pieces.{pieces}
-use Rattle.mdp_rows.specs.Given.{row_of, entry_of}
-use Rattle.mdp_rows.specs.GivenRow.{in_order}
+use Rattle.mdp_rows.specs.{Pieces.{pieces}, Given.{row_of, entry_of}, GivenRow.{in_order}}
 use Rattle.mdp_rows.specs.Draft.{Draft, OpenState, OpenChoice, after_entry, entry_in, with_choice_entry, with_entry, choice_opened, choice_opened_in, closed_choices}
-use Rattle.mdp_rows.specs.Draft.{summed_rewards, IsChoiceClosed, ◌>>=◌}
-use Rattle.mdp_rows.specs.FlatDraft.{draft_in, open_in, state_in, choice_in, open_choices, IsDraft}
-use Rattle.mdp_rows.specs.declared.given.Given.{Given}
-use Rattle.mdp_rows.specs.declared.error.RowsError.{RowsError}
-use Rattle.mdp_rows.specs.declared.error.RowsError.TheVariants.{TooMany, Target, Twice}
-use Rattle.mdp_rows.specs.declared.assembly.Stage.{Stage}
-use Rattle.mdp_rows.specs.declared.assembly.Stage.TheVariants.{Between, InState, InRow}
+use Rattle.mdp_rows.specs.{Draft.{summed_rewards, IsChoiceClosed, ◌>>=◌}, FlatDraft.{draft_in, open_in, state_in, choice_in, open_choices, IsDraft}}
+use Rattle.mdp_rows.specs.{declared.given.Given.{Given}, declared.error.RowsError.{RowsError}, declared.error.RowsError.TheVariants.{TooMany, Target, Twice}}
+use Rattle.mdp_rows.specs.{declared.assembly.Stage.{Stage}, declared.assembly.Stage.TheVariants.{Between, InState, InRow}}
 use Rattle.mdp_rows.specs.declared.assembly.Assembly.TheInside.{Inside}
-use Rattle.mdp_rows.proofs.Assembled.Drafts.{same_draft, state_of, open_len}
-use Rattle.mdp_rows.proofs.Flat.Growth.{pieces-sum-to}
-use Rattle.mdp_rows.proofs.Flat.Pieces.{length-pieces}
-use Rattle.mdp_rows.proofs.Flat.Models.{choices-total}
-use Rattle.mdp_rows.proofs.Assembled.GivenRows.{with_one, is_there}
-use Rattle.mdp_rows.proofs.Assembled.InOrder.{in_order-push}
+use Rattle.mdp_rows.proofs.{Assembled.Drafts.{same_draft, state_of, open_len}, Flat.Growth.{pieces-sum-to}, Flat.Pieces.{length-pieces}}
+use Rattle.mdp_rows.proofs.{Flat.Models.{choices-total}, Assembled.GivenRows.{with_one, is_there}, Assembled.InOrder.{in_order-push}}
 
 -- ---- an entry
 

@@ -1,21 +1,13 @@
 -- The model that a builder finishes as.
 use Rattle.std.proofs.Common.{◌≡◌, ℕ, ◌-◌, ◌<◌, Bool, true, false, length, Option, Some, None, refl, sym, ap, subst, ◌∙◌, arith, ◌⊎◌, inl, inr, eqb, eq-eqb, if◌then◌else◌}
-use Rattle.std.specs.Prelude.{Result, Ok, Err}
-use Rattle.std.specs.List.{All}
-use Rattle.std.specs.Option.{IfSome}
+use Rattle.std.specs.{Prelude.{Result, Ok, Err}, List.{All}, Option.{IfSome}}
 use borrow.Author.Tests.{eqb-true}
 use Rattle.mdp_spec.specs.Mdp.{Mdp}
-use Rattle.mdp_rows.specs.Pieces.{ArePlaces}
-use Rattle.mdp_rows.specs.FlatModel.{mdp_in, IsFlat}
-use Rattle.mdp_rows.specs.Sound.{FinishesModel}
-use Rattle.mdp_rows.specs.Draft.{Draft, all_closed, finished, IsCall, IsUnrefused, ◌>>=◌}
-use Rattle.mdp_rows.specs.FlatDraft.{draft_in, IsDraft}
-use Rattle.mdp_rows.specs.declared.error.RowsError.{RowsError}
-use Rattle.mdp_rows.specs.declared.error.RowsError.TheVariants.{Count, Memory}
-use Rattle.mdp_rows.specs.declared.assembly.Assembly.TheInside.{Inside}
+use Rattle.mdp_rows.specs.{Pieces.{ArePlaces}, FlatModel.{mdp_in, IsFlat}, Sound.{FinishesModel}}
+use Rattle.mdp_rows.specs.{Draft.{Draft, all_closed, finished, IsCall, IsUnrefused, ◌>>=◌}, FlatDraft.{draft_in, IsDraft}, declared.error.RowsError.{RowsError}}
+use Rattle.mdp_rows.specs.{declared.error.RowsError.TheVariants.{Count, Memory}, declared.assembly.Assembly.TheInside.{Inside}}
 use Rattle.mdp_rows.specs.declared.model.Model.TheInside.{Inside as ModelInside}
-use Rattle.mdp_rows.proofs.Assembled.Drafts.{closed_in, closed_len, closed_is}
-use Rattle.mdp_rows.proofs.Calls.{ok_before}
+use Rattle.mdp_rows.proofs.{Assembled.Drafts.{closed_in, closed_len, closed_is}, Calls.{ok_before}}
 
 -- ---- steps one after the other
 

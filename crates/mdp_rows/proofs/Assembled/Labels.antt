@@ -1,23 +1,14 @@
 -- What a label makes of a draft.
 use Rattle.std.proofs.Common.{◌≡◌, ◌≢◌, ℕ, ◌+◌, ◌<◌, ◌≤◌, Bool, false, ◌||◌, List, length, Option}
 use Rattle.std.proofs.Common.{None, refl, sym, ap, ◌∙◌, arith, leb, le-leb, ltb, lt-ltb, le-ltb, if◌then◌else◌}
-use Rattle.std.specs.Prelude.{Result, Ok, Err}
-use Rattle.std.specs.Global.{Vec}
-use Rattle.std.specs.List.{position_or_len}
-use Rattle.std.specs.Str.{bytes_eq}
+use Rattle.std.specs.{Prelude.{Result, Ok, Err}, Global.{Vec}, List.{position_or_len}, Str.{bytes_eq}}
 use borrow.Author.Tests.{lt-leb}
-use Rattle.mdp_rows.specs.Pieces.{pieces}
-use Rattle.mdp_rows.specs.FlatModel.{states_from}
-use Rattle.mdp_rows.specs.Labelling.{Labelling}
+use Rattle.mdp_rows.specs.{Pieces.{pieces}, FlatModel.{states_from}, Labelling.{Labelling}}
 use Rattle.mdp_rows.specs.Draft.{Draft, OpenState, OpenChoice, after_label, label_in, with_name, with_place}
-use Rattle.mdp_rows.specs.FlatDraft.{draft_in, open_in, state_in, choice_in, open_choices, IsDraft}
-use Rattle.mdp_rows.specs.declared.error.RowsError.{RowsError}
-use Rattle.mdp_rows.specs.declared.error.RowsError.TheVariants.{TooMany}
-use Rattle.mdp_rows.specs.declared.assembly.Stage.{Stage}
-use Rattle.mdp_rows.specs.declared.assembly.Stage.TheVariants.{Between, InState, InRow}
-use Rattle.mdp_rows.specs.declared.assembly.Assembly.TheInside.{Inside}
-use Rattle.mdp_rows.proofs.Assembled.Drafts.{same_draft}
-use Rattle.mdp_rows.proofs.Assembled.Places.{length-with_place}
+use Rattle.mdp_rows.specs.{FlatDraft.{draft_in, open_in, state_in, choice_in, open_choices, IsDraft}, declared.error.RowsError.{RowsError}}
+use Rattle.mdp_rows.specs.{declared.error.RowsError.TheVariants.{TooMany}, declared.assembly.Stage.{Stage}}
+use Rattle.mdp_rows.specs.{declared.assembly.Stage.TheVariants.{Between, InState, InRow}, declared.assembly.Assembly.TheInside.{Inside}}
+use Rattle.mdp_rows.proofs.{Assembled.Drafts.{same_draft}, Assembled.Places.{length-with_place}}
 
 -- names that no state has as yet
 pub is_named : (b : Inside) (labels : Labelling) (places : Vec ℕ) → IsDraft b → labels.of_state ≡ b.labels.of_state → places.items ≡ b.places.items

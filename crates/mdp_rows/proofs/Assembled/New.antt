@@ -1,22 +1,11 @@
 -- A new builder.
-use Rattle.std.proofs.Common.{◌≡◌, ℕ, ◌<◌, ◌≤◌, ◌^◌, false, List, [], ◌∷◌, length, None, refl, sym, ap, ap₂, ◌∙◌, arith}
-use Rattle.std.specs.Prelude.{replicate}
-use Rattle.std.specs.List.{All}
-use Rattle.std.proofs.lemmas.List.Elements.{All-nil}
+use Rattle.std.proofs.{Common.{◌≡◌, ℕ, ◌<◌, ◌≤◌, ◌^◌, false, List, [], ◌∷◌, length, None, refl, sym, ap, ap₂, ◌∙◌, arith}, lemmas.List.Elements.{All-nil}}
+use Rattle.std.specs.{Prelude.{replicate}, List.{All}}
 use Rattle.mdp_spec.specs.Mdp.{Choice}
-use Rattle.mdp_rows.specs.ChoiceTable.{ChoiceTable}
-use Rattle.mdp_rows.specs.declared.rule.RowRule.{RowRule}
-use Rattle.mdp_rows.specs.Pieces.{pieces}
-use Rattle.mdp_rows.specs.Labelling.{Labelling}
-use Rattle.mdp_rows.specs.FlatModel.{states_from}
-use Rattle.mdp_rows.specs.Draft.{new_draft}
-use Rattle.mdp_rows.specs.FlatDraft.{draft_in, open_in, state_in, choice_in, IsDraft}
-use Rattle.mdp_rows.specs.declared.assembly.Stage.{Stage}
-use Rattle.mdp_rows.specs.declared.assembly.Stage.TheVariants.{Between}
-use Rattle.mdp_rows.specs.declared.assembly.Assembly.TheInside.{Inside}
-use Rattle.mdp_rows.proofs.Assembled.Drafts.{same_draft}
-use Rattle.mdp_rows.proofs.Assembled.GivenRows.{none_marked}
-use Rattle.mdp_rows.proofs.Flat.Growth.{one_place}
+use Rattle.mdp_rows.specs.{ChoiceTable.{ChoiceTable}, declared.rule.RowRule.{RowRule}, Pieces.{pieces}, Labelling.{Labelling}, FlatModel.{states_from}}
+use Rattle.mdp_rows.specs.{Draft.{new_draft}, FlatDraft.{draft_in, open_in, state_in, choice_in, IsDraft}, declared.assembly.Stage.{Stage}}
+use Rattle.mdp_rows.specs.{declared.assembly.Stage.TheVariants.{Between}, declared.assembly.Assembly.TheInside.{Inside}}
+use Rattle.mdp_rows.proofs.{Assembled.Drafts.{same_draft}, Assembled.GivenRows.{none_marked}, Flat.Growth.{one_place}}
 
 module _ (b : Inside) (states : ℕ) (rule : RowRule) (names : List (List ℕ)) (some : 1 ≤ states) (few : states ≤ 2 ^ 20) (announced : b.announced ≡ states) (ruled : b.rule ≡ rule)
     (choices : b.choices ≡ record { names = names; choices = [] }) (starts : b.starts.items ≡ 0 ∷ []) (first : b.first_choice ≡ 0)

@@ -1,7 +1,6 @@
 -- What a result says.
 use Rattle.std.proofs.Common.{◌≡◌, true, false}
-use Rattle.std.specs.Prelude.{Result, Ok, Err, OnOk, OnErr}
-use Rattle.std.specs.Result.{is_ok}
+use Rattle.std.specs.{Prelude.{Result, Ok, Err, OnOk, OnErr}, Result.{is_ok}}
 
 pub at_ok : {T E P : Type 0} → (r : Result T E) → is_ok r ≡ true → OnOk r P → P
 at_ok (Ok x) e p = p

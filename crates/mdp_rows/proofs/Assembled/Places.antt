@@ -1,8 +1,7 @@
 -- A place among ascending ones.
 use Rattle.std.proofs.Common.{◌≡◌, ◌≢◌, ℕ, suc, ◌+◌, ◌<◌, ◌≤◌, Bool, true, false, cond, not, eqb, eq-eqb, leb, ltb, lt-ltb, le-ltb, List, [], ◌∷◌, ◌++◌, length, take}
-use Rattle.std.proofs.Common.{drop, get_or, refl, sym, ap, ap₂, ◌∙◌, arith, if◌then◌else◌}
+use Rattle.std.proofs.{Common.{drop, get_or, refl, sym, ap, ap₂, ◌∙◌, arith, if◌then◌else◌}, lemmas.Bool.{ne_eqb}}
 use Rattle.std.specs.List.{position_or_len}
-use Rattle.std.proofs.lemmas.Bool.{ne_eqb}
 use borrow.Author.Tests.{leb-true, leb-false}
 use Rattle.mdp_rows.specs.Draft.{with_place}
 

@@ -1,10 +1,7 @@
 -- What a call answers, from what its step does and from what is kept of a refusal.
 use Rattle.std.proofs.Common.{◌≡◌, Option, Some, None, refl, sym, ap, subst, ◌∙◌}
-use Rattle.std.specs.Prelude.{Result, Ok, Err, OnOk, IfErr}
-use Rattle.std.specs.Option.{IfSome}
-use Rattle.mdp_rows.specs.Draft.{Draft, Follows, IsCall}
-use Rattle.mdp_rows.specs.FlatDraft.{draft_in}
-use Rattle.mdp_rows.specs.declared.error.RowsError.{RowsError}
+use Rattle.std.specs.{Prelude.{Result, Ok, Err, OnOk, IfErr}, Option.{IfSome}}
+use Rattle.mdp_rows.specs.{Draft.{Draft, Follows, IsCall}, FlatDraft.{draft_in}, declared.error.RowsError.{RowsError}}
 use Rattle.mdp_rows.specs.declared.assembly.Assembly.TheInside.{Inside}
 use Rattle.mdp_rows.proofs.Calls.Kept.{IsKept}
 

@@ -1,15 +1,10 @@
 -- What of a draft is open, from the stage of its builder.
 use Rattle.std.proofs.Common.{◌≡◌, ◌≢◌, ℕ, ◌+◌, ◌<◌, ◌≤◌, false, ltb, le-ltb, get_or, length, [], None, refl, sym, ap, ap₂, ◌∙◌}
-use Rattle.mdp_rows.specs.Draft.{Draft, OpenState, OpenChoice, has_state, has_choice, has_target, has_open_target, states_opened}
-use Rattle.mdp_rows.specs.Given.{row_of}
-use Rattle.mdp_rows.specs.GivenRow.{in_order}
-use Rattle.mdp_rows.specs.FlatDraft.{draft_in, open_in, state_in, choice_in, IsDraft}
-use Rattle.mdp_rows.specs.declared.assembly.Assembly.TheInside.{Inside}
-use Rattle.mdp_rows.specs.declared.assembly.Stage.{Stage}
-use Rattle.mdp_rows.specs.declared.assembly.Stage.TheVariants.{Between, InState, InRow}
-use Rattle.mdp_rows.proofs.Assembled.Drafts.{closed_len}
-use Rattle.mdp_rows.proofs.Assembled.GivenRows.{is_there, none_there}
+use Rattle.mdp_rows.specs.{Draft.{Draft, OpenState, OpenChoice, has_state, has_choice, has_target, has_open_target, states_opened}, Given.{row_of}}
+use Rattle.mdp_rows.specs.{GivenRow.{in_order}, FlatDraft.{draft_in, open_in, state_in, choice_in, IsDraft}, declared.assembly.Assembly.TheInside.{Inside}}
+use Rattle.mdp_rows.specs.{declared.assembly.Stage.{Stage}, declared.assembly.Stage.TheVariants.{Between, InState, InRow}}
 use Rattle.mdp_rows.specs.declared.rule.RowRule.TheVariants.{Exact}
+use Rattle.mdp_rows.proofs.{Assembled.Drafts.{closed_len}, Assembled.GivenRows.{is_there, none_there}}
 
 abbrev pub draft_at : Inside → Stage → Draft
 draft_at b stage = record {

@@ -1,11 +1,9 @@
 -- Rewards of a state and of a choice, added name by name.
 use Rattle.std.proofs.Common.{◌≡◌, ℕ, suc, ◌+◌, ◌<◌, List, [], ◌∷◌, ◌++◌, length, drop, drop-cons, get_or, add-one, append_assoc, append-nil, refl, sym, ap, ap₂, ◌∙◌, arith}
-use Rattle.std.specs.Prelude.{Result, Ok, Err}
 use Rattle.std.proofs.Math.Seq.{drop-length}
-use Rattle.mdp_math.specs.Rational.{ℚ}
-use Rattle.mdp_math.specs.Written.{written_add}
-use Rattle.mdp_rows.specs.Draft.{kept_sum, summed_rewards, ◌>>=◌}
-use Rattle.mdp_rows.specs.declared.error.RowsError.{RowsError}
+use Rattle.std.specs.Prelude.{Result, Ok, Err}
+use Rattle.mdp_math.specs.{Rational.{ℚ}, Written.{written_add}}
+use Rattle.mdp_rows.specs.{Draft.{kept_sum, summed_rewards, ◌>>=◌}, declared.error.RowsError.{RowsError}}
 
 -- these sums, and then the others
 abbrev pub sums_then : List ℚ → Result (List ℚ) RowsError → Result (List ℚ) RowsError

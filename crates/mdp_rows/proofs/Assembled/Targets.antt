@@ -1,13 +1,9 @@
 -- Rows with the same targets.
 use Rattle.std.proofs.Common.{◌≡◌, ℕ, ◌+◌, ◌<◌, Bool, true, ◌&&◌, ◌||◌, ◌==◌, IsTrue, leb, List, [], ◌∷◌, length, map, refl, sym, ap, subst, ◌∙◌}
+use Rattle.std.proofs.{lemmas.List.{length-map}, lemmas.List.Elements.{All-from_recursion, recursion_from_All}}
 use Rattle.std.specs.List.{All, AllByRecursion, list_any}
-use Rattle.std.proofs.lemmas.List.{length-map}
-use Rattle.std.proofs.lemmas.List.Elements.{All-from_recursion, recursion_from_All}
-use Rattle.mdp_spec.specs.Mdp.{Entry}
-use Rattle.mdp_spec.specs.Row.{ascends_from}
-use Rattle.mdp_rows.specs.Draft.{has_target}
-use Rattle.mdp_rows.specs.Given.{row_of}
-use Rattle.mdp_rows.specs.declared.given.Given.{Given}
+use Rattle.mdp_spec.specs.{Mdp.{Entry}, Row.{ascends_from}}
+use Rattle.mdp_rows.specs.{Draft.{has_target}, Given.{row_of}, declared.given.Given.{Given}}
 
 abbrev pub targets : List Given → List ℕ
 targets row = map (λ g. g.target) row

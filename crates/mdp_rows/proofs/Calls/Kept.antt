@@ -1,15 +1,12 @@
 -- What no call changes: how many states were announced, the rule, the names of rewards, and that nothing was refused.
 use Rattle.std.proofs.Common.{◌≡◌, ℕ, ◌+◌, ◌^◌, ◌||◌, leb, ltb, eqb, List, [], ◌∷◌, ◌++◌, length, Option, Some, None, refl, ◌∙◌, subst}
-use Rattle.std.specs.Prelude.{Result, Ok, Err, if◌then◌else◌}
-use Rattle.std.specs.List.{position_or_len}
-use Rattle.std.specs.Str.{bytes_eq}
+use Rattle.std.specs.{Prelude.{Result, Ok, Err, if◌then◌else◌}, List.{position_or_len}, Str.{bytes_eq}}
 use Rattle.mdp_math.specs.Rational.{ℚ}
 use Rattle.mdp_rows.specs.Head.{IsSameHead}
 use Rattle.mdp_rows.specs.Draft.{Draft, OpenState, OpenChoice, new_state, closed_row, closed_choices, with_choice_closed, choice_closed_in, choice_closed}
 use Rattle.mdp_rows.specs.Draft.{state_closed_in, state_closed, all_closed, state_opened, after_state, summed_rewards, choice_opened_in, choice_opened, after_choice}
 use Rattle.mdp_rows.specs.Draft.{has_target, with_entry, with_choice_entry, entry_in, after_entry, with_name, with_place, label_in, after_label, ◌>>=◌}
-use Rattle.mdp_rows.specs.declared.error.RowsError.{RowsError}
-use Rattle.mdp_rows.specs.declared.error.RowsError.TheVariants.{NoChoice, Count, TooMany, Target, Twice}
+use Rattle.mdp_rows.specs.{declared.error.RowsError.{RowsError}, declared.error.RowsError.TheVariants.{NoChoice, Count, TooMany, Target, Twice}}
 use Rattle.mdp_rows.proofs.Calls.Steps.{done, ok_same, then_ok, else_ok}
 
 pub record IsKept (d n : Draft) : Type 0 where

@@ -1,17 +1,14 @@
 -- What stays open after a call.
 use Rattle.std.proofs.Common.{◌≡◌, ℕ, ◌+◌, ◌^◌, ◌==◌, Bool, true, false, ◌||◌, IsTrue, List, [], ◌∷◌}
 use Rattle.std.proofs.Common.{◌++◌, length, Option, Some, None, refl, sym, subst, ◌∙◌, leb, ltb, if◌then◌else◌}
-use Rattle.std.specs.Prelude.{Result, Ok, Err}
-use Rattle.std.specs.List.{list_any}
-use Rattle.std.specs.Option.{is_some}
+use Rattle.std.specs.{Prelude.{Result, Ok, Err}, List.{list_any}, Option.{is_some}}
 use Rattle.mdp_math.specs.Rational.{ℚ}
 use Rattle.mdp_spec.specs.Mdp.{Entry}
 use Rattle.mdp_rows.specs.Draft.{Draft, OpenState, OpenChoice, summed_rewards, closed_row, choice_closed, choice_closed_in, with_choice_closed, all_closed, state_opened}
 use Rattle.mdp_rows.specs.Draft.{choice_opened, choice_opened_in, closed_choices, after_state, after_choice, after_entry, after_label, entry_in, with_choice_entry}
-use Rattle.mdp_rows.specs.Draft.{label_in, with_name, has_state, has_choice, ◌>>=◌}
-use Rattle.mdp_rows.proofs.Calls.Steps.{done, ok_same}
-use Rattle.mdp_rows.specs.declared.error.RowsError.{RowsError}
+use Rattle.mdp_rows.specs.{Draft.{label_in, with_name, has_state, has_choice, ◌>>=◌}, declared.error.RowsError.{RowsError}}
 use Rattle.mdp_rows.specs.declared.error.RowsError.TheVariants.{Count, TooMany, Target, Twice}
+use Rattle.mdp_rows.proofs.Calls.Steps.{done, ok_same}
 
 -- a test that was passed
 pub passed_test : (b : Bool) (e : RowsError) (r : Result Draft RowsError) (n : Draft) → (if b then Err e else r) ≡ Ok n → r ≡ Ok n

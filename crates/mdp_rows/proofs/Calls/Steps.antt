@@ -1,8 +1,7 @@
 -- Steps that may be refused, one after the other.
 use Rattle.std.proofs.Common.{◌≡◌, Bool, true, false, refl, if◌then◌else◌}
 use Rattle.std.specs.Prelude.{Result, Ok, Err}
-use Rattle.mdp_rows.specs.Draft.{◌>>=◌}
-use Rattle.mdp_rows.specs.declared.error.RowsError.{RowsError}
+use Rattle.mdp_rows.specs.{Draft.{◌>>=◌}, declared.error.RowsError.{RowsError}}
 
 abbrev pub done : {A : Type 0} → A → Result A RowsError
 done x = Ok x

@@ -1,18 +1,12 @@
 -- Least common denominators.
 use Rattle.std.proofs.Common.{◌≡◌, ℕ, zero, suc, ◌+◌, ◌<◌, ◌≤◌, Bool, true, false, if◌then◌else◌, ltb, lt-ltb, le-ltb, List, [], ◌∷◌, length, drop}
-use Rattle.std.proofs.Common.{get_or, add-one, drop-cons, Option, Some, None, refl, sym, ap, ap₂, ◌∙◌, arith}
-use Rattle.std.specs.Int.{◌∣◌}
-use Rattle.std.specs.List.{AllByRecursion}
-use Rattle.std.specs.Option.{is_some}
-use Rattle.mdp_math.proofs.Laws.{den-pos}
-use Rattle.mdp_math.proofs.Lcm.{lcm-left, lcm-right, lcm-pos}
+use Rattle.std.proofs.{Common.{get_or, add-one, drop-cons, Option, Some, None, refl, sym, ap, ap₂, ◌∙◌, arith}, Math.Seq.{drop-length}}
+use Rattle.std.specs.{Int.{◌∣◌}, List.{AllByRecursion}, Option.{is_some}}
+use Rattle.mdp_math.proofs.{Laws.{den-pos}, Lcm.{lcm-left, lcm-right, lcm-pos}}
 use Rattle.mdp_spec.proofs.Units.{row_den-pos}
-use Rattle.mdp_spec.specs.Mdp.{Entry}
+use Rattle.mdp_spec.specs.{Mdp.{Entry}, Unit.{lcm, row_den}}
 use Rattle.mdp_num.specs.Numeral.{limit}
-use Rattle.mdp_rows.specs.Given.{row_of}
-use Rattle.mdp_rows.specs.declared.given.Given.{Given}
-use Rattle.mdp_spec.specs.Unit.{lcm, row_den}
-use Rattle.std.proofs.Math.Seq.{drop-length}
+use Rattle.mdp_rows.specs.{Given.{row_of}, declared.given.Given.{Given}}
 use borrow.Author.Tests.{ltb-false, ltb-true}
 use native.Mathlib.Nat.{le_of_dvd, dvd_trans, dvd_refl}
 

@@ -1,24 +1,16 @@
 -- A row's values in parts of a common denominator.
 use Rattle.std.proofs.Common.{◌≡◌, ℕ, zero, suc, ◌+◌, ◌*◌, ◌/◌, ◌<◌, ◌≤◌, ltb, lt-ltb, le-ltb, Option, Some, None, if◌then◌else◌, Bool, true, false, T, eqb, eq-eqb}
 use Rattle.std.proofs.Common.{eqb→eq, zero-mul, List, [], ◌∷◌, length, take, get_or, ℤ, pos, ◌*ℤ◌, ◌≤ℤ◌, unsigned_abs, refl, sym, ap, ap₂, subst, ◌∙◌, arith}
-use Rattle.std.proofs.lemmas.Int.{ints}
-use Rattle.std.specs.Int.{◌∣◌}
-use Rattle.std.specs.List.{AllByRecursion}
-use Rattle.std.proofs.lemmas.List.Sums.{sum_by-cons, sum_by_more_le}
-use Rattle.mdp_math.specs.Rational.{ℚ, ratio, of_int, le_ℚ, ◌+ℚ◌}
-use Rattle.mdp_math.specs.Sum.{sum_of}
-use Rattle.mdp_math.proofs.Booleans.{and-parts}
-use Rattle.mdp_math.proofs.Laws.{is_self, is_ratio, is_of_int, same_is}
+use Rattle.std.proofs.{lemmas.Int.{ints}, lemmas.List.Sums.{sum_by-cons, sum_by_more_le}, Math.Seq.{take-length}}
+use Rattle.std.specs.{Int.{◌∣◌}, List.{AllByRecursion}}
+use Rattle.mdp_math.specs.{Rational.{ℚ, ratio, of_int, le_ℚ, ◌+ℚ◌}, Sum.{sum_of}}
+use Rattle.mdp_math.proofs.{Booleans.{and-parts}, Laws.{is_self, is_ratio, is_of_int, same_is}}
 use Rattle.mdp_math.proofs.Order.{0ℚ, 1ℚ, nonneg, is_le, ratio-add_same, ≤ℚ_antisymm, ≤ℚ_of_eq}
 use Rattle.mdp_spec.specs.Unit.{row_den}
-use Rattle.mdp_rows.specs.Draft.{is_one}
-use Rattle.mdp_rows.specs.Parts.{part, parts}
-use Rattle.mdp_rows.specs.Given.{row_of}
-use Rattle.mdp_rows.specs.declared.given.Given.{Given}
+use Rattle.mdp_rows.specs.{Draft.{is_one}, Parts.{part, parts}, Given.{row_of}, declared.given.Given.{Given}}
 use Rattle.mdp_spec.proofs.Units.{row_den-pos}
 use Rattle.mdp_rows.proofs.ClosedRows.Denominators.{row_den-all}
 use native.Mathlib.Nat.{div-mul_cancel, mul-lt-mul_of_pos_left, mul-le-mul_left}
-use Rattle.std.proofs.Math.Seq.{take-length}
 use borrow.Author.Tests.{ltb-false, ltb-true}
 
 pub pos-abs : (z : ℤ) → pos 0 ≤ℤ z → z ≡ pos (unsigned_abs z)

@@ -1,11 +1,8 @@
 -- A quotient of whole numbers in width, as it is read.
 use Rattle.std.proofs.Common.{◌≡◌, ◌≢◌, ℕ, ◌*◌, ◌/◌, ◌<◌, ◌≤◌, ◌^◌, false, Option, Some, ℤ, pos, to_z, unsigned_abs, sym, ap, ◌∙◌, arith}
-use Rattle.std.proofs.lemmas.Int.{ints, to_z_pos}
-use Rattle.std.proofs.Math.Nat.{div-le_self}
+use Rattle.std.proofs.{lemmas.Int.{ints, to_z_pos}, Math.Nat.{div-le_self}}
 use mir.Syntax.{w128}
-use Rattle.mdp_math.specs.Gcd.{gcd, gcd_comm, lcm}
-use Rattle.mdp_math.specs.Rational.{ℚ, ratio}
-use Rattle.mdp_math.specs.Written.{narrow_ℚ}
+use Rattle.mdp_math.specs.{Gcd.{gcd, gcd_comm, lcm}, Rational.{ℚ, ratio}, Written.{narrow_ℚ}}
 use Rattle.mdp_math.proofs.Written.{narrow_ℚ-kept, num-ratio_signed, den-ratio_signed}
 use Rattle.mdp_num.specs.Value.{quotient}
 

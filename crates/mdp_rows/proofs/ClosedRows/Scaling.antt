@@ -1,26 +1,15 @@
 -- A row's values divided by their sum.
 use Rattle.std.proofs.Common.{◌≡◌, ◌≢◌, ℕ, zero, suc, ◌*◌, ◌/◌, ◌<◌, ◌≤◌, Some, mul-pos, List, [], ◌∷◌, length, map, get_or, slice_set, pos}
-use Rattle.std.proofs.Common.{unsigned_abs, refl, sym, ap, ap₂, subst, ◌∙◌, arith, mul_comm}
-use Rattle.std.proofs.lemmas.Int.{ints}
-use Rattle.std.specs.Int.{◌∣◌}
+use Rattle.std.proofs.{Common.{unsigned_abs, refl, sym, ap, ap₂, subst, ◌∙◌, arith, mul_comm}, lemmas.Int.{ints}, lemmas.List.{length-map, get_or_default}}
+use Rattle.std.specs.{Int.{◌∣◌}, List.{AllByRecursion}}
 use Rattle.mdp_math.specs.Rational.{ℚ, ratio, inv_ℚ, ◌*ℚ◌, ◌≤ℚ◌}
-use Rattle.mdp_math.proofs.Laws.{is_self, is_ratio, is_of_int, same_is}
-use Rattle.mdp_math.proofs.Order.{0ℚ, 1ℚ, is_le, le_of_is, ratio-mul, ratio-nonneg, mul-inv, mul-left_cancel_ℚ}
-use Rattle.mdp_num.specs.Meaning.{IsWithinLimit}
-use Rattle.mdp_num.specs.Numeral.{limit}
-use Rattle.mdp_spec.specs.Mdp.{Entry}
-use Rattle.mdp_spec.specs.Unit.{row_den}
-use Rattle.mdp_rows.specs.Draft.{row_total, scaled_row}
-use Rattle.mdp_rows.specs.Given.{row_of, entry_of}
-use Rattle.mdp_rows.specs.Parts.{part, parts}
-use Rattle.mdp_rows.specs.declared.given.Given.{Given}
+use Rattle.mdp_math.proofs.{Laws.{is_self, is_ratio, is_of_int, same_is}, Order.{0ℚ, 1ℚ, is_le, le_of_is, ratio-mul, ratio-nonneg, mul-inv, mul-left_cancel_ℚ}}
 use Rattle.mdp_math.proofs.Lcm.{lcm-left, lcm-right}
+use Rattle.mdp_num.specs.{Meaning.{IsWithinLimit}, Numeral.{limit}}
+use Rattle.mdp_spec.specs.{Mdp.{Entry}, Unit.{row_den}}
+use Rattle.mdp_rows.specs.{Draft.{row_total, scaled_row}, Given.{row_of, entry_of}, Parts.{part, parts}, declared.given.Given.{Given}}
 use Rattle.mdp_spec.proofs.Units.{row_den-pos}
-use Rattle.mdp_rows.proofs.ClosedRows.Denominators.{row_den-all}
-use Rattle.mdp_rows.proofs.ClosedRows.Parts.{part_is, part_le, den_of_value, sum_parts}
-use Rattle.std.specs.List.{AllByRecursion}
-use Rattle.std.proofs.lemmas.List.{length-map, get_or_default}
-use Rattle.mdp_rows.proofs.Assembled.Targets.{targets}
+use Rattle.mdp_rows.proofs.{ClosedRows.Denominators.{row_den-all}, ClosedRows.Parts.{part_is, part_le, den_of_value, sum_parts}, Assembled.Targets.{targets}}
 use native.Mathlib.Nat.{le_of_dvd, dvd_trans, dvd-mul_left}
 
 -- ---- one value

@@ -1,21 +1,14 @@
 -- The probabilities of a row whose common denominator is within the limit are within it too.
-use Rattle.std.proofs.Common.{ℕ, ◌<◌, ◌≤◌, List, [], ◌∷◌, pos, unsigned_abs, sym, ◌∙◌, arith}
-use Rattle.std.specs.Int.{◌∣◌}
-use Rattle.std.specs.List.{All, AllByRecursion}
-use Rattle.std.proofs.lemmas.Int.{ints}
+use Rattle.std.proofs.{Common.{ℕ, ◌<◌, ◌≤◌, List, [], ◌∷◌, pos, unsigned_abs, sym, ◌∙◌, arith}, lemmas.Int.{ints}}
 use Rattle.std.proofs.lemmas.List.Elements.{All-from_recursion, recursion_from_All}
-use Rattle.mdp_math.specs.Rational.{ℚ, ◌+ℚ◌, ◌≤ℚ◌, ◌<ℚ◌}
-use Rattle.mdp_math.specs.Sum.{sum_of}
-use Rattle.mdp_math.proofs.Laws.{is_self, is_of_int, zero-+ℚ, +ℚ_comm}
-use Rattle.mdp_math.proofs.Order.{0ℚ, 1ℚ, nonneg, is_le, ≤ℚ_refl, ≤ℚ_trans, ≤ℚ_of_eq, ≤ℚ_of_lt, add-le-add_ℚ}
+use Rattle.std.specs.{Int.{◌∣◌}, List.{All, AllByRecursion}}
+use Rattle.mdp_math.specs.{Rational.{ℚ, ◌+ℚ◌, ◌≤ℚ◌, ◌<ℚ◌}, Sum.{sum_of}}
+use Rattle.mdp_math.proofs.{Laws.{is_self, is_of_int, zero-+ℚ, +ℚ_comm}, Order.{0ℚ, 1ℚ, nonneg, is_le, ≤ℚ_refl, ≤ℚ_trans, ≤ℚ_of_eq, ≤ℚ_of_lt, add-le-add_ℚ}}
 use Rattle.mdp_math.proofs.Sums.{sum_of-nonneg}
 use Rattle.mdp_spec.proofs.Units.{row_den-pos}
 use Rattle.mdp_rows.proofs.ClosedRows.Denominators.{row_den-all}
-use Rattle.mdp_spec.specs.Mdp.{Entry}
-use Rattle.mdp_spec.specs.Row.{IsDistribution}
-use Rattle.mdp_spec.specs.Unit.{row_den}
-use Rattle.mdp_num.specs.Meaning.{IsWithinLimit}
-use Rattle.mdp_num.specs.Numeral.{limit}
+use Rattle.mdp_spec.specs.{Mdp.{Entry}, Row.{IsDistribution}, Unit.{row_den}}
+use Rattle.mdp_num.specs.{Meaning.{IsWithinLimit}, Numeral.{limit}}
 use native.Mathlib.Nat.{le_of_dvd}
 
 -- ---- no value is above the sum

@@ -1,18 +1,14 @@
 -- A model handed over step by step: what is still to come makes of the draft now what all makes of the draft before.
 use Rattle.std.proofs.Common.{◌≡◌, ℕ, zero, suc, ◌+◌, ◌<◌, IsTrue, List, [], ◌∷◌, length, drop, get_or, refl, sym, ap, subst, ◌∙◌, arith}
-use Rattle.std.specs.Prelude.{Result, Ok}
-use Rattle.std.specs.List.{AllByRecursion}
+use Rattle.std.specs.{Prelude.{Result, Ok}, List.{AllByRecursion}}
 use Rattle.mdp_math.proofs.Booleans.{and-left, and-right}
 use Rattle.mdp_math.specs.Rational.{ℚ}
 use Rattle.mdp_num.specs.Meaning.{IsWithinLimit}
-use Rattle.mdp_spec.specs.Mdp.{Entry, Choice, State, Mdp, states_of, state_at, no_state}
-use Rattle.mdp_spec.specs.Row.{entries}
+use Rattle.mdp_spec.specs.{Mdp.{Entry, Choice, State, Mdp, states_of, state_at, no_state}, Row.{entries}}
 use Rattle.mdp_rows.specs.Limits.{known_after, all_below, in_order_of_sight, IsModel}
 use Rattle.mdp_rows.specs.Draft.{Draft, after_state, after_label, after_choice, after_entry, ◌>>=◌}
-use Rattle.mdp_rows.specs.Replay.{no_rewards, with_labels, with_entries, with_choices, with_states}
-use Rattle.mdp_rows.specs.declared.error.RowsError.{RowsError}
-use Rattle.mdp_rows.proofs.Calls.Steps.{ok_same, then_ok}
-use Rattle.mdp_rows.proofs.SoundCalls.Labels.{below_head, below_tail, known_by-le, known_by-total}
+use Rattle.mdp_rows.specs.{Replay.{no_rewards, with_labels, with_entries, with_choices, with_states}, declared.error.RowsError.{RowsError}}
+use Rattle.mdp_rows.proofs.{Calls.Steps.{ok_same, then_ok}, SoundCalls.Labels.{below_head, below_tail, known_by-le, known_by-total}}
 
 -- ---- one step, and the others after it
 

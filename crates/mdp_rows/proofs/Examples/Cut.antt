@@ -1,12 +1,9 @@
 -- A subsystem, computed.
 use Rattle.std.proofs.Common.{◌≡◌, ℕ, List, [], ◌∷◌, true, false, Bool, refl}
 use Rattle.std.specs.Prelude.{Ok}
-use Rattle.mdp_math.specs.Gcd.{gcd, gcd_with_fuel}
-use Rattle.mdp_math.specs.Rational.{of_int, ratio, le_ℚ, ◌+ℚ◌}
-use Rattle.mdp_math.specs.Written.{narrow, narrow_ℚ, written_add}
+use Rattle.mdp_math.specs.{Gcd.{gcd, gcd_with_fuel}, Rational.{of_int, ratio, le_ℚ, ◌+ℚ◌}, Written.{narrow, narrow_ℚ, written_add}}
 use Rattle.mdp_math.proofs.Order.{0ℚ}
-use Rattle.mdp_spec.specs.Mdp.{Entry, Choice, State, Mdp}
-use Rattle.mdp_spec.specs.Sub.{sub_of}
+use Rattle.mdp_spec.specs.{Mdp.{Entry, Choice, State, Mdp}, Sub.{sub_of}}
 use Rattle.mdp_spec.proofs.Small.{entry, half, one, quarter}
 use Rattle.mdp_rows.specs.Replay.{replayed}
 use Rattle.mdp_rows.proofs.Examples.Words.{of_states}

@@ -1,20 +1,13 @@
 -- What the flat vectors say of the choices.
 use Rattle.std.proofs.Common.{◌≡◌, ℕ, zero, suc, ◌+◌, ◌*◌, ◌<◌, ◌≤◌, ◌^◌, List, [], ◌∷◌, ◌++◌, length}
 use Rattle.std.proofs.Common.{take, drop, get_or, sum_by, pos, refl, sym, ap, ap₂, subst, ◌∙◌, arith, length-append}
-use native.Mathlib.Nat.{mul-le-mul_left, mul-le-mul_right}
-use Rattle.std.specs.Global.{Vec}
-use Rattle.std.specs.List.{All, AllByRecursion}
 use Rattle.std.proofs.lemmas.List.{length-map, length-drop, length-take-le, take-append-le, drop-append-le, get_or-take, get_or-drop}
-use Rattle.std.proofs.lemmas.List.Elements.{All-from_recursion, recursion_from_All}
-use Rattle.std.proofs.lemmas.List.Sums.{sum_by-cons}
-use Rattle.std.proofs.Math.Seq.{take-length}
+use Rattle.std.proofs.{lemmas.List.Elements.{All-from_recursion, recursion_from_All}, lemmas.List.Sums.{sum_by-cons}, Math.Seq.{take-length}}
+use native.Mathlib.Nat.{mul-le-mul_left, mul-le-mul_right}
+use Rattle.std.specs.{Global.{Vec}, List.{All, AllByRecursion}}
 use Rattle.mdp_math.specs.Rational.{ℚ, of_int}
-use Rattle.mdp_spec.specs.Mdp.{Entry, Choice, no_choice}
-use Rattle.mdp_spec.specs.Row.{IsDistribution}
-use Rattle.mdp_spec.specs.Unit.{reward_of}
-use Rattle.mdp_rows.specs.ChoiceTable.{ChoiceTable, IsChoice}
-use Rattle.mdp_rows.specs.FlatChoices.{with_rewards, table_in, bytes_of, AreChoices}
-use Rattle.mdp_rows.specs.Name.{AreRewardNames}
+use Rattle.mdp_spec.specs.{Mdp.{Entry, Choice, no_choice}, Row.{IsDistribution}, Unit.{reward_of}}
+use Rattle.mdp_rows.specs.{ChoiceTable.{ChoiceTable, IsChoice}, FlatChoices.{with_rewards, table_in, bytes_of, AreChoices}, Name.{AreRewardNames}}
 use Rattle.mdp_rows.specs.declared.choices.Choices.TheInside.{Inside}
 
 -- ---- rows with their rewards

@@ -1,13 +1,10 @@
 -- Pieces of a list that grows.
 use Rattle.std.proofs.Common.{◌≡◌, subst, inl, inr, ℕ, suc, ◌+◌, ◌-◌, ◌<◌, ◌≤◌, List, [], ◌∷◌, ◌++◌}
 use Rattle.std.proofs.Common.{length, take, drop, get_or, sum_by, refl, sym, ap, ap₂, ◌∙◌, arith, length-append, add-one}
-use Rattle.std.proofs.lemmas.List.{take-append-le, drop-append-le, length-drop, get_or_append_left}
-use Rattle.std.proofs.lemmas.List.Sums.{sum_by-cons}
-use Rattle.std.proofs.lemmas.Bool.{cases_lt}
+use Rattle.std.proofs.{lemmas.List.{take-append-le, drop-append-le, length-drop, get_or_append_left}, lemmas.List.Sums.{sum_by-cons}, lemmas.Bool.{cases_lt}}
 use Rattle.std.proofs.Math.Seq.{drop-append_seam, get_or-append_seam, take-length}
 use Rattle.mdp_math.specs.Rational.{ℚ}
-use Rattle.mdp_spec.specs.Mdp.{Entry}
-use Rattle.mdp_spec.specs.Row.{entries}
+use Rattle.mdp_spec.specs.{Mdp.{Entry}, Row.{entries}}
 use Rattle.mdp_rows.specs.Pieces.{piece, pieces, ArePlaces}
 use Rattle.mdp_rows.proofs.Flat.Pieces.{piece_len}
 

@@ -1,20 +1,11 @@
 -- Entries whose values aren't 0.
 use Rattle.std.proofs.Common.{◌≡◌, ℕ, suc, ◌+◌, ◌≤◌, ◌<◌, Bool, true, false, cond, not, List, [], ◌∷◌, ◌++◌, map, take, length, get_or, add-one, refl, sym, ap, ◌∙◌}
-use Rattle.std.proofs.Common.{arith, ℤ, pos, unsigned_abs, append_assoc, append-nil, eqb}
-use Rattle.std.specs.Global.{Vec}
-use Rattle.std.proofs.lemmas.List.{map-append}
-use Rattle.std.proofs.lemmas.Int.{ints}
-use Rattle.std.proofs.lemmas.Bool.{ne_eqb}
-use Rattle.std.proofs.Math.Seq.{take-suc}
-use Rattle.std.specs.Vec.{vec_capacity, vec_len}
-use Rattle.std.specs.List.{filter}
-use Rattle.std.proofs.lemmas.List.Elements.{filter-append}
+use Rattle.std.proofs.{Common.{arith, ℤ, pos, unsigned_abs, append_assoc, append-nil, eqb}, lemmas.List.{map-append}, lemmas.Int.{ints}, lemmas.Bool.{ne_eqb}}
+use Rattle.std.proofs.{Math.Seq.{take-suc}, lemmas.List.Elements.{filter-append}}
+use Rattle.std.specs.{Global.{Vec}, Vec.{vec_capacity, vec_len}, List.{filter}}
 use Rattle.mdp_math.specs.Rational.{ℚ}
-use Rattle.mdp_spec.specs.Mdp.{Entry}
-use Rattle.mdp_spec.specs.Row.{entries}
-use Rattle.mdp_rows.specs.Draft.{is_zero, kept}
-use Rattle.mdp_rows.specs.Given.{row_of, kept_given, entry_of}
-use Rattle.mdp_rows.specs.declared.given.Given.{Given}
+use Rattle.mdp_spec.specs.{Mdp.{Entry}, Row.{entries}}
+use Rattle.mdp_rows.specs.{Draft.{is_zero, kept}, Given.{row_of, kept_given, entry_of}, declared.given.Given.{Given}}
 
 -- both vectors have what is kept of the first i entries, and room for the others
 pub record IsAppended (row : List Given) (i : ℕ) (ts : List ℕ) (ps : List ℚ) (to : Vec ℕ) (po : Vec ℚ) : Type 0 where

@@ -1,11 +1,7 @@
 -- What the flat vectors say of the labels.
 use Rattle.std.proofs.Common.{◌≡◌, ◌-◌, length, sym, ap, ◌∙◌}
-use Rattle.mdp_rows.specs.FlatLabels.{labels_in}
-use Rattle.mdp_rows.specs.Labelling.{Labelling}
-use Rattle.mdp_rows.specs.Pieces.{pieces}
+use Rattle.mdp_rows.specs.{FlatLabels.{labels_in, names_of}, Labelling.{Labelling}, Pieces.{pieces}, declared.labels.Labels.TheInside.{Inside}}
 use Rattle.mdp_rows.proofs.Flat.Pieces.{length-pieces}
-use Rattle.mdp_rows.specs.FlatLabels.{names_of}
-use Rattle.mdp_rows.specs.declared.labels.Labels.TheInside.{Inside}
 
 pub of_state_is : (a : Inside) (v : Labelling) → labels_in a ≡ v → pieces a.places.items a.starts.items ≡ v.of_state
 unfolding labels_in

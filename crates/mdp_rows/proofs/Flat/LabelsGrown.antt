@@ -1,10 +1,7 @@
 -- Labels of one state more.
 use Rattle.std.proofs.Common.{◌≡◌, ◌≤◌, map, sym, ℕ, ◌+◌, ◌-◌, ◌<◌, ◌^◌, List, [], ◌∷◌, ◌++◌, length, sum_by, refl, ap, ap₂, ◌∙◌, arith, length-append}
 use Rattle.std.specs.Global.{Vec}
-use Rattle.mdp_rows.specs.FlatLabels.{labels_in, names_of, AreLabels}
-use Rattle.mdp_rows.specs.Labelling.{Labelling}
-use Rattle.mdp_rows.specs.Pieces.{pieces}
-use Rattle.mdp_rows.specs.declared.labels.Labels.TheInside.{Inside}
+use Rattle.mdp_rows.specs.{FlatLabels.{labels_in, names_of, AreLabels}, Labelling.{Labelling}, Pieces.{pieces}, declared.labels.Labels.TheInside.{Inside}}
 use Rattle.mdp_rows.proofs.Flat.Growth.{pieces-more, pieces-sum, places-more}
 
 same_labelling : (x y : Labelling) → x.names ≡ y.names → x.of_state ≡ y.of_state → x ≡ y

@@ -1,17 +1,11 @@
 -- What the flat vectors say of the model.
 use Rattle.std.proofs.Common.{◌≡◌, ℕ, zero, suc, ◌+◌, ◌-◌, ◌<◌, List, [], ◌∷◌, ◌++◌, length, drop, get_or, sum_by, refl, sym, ap, subst, ◌∙◌, arith}
+use Rattle.std.proofs.{lemmas.List.{get_or-take, get_or-drop, get_or_default}, lemmas.List.Sums.{sum_by-cons}}
 use Rattle.std.specs.List.{All}
-use Rattle.std.proofs.lemmas.List.{get_or-take, get_or-drop, get_or_default}
 use Rattle.mdp_math.specs.Rational.{ℚ}
-use Rattle.mdp_spec.specs.Mdp.{Choice, State, Mdp, no_choice, no_state, states_of, state_at, choices_at}
-use Rattle.mdp_spec.specs.Row.{entries, IsDistribution, IsMdp}
-use Rattle.mdp_rows.specs.ChoiceTable.{IsChoice}
-use Rattle.mdp_rows.specs.Pieces.{piece, pieces}
-use Rattle.mdp_rows.specs.FlatModel.{mdp_in, IsFlat, states_from}
-use Rattle.std.proofs.lemmas.List.Sums.{sum_by-cons}
-use Rattle.mdp_rows.proofs.Flat.Growth.{pieces-sum}
-use Rattle.mdp_rows.proofs.Flat.Pieces.{AreNext, next_places, piece_is, length-pieces, piece_len}
-use Rattle.mdp_rows.specs.declared.model.Model.TheInside.{Inside}
+use Rattle.mdp_spec.specs.{Mdp.{Choice, State, Mdp, no_choice, no_state, states_of, state_at, choices_at}, Row.{entries, IsDistribution, IsMdp}}
+use Rattle.mdp_rows.specs.{ChoiceTable.{IsChoice}, Pieces.{piece, pieces}, FlatModel.{mdp_in, IsFlat, states_from}, declared.model.Model.TheInside.{Inside}}
+use Rattle.mdp_rows.proofs.{Flat.Growth.{pieces-sum}, Flat.Pieces.{AreNext, next_places, piece_is, length-pieces, piece_len}}
 
 pub length-states_from : (rows : List (List Choice)) (labels : List (List ℕ)) → length rows ≡ length labels → length (states_from rows labels) ≡ length rows
 length-states_from [] labels e = refl

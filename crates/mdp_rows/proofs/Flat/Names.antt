@@ -1,12 +1,9 @@
 -- Looking up by the bytes of a key is looking up in the list of names.
 use Rattle.std.proofs.Common.{◌≡◌, ℕ, ◌+◌, ◌<◌, Bool, true, false, cond, not, ◌||◌, ltb, lt-ltb, le-ltb, get_or, arith, List, [], ◌∷◌, ◌++◌, length, map, Some, None, refl, sym, ap, ◌∙◌}
+use Rattle.std.proofs.{lemmas.List.{length-map, map_push}, lemmas.List.Sums.{position_or_len_is}}
 use borrow.Author.Tests.{ltb-true, ltb-false}
-use Rattle.std.specs.List.{list_any, position_or_len, position}
-use Rattle.std.specs.Str.{bytes_eq}
-use Rattle.std.specs.Global.{Vec}
+use Rattle.std.specs.{List.{list_any, position_or_len, position}, Str.{bytes_eq}, Global.{Vec}}
 use Rattle.mdp_rows.specs.Draft.{with_name}
-use Rattle.std.proofs.lemmas.List.{length-map, map_push}
-use Rattle.std.proofs.lemmas.List.Sums.{position_or_len_is}
 use Rattle.mdp_rows.proofs.SoundCalls.Names.{some_passes, none_passes, known_name, new_name}
 
 module _ {X Y : Type 0} (p : Y → Bool) (f : X → Y) where

@@ -1,12 +1,9 @@
 -- What the flat vectors say of the rows.
 use Rattle.std.proofs.Common.{◌≡◌, ℕ, ◌+◌, ◌-◌, ◌<◌, List, [], length, get_or, sym, ap, subst, ◌∙◌, arith}
 use Rattle.mdp_math.specs.Rational.{ℚ}
-use Rattle.mdp_spec.specs.Mdp.{Entry}
-use Rattle.mdp_spec.specs.Row.{entries, IsDistribution}
-use Rattle.mdp_rows.specs.Pieces.{piece}
-use Rattle.mdp_rows.specs.FlatRows.{rows_in, all_entries, AreRows}
+use Rattle.mdp_spec.specs.{Mdp.{Entry}, Row.{entries, IsDistribution}}
+use Rattle.mdp_rows.specs.{Pieces.{piece}, FlatRows.{rows_in, all_entries, AreRows}, declared.rows.Rows.TheInside.{Inside}}
 use Rattle.mdp_rows.proofs.Flat.Pieces.{AreNext, next_places, piece_is, piece_len, length-pieces, entries-piece}
-use Rattle.mdp_rows.specs.declared.rows.Rows.TheInside.{Inside}
 
 pub rows_len : (r : Inside) (v : List (List Entry)) → rows_in r ≡ v → length v ≡ length r.starts.items - 1
 unfolding rows_in

@@ -1,19 +1,11 @@
 -- Rows with one more.
 use Rattle.std.proofs.Common.{◌≡◌, ℕ, zero, suc, ◌+◌, ◌-◌, ◌<◌, ◌^◌, List, [], ◌∷◌, ◌++◌, length, map, sum_by, refl, sym, ap, ap₂, subst, ◌∙◌, arith, length-append}
-use Rattle.std.specs.List.{All}
-use Rattle.std.specs.Prelude.{Result, Ok, Err, OnErr}
-use Rattle.std.proofs.lemmas.List.{length-map}
-use Rattle.std.proofs.lemmas.List.Elements.{All-append, All-nil}
-use Rattle.mdp_spec.specs.Mdp.{Entry}
-use Rattle.mdp_spec.specs.Row.{entries, IsDistribution}
-use Rattle.mdp_rows.specs.Draft.{kept}
-use Rattle.mdp_rows.specs.Given.{row_of, kept_given}
-use Rattle.mdp_rows.specs.Pieces.{pieces, ArePlaces}
-use Rattle.mdp_rows.specs.FlatRows.{rows_in, all_entries, AreRows}
-use Rattle.mdp_rows.specs.declared.given.Given.{Given}
-use Rattle.mdp_rows.specs.declared.rows.Rows.TheInside.{Inside}
-use Rattle.mdp_rows.proofs.Flat.Growth.{one_place, pieces-more, pieces-sum, places-more, entries-append}
-use Rattle.mdp_rows.proofs.Flat.Kept.{kept_row, entries_of, kept-le}
+use Rattle.std.proofs.{lemmas.List.{length-map}, lemmas.List.Elements.{All-append, All-nil}}
+use Rattle.std.specs.{List.{All}, Prelude.{Result, Ok, Err, OnErr}}
+use Rattle.mdp_spec.specs.{Mdp.{Entry}, Row.{entries, IsDistribution}}
+use Rattle.mdp_rows.specs.{Draft.{kept}, Given.{row_of, kept_given}, Pieces.{pieces, ArePlaces}, FlatRows.{rows_in, all_entries, AreRows}}
+use Rattle.mdp_rows.specs.{declared.given.Given.{Given}, declared.rows.Rows.TheInside.{Inside}}
+use Rattle.mdp_rows.proofs.{Flat.Growth.{one_place, pieces-more, pieces-sum, places-more, entries-append}, Flat.Kept.{kept_row, entries_of, kept-le}}
 use Rattle.mdp_rows.proofs.Flat.Pieces.{length-entries}
 
 -- the same contents

@@ -1,11 +1,7 @@
 -- The rows of a policy are rows of the model.
-use Rattle.std.proofs.Common.{◌≡◌, ℕ, ◌<◌, List, [], length, map, subst, zero-add}
-use Rattle.std.specs.Prelude.{slice_index, slice_index_or}
-use Rattle.std.specs.List.{range_with_len}
-use Rattle.std.proofs.lemmas.List.FromFn.{length-map-range_with_len, get_or-map-range_with_len}
-use Rattle.mdp_spec.specs.Mdp.{Entry, Mdp, states_of, choices_at, row_at}
-use Rattle.mdp_spec.specs.Row.{IsMdp, IsRow, AreRows}
-use Rattle.mdp_spec.specs.Tree.{IsPolicy}
+use Rattle.std.proofs.{Common.{◌≡◌, ℕ, ◌<◌, List, [], length, map, subst, zero-add}, lemmas.List.FromFn.{length-map-range_with_len, get_or-map-range_with_len}}
+use Rattle.std.specs.{Prelude.{slice_index, slice_index_or}, List.{range_with_len}}
+use Rattle.mdp_spec.specs.{Mdp.{Entry, Mdp, states_of, choices_at, row_at}, Row.{IsMdp, IsRow, AreRows}, Tree.{IsPolicy}}
 
 pub rows_known : (m : Mdp) (policy : ℕ → ℕ) → IsMdp m → ((s : ℕ) → s < states_of m → policy s < length (choices_at m s)) → AreRows (map (λ s. row_at m s (policy s)) (range_with_len 0 (states_of m)))
 rows_known m policy ok choice = λ s d h.

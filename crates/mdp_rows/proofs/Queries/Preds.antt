@@ -1,22 +1,15 @@
 -- What stands in the lists of predecessors while they are filled.
 use Rattle.std.proofs.Common.{◌≡◌, ◌≢◌, ℕ, zero, suc, ◌+◌, ◌<◌, ◌≤◌, Bool, true, false, ◌||◌, ◌==◌, IsTrue, cond, List, [], ◌∷◌, ◌++◌, length, map, take, get_or, set}
-use Rattle.std.proofs.Common.{replicate, refl, sym, ap, ◌∙◌, arith}
-use Rattle.std.specs.List.{range_with_len}
-use Rattle.std.proofs.Common.{inl, inr, ◌⊎◌, append_assoc, leb, eq-eqb}
-use Rattle.std.proofs.lemmas.List.{append-nil, take_more, length-set, get_or-set_other, get_or-replicate, length-replicate}
-use Rattle.std.proofs.lemmas.Grind.{get_or-set_at}
-use Rattle.std.proofs.lemmas.Bool.{ne_eqb, cases_lt}
-use Rattle.std.proofs.lemmas.List.Folds.{list_any-append}
-use Rattle.std.proofs.lemmas.List.Elements.{filter-append}
+use Rattle.std.proofs.Common.{replicate, refl, sym, ap, ◌∙◌, arith, inl, inr, ◌⊎◌, append_assoc, leb, eq-eqb}
+use Rattle.std.proofs.{lemmas.List.{append-nil, take_more, length-set, get_or-set_other, get_or-replicate, length-replicate}, lemmas.Grind.{get_or-set_at}}
+use Rattle.std.proofs.{lemmas.Bool.{ne_eqb, cases_lt}, lemmas.List.Folds.{list_any-append}, lemmas.List.Elements.{filter-append}}
 use Rattle.std.proofs.lemmas.List.FromFn.{fill_by_all}
+use Rattle.std.specs.List.{range_with_len}
 use borrow.Author.Tests.{leb-true}
-use Rattle.mdp_math.proofs.Booleans.{and-left, and-right}
-use Rattle.mdp_math.proofs.Lists.{flat_more, map_more}
+use Rattle.mdp_math.proofs.{Booleans.{and-left, and-right}, Lists.{flat_more, map_more}}
 use Rattle.mdp_math.specs.Rational.{ℚ}
-use Rattle.mdp_spec.specs.Mdp.{Mdp, states_of, row_at}
-use Rattle.mdp_spec.specs.Row.{entries, ascends_from}
-use Rattle.mdp_rows.specs.Preds.{is_among, leads_to, pair, first_choices, choices_of, choices_below, leading, preds_to}
-use Rattle.mdp_rows.specs.declared.preds.Pred.{Pred}
+use Rattle.mdp_spec.specs.{Mdp.{Mdp, states_of, row_at}, Row.{entries, ascends_from}}
+use Rattle.mdp_rows.specs.{Preds.{is_among, leads_to, pair, first_choices, choices_of, choices_below, leading, preds_to}, declared.preds.Pred.{Pred}}
 
 -- pred was appended to the list of each of these targets
 pub record IsPushed (old new : List (List Pred)) (targets : List ℕ) (pred : Pred) : Type 0 where

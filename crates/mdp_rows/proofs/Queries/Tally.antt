@@ -1,12 +1,9 @@
 -- The first element of a list, and whether there are more.
 use Rattle.std.proofs.Common.{◌≡◌, ℕ, ◌+◌, Bool, true, false, cond, List, [], ◌∷◌, ◌++◌, Option, Some, None, refl, sym, ap, ap₂, ◌∙◌, append-nil}
-use Rattle.std.specs.List.{filter, range_with_len}
 use Rattle.std.proofs.lemmas.List.Elements.{filter-append}
-use Rattle.std.specs.Option.{is_some}
-use Rattle.std.specs.Prelude.{codes}
-use Rattle.mdp_spec.specs.Mdp.{Mdp, states_of, has_label}
+use Rattle.std.specs.{List.{filter, range_with_len}, Option.{is_some}, Prelude.{codes}}
+use Rattle.mdp_spec.specs.{Mdp.{Mdp, states_of, has_label}, Labels.{only, place_of, initial_of}}
 use Rattle.mdp_math.proofs.Lists.{range_more}
-use Rattle.mdp_spec.specs.Labels.{only, place_of, initial_of}
 
 abbrev pub first_of : List ℕ → Option ℕ
 first_of [] = None

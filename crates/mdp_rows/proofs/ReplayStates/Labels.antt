@@ -1,24 +1,17 @@
 -- The labels of a state, given in the order of their places, make these places, and the names so far are the first of the model's.
 use Rattle.std.proofs.Common.{◌≡◌, ℕ, zero, suc, ◌+◌, ◌≤◌, ◌<◌, Bool, true, false, not, ◌||◌, IsTrue, leb, ltb, le-ltb, eqb, List, [], ◌∷◌, ◌++◌, length, take, get_or}
 use Rattle.std.proofs.Common.{Some, refl, sym, ap, ap₂, ◌∙◌, subst, arith, if◌then◌else◌, append_assoc, append-nil, inl, inr}
-use Rattle.std.specs.Prelude.{Result, Ok, Err}
-use Rattle.std.specs.List.{AllByRecursion, list_any, position_or_len}
-use Rattle.std.specs.Str.{bytes_eq}
 use Rattle.std.proofs.lemmas.Bool.{ne_eqb, eq-eqb, eqb-true, lt-leb, cases_lt, not-true, or_from, or_parts}
-use Rattle.std.proofs.lemmas.List.{get_or-take, length-take, length-take-le, take_more}
-use Rattle.std.proofs.lemmas.List.Sums.{position_or_len_is}
+use Rattle.std.proofs.{lemmas.List.{get_or-take, length-take, length-take-le, take_more}, lemmas.List.Sums.{position_or_len_is}}
 use Rattle.std.proofs.lemmas.Slice.Eq.{bytes_eq-Decides}
+use Rattle.std.specs.{Prelude.{Result, Ok, Err}, List.{AllByRecursion, list_any, position_or_len}, Str.{bytes_eq}}
 use Rattle.mdp_math.proofs.Booleans.{and-left, and-right}
 use Rattle.mdp_spec.specs.Mdp.{State}
-use Rattle.mdp_rows.specs.Name.{are_different}
-use Rattle.mdp_rows.specs.Limits.{places_ascend, known_after, all_below}
-use Rattle.mdp_rows.specs.Draft.{Draft, OpenState, with_name, with_place, after_label, ◌>>=◌}
-use Rattle.mdp_rows.specs.Replay.{with_labels}
-use Rattle.mdp_rows.specs.declared.error.RowsError.{RowsError}
+use Rattle.mdp_rows.specs.{Name.{are_different}, Limits.{places_ascend, known_after, all_below}}
+use Rattle.mdp_rows.specs.{Draft.{Draft, OpenState, with_name, with_place, after_label, ◌>>=◌}, Replay.{with_labels}, declared.error.RowsError.{RowsError}}
 use Rattle.mdp_rows.specs.declared.error.RowsError.TheVariants.{TooMany}
 use Rattle.mdp_rows.proofs.SoundCalls.Labels.{ascend_head, ascend_tail, below_head, below_tail, known_above, known_skip}
-use Rattle.mdp_rows.proofs.SoundCalls.Names.{some_passes, none_passes, known_name, new_name, other_way}
-use Rattle.mdp_rows.proofs.ReplayStates.Rows.{draft_of}
+use Rattle.mdp_rows.proofs.{SoundCalls.Names.{some_passes, none_passes, known_name, new_name, other_way}, ReplayStates.Rows.{draft_of}}
 
 -- ---- different names at different places
 

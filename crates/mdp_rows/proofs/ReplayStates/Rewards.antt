@@ -1,22 +1,12 @@
 -- The rewards of a state whose own are 0 are those of its choices.
 use Rattle.std.proofs.Common.{◌≡◌, ℕ, ◌*◌, ◌/◌, ◌<◌, ◌^◌, Bool, true, leb, le-leb, List, [], ◌∷◌}
-use Rattle.std.proofs.Common.{length, Some, ℤ, pos, ◌+ℤ◌, ◌*ℤ◌, unsigned_abs, refl, ap, ◌∙◌, arith, if◌then◌else◌}
-use Rattle.std.proofs.lemmas.Int.{ints}
-use Rattle.std.proofs.lemmas.Bool.{and_from}
-use Rattle.std.specs.Prelude.{Result, Ok, Err}
-use Rattle.std.specs.List.{AllByRecursion}
-use Rattle.mdp_math.specs.Gcd.{gcd, gcd_comm, gcd-one_right}
-use Rattle.mdp_math.specs.Rational.{ℚ, ◌+ℚ◌}
-use Rattle.mdp_math.specs.Written.{narrow, narrow_ℚ, across, common_den, written_add}
-use Rattle.mdp_math.proofs.Laws.{num-of_int, den-of_int, zero-+ℚ}
-use Rattle.mdp_math.proofs.Written.{narrow-kept, narrow_ℚ-kept}
-use Rattle.mdp_math.proofs.Order.{0ℚ}
+use Rattle.std.proofs.{Common.{length, Some, ℤ, pos, ◌+ℤ◌, ◌*ℤ◌, unsigned_abs, refl, ap, ◌∙◌, arith, if◌then◌else◌}, lemmas.Int.{ints}, lemmas.Bool.{and_from}}
+use Rattle.std.specs.{Prelude.{Result, Ok, Err}, List.{AllByRecursion}}
+use Rattle.mdp_math.specs.{Gcd.{gcd, gcd_comm, gcd-one_right}, Rational.{ℚ, ◌+ℚ◌}, Written.{narrow, narrow_ℚ, across, common_den, written_add}}
+use Rattle.mdp_math.proofs.{Laws.{num-of_int, den-of_int, zero-+ℚ}, Written.{narrow-kept, narrow_ℚ-kept}, Order.{0ℚ}}
 use Rattle.mdp_num.specs.Numeral.{limit}
-use Rattle.mdp_rows.specs.Limits.{HasSmallTerms}
-use Rattle.mdp_rows.specs.Draft.{has_small_terms, kept_sum, summed_rewards, ◌>>=◌}
-use Rattle.mdp_rows.specs.Replay.{no_rewards}
-use Rattle.mdp_rows.specs.declared.error.RowsError.{RowsError}
-use Rattle.mdp_rows.specs.declared.error.RowsError.TheVariants.{Large}
+use Rattle.mdp_rows.specs.{Limits.{HasSmallTerms}, Draft.{has_small_terms, kept_sum, summed_rewards, ◌>>=◌}, Replay.{no_rewards}}
+use Rattle.mdp_rows.specs.{declared.error.RowsError.{RowsError}, declared.error.RowsError.TheVariants.{Large}}
 
 gcd-one_left : (a : ℕ) → gcd 1 a ≡ 1
 gcd-one_left a = gcd_comm 1 a ∙ gcd-one_right a

@@ -1,22 +1,15 @@
 -- The entries of a row, given in the order of its targets, make that row; and it closes as it is.
 use Rattle.std.proofs.Common.{◌≡◌, ℕ, ◌+◌, ◌≤◌, ◌<◌, ◌^◌, Bool, true, false, cond, not, IsTrue, leb, le-ltb, List, [], ◌∷◌, ◌++◌, length, Option, Some, None}
-use Rattle.std.proofs.Common.{unsigned_abs, refl, sym, ap, ap₂, ◌∙◌, subst, arith, if◌then◌else◌, append_assoc, append-nil}
-use Rattle.std.proofs.lemmas.Int.{ints}
-use Rattle.std.specs.Prelude.{Result, Ok, Err}
-use Rattle.std.specs.List.{AllByRecursion}
-use Rattle.std.proofs.lemmas.Bool.{ne_eqb, lt-leb}
-use Rattle.std.proofs.lemmas.List.Elements.{recursion_from_All}
+use Rattle.std.proofs.{Common.{unsigned_abs, refl, sym, ap, ap₂, ◌∙◌, subst, arith, if◌then◌else◌, append_assoc, append-nil}, lemmas.Int.{ints}}
+use Rattle.std.proofs.{lemmas.Bool.{ne_eqb, lt-leb}, lemmas.List.Elements.{recursion_from_All}}
+use Rattle.std.specs.{Prelude.{Result, Ok, Err}, List.{AllByRecursion}}
 use Rattle.mdp_math.specs.Rational.{ℚ, of_int, le_ℚ, ◌<ℚ◌}
 use Rattle.mdp_math.proofs.Order.{0ℚ, 1ℚ, positive}
 use Rattle.mdp_num.specs.Numeral.{limit}
-use Rattle.mdp_spec.specs.Mdp.{Entry, State}
-use Rattle.mdp_spec.specs.Row.{ascends_from, IsDistribution}
-use Rattle.mdp_spec.specs.Unit.{row_den}
+use Rattle.mdp_spec.specs.{Mdp.{Entry, State}, Row.{ascends_from, IsDistribution}, Unit.{row_den}}
 use Rattle.mdp_rows.specs.Draft.{Draft, OpenState, is_one, is_zero, kept, ruled_row, closed_row, has_target, with_entry, after_entry, ◌>>=◌}
-use Rattle.mdp_rows.specs.Replay.{with_entries}
-use Rattle.mdp_rows.specs.declared.error.RowsError.{RowsError}
-use Rattle.mdp_rows.specs.declared.error.RowsError.TheVariants.{RowSum, RowWide, Target, Twice, TooMany}
-use Rattle.mdp_rows.specs.declared.rule.RowRule.TheVariants.{Exact}
+use Rattle.mdp_rows.specs.{Replay.{with_entries}, declared.error.RowsError.{RowsError}}
+use Rattle.mdp_rows.specs.{declared.error.RowsError.TheVariants.{RowSum, RowWide, Target, Twice, TooMany}, declared.rule.RowRule.TheVariants.{Exact}}
 use Rattle.mdp_rows.proofs.Assembled.InOrder.{all_before, not_there, goes_last}
 
 -- a draft that has refused nothing

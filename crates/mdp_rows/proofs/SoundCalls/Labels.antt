@@ -1,12 +1,10 @@
 -- The places of labels, in order of first sight, when a state is given one more.
 use Rattle.std.proofs.Common.{◌≡◌, ℕ, ◌+◌, ◌≤◌, ◌<◌, Bool, true, false, IsTrue, ltb, lt-ltb, eqb, eqb→eq, eq-eqb, T, List, [], ◌∷◌, ◌++◌, length, refl, sym, ap, subst}
-use Rattle.std.proofs.Common.{◌∙◌, arith, if◌then◌else◌, inl, inr}
-use Rattle.std.proofs.lemmas.Bool.{ne_eqb, cases_eq}
+use Rattle.std.proofs.{Common.{◌∙◌, arith, if◌then◌else◌, inl, inr}, lemmas.Bool.{ne_eqb, cases_eq}}
 use borrow.Author.Tests.{ltb-true, ltb-false, eqb-false}
 use Rattle.mdp_math.proofs.Booleans.{and-both, and-left, and-right}
 use Rattle.mdp_spec.specs.Mdp.{State}
-use Rattle.mdp_rows.specs.Draft.{with_place}
-use Rattle.mdp_rows.specs.Limits.{places_ascend, known_after, all_below, in_order_of_sight}
+use Rattle.mdp_rows.specs.{Draft.{with_place}, Limits.{places_ascend, known_after, all_below, in_order_of_sight}}
 
 eqb-is : (a b : ℕ) → IsTrue (eqb a b) → a ≡ b
 eqb-is a b e = eqb→eq a b (subst T (sym e) tt)

@@ -1,15 +1,11 @@
 -- The names of labels when one more is given, and its place.
 use Rattle.std.proofs.Common.{◌≡◌, ℕ, suc, ◌+◌, ◌≤◌, ◌<◌, Bool, true, false, cond, not, ◌||◌, IsTrue}
-use Rattle.std.proofs.Common.{List, [], ◌∷◌, ◌++◌, length, refl, sym, ap, ap₂, ◌∙◌, arith, if◌then◌else◌, length-append}
-use Rattle.std.specs.List.{All, list_any, position_or_len}
-use Rattle.std.specs.Str.{bytes_eq}
-use Rattle.std.proofs.lemmas.Slice.Eq.{bytes_eq-Decides}
-use Rattle.std.proofs.lemmas.List.Elements.{All-push}
-use Rattle.std.proofs.lemmas.List.Folds.{list_any-append}
+use Rattle.std.proofs.{Common.{List, [], ◌∷◌, ◌++◌, length, refl, sym, ap, ap₂, ◌∙◌, arith, if◌then◌else◌, length-append}, lemmas.Slice.Eq.{bytes_eq-Decides}}
+use Rattle.std.proofs.{lemmas.List.Elements.{All-push}, lemmas.List.Folds.{list_any-append}}
 use Rattle.std.proofs.lemmas.Bool.{false_from_ne_true, or_parts, not-true, not_from_false}
+use Rattle.std.specs.{List.{All, list_any, position_or_len}, Str.{bytes_eq}}
 use Rattle.mdp_math.proofs.Booleans.{and-both, and-left, and-right}
-use Rattle.mdp_rows.specs.Draft.{with_name}
-use Rattle.mdp_rows.specs.Name.{IsName, are_different}
+use Rattle.mdp_rows.specs.{Draft.{with_name}, Name.{IsName, are_different}}
 
 -- ---- whether a name is there
 

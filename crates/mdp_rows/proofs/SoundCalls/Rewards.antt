@@ -1,16 +1,12 @@
 -- The rewards of a state and of a choice together.
 use Rattle.std.proofs.Common.{◌≡◌, ℕ, true, leb, List, [], ◌∷◌, length, Option, Some, None, unsigned_abs, refl, subst, arith}
-use Rattle.std.specs.Prelude.{Ok}
-use Rattle.std.specs.List.{All, AllByRecursion}
 use Rattle.std.proofs.lemmas.List.Elements.{All-from_recursion}
+use Rattle.std.specs.{Prelude.{Ok}, List.{All, AllByRecursion}}
 use borrow.Author.Tests.{leb-true}
 use Rattle.mdp_math.proofs.Booleans.{and-left, and-right}
-use Rattle.mdp_math.specs.Rational.{ℚ}
-use Rattle.mdp_math.specs.Written.{written_add}
+use Rattle.mdp_math.specs.{Rational.{ℚ}, Written.{written_add}}
 use Rattle.mdp_num.specs.Numeral.{limit}
-use Rattle.mdp_rows.specs.Limits.{HasSmallTerms}
-use Rattle.mdp_rows.specs.Draft.{has_small_terms, kept_sum, summed_rewards, ◌>>=◌}
-use Rattle.mdp_rows.specs.declared.error.RowsError.TheVariants.{Large}
+use Rattle.mdp_rows.specs.{Limits.{HasSmallTerms}, Draft.{has_small_terms, kept_sum, summed_rewards, ◌>>=◌}, declared.error.RowsError.TheVariants.{Large}}
 use Rattle.mdp_rows.proofs.Calls.Steps.{done, ok_same, then_ok, if_ok}
 
 pub small_by : (x : ℚ) → has_small_terms x ≡ true → HasSmallTerms x

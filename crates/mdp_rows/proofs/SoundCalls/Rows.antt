@@ -1,32 +1,19 @@
 -- What a row of values that are given closes as: a distribution over the states.
 use Rattle.std.proofs.Common.{◌≡◌, ℕ, ◌+◌, ◌*◌, ◌/◌, ◌≤◌, ◌<◌, Bool, true, false, cond, not, IsTrue, leb, le-leb, ltb, eqb→eq, T, List, [], ◌∷◌, length, map, pos}
-use Rattle.std.proofs.Common.{unsigned_abs, refl, sym, ap, subst, ◌∙◌, arith}
-use Rattle.std.proofs.lemmas.Int.{ints}
-use Rattle.std.specs.Prelude.{Ok}
-use Rattle.std.specs.List.{All, AllByRecursion}
+use Rattle.std.proofs.{Common.{unsigned_abs, refl, sym, ap, subst, ◌∙◌, arith}, lemmas.Int.{ints}}
 use Rattle.std.proofs.lemmas.List.Elements.{All-from_recursion, recursion_from_All, All-filter}
+use Rattle.std.specs.{Prelude.{Ok}, List.{All, AllByRecursion}}
 use borrow.Author.Tests.{leb-true, ltb-false, eqb-false}
-use Rattle.mdp_math.proofs.Booleans.{and-parts}
-use Rattle.mdp_math.proofs.Booleans.{and-both, and-left, and-right}
-use Rattle.mdp_math.specs.Gcd.{gcd-one_right}
-use Rattle.mdp_math.specs.Rational.{ℚ, ratio, inv_ℚ, le_ℚ, ◌+ℚ◌, ◌*ℚ◌, ◌<ℚ◌, ◌≤ℚ◌}
-use Rattle.mdp_math.proofs.Laws.{is_self, is_of_int, zero-+ℚ, den-of_int}
-use Rattle.mdp_math.proofs.Order.{0ℚ, 1ℚ, nonneg, is_positive, ≤ℚ_antisymm, ≤ℚ_of_lt, <ℚ-≤ℚ_trans, is_nonneg, le_of_is, mul-nonneg}
-use Rattle.mdp_math.proofs.Whole.{ratio-pos}
-use Rattle.mdp_math.proofs.Division.{mul-inv_pos, inv-pos}
-use Rattle.mdp_math.proofs.Extremes.{le_of_test}
-use Rattle.mdp_math.proofs.Sums.{sum_of-map, sum_of-scale_right}
+use Rattle.mdp_math.proofs.{Booleans.{and-parts, and-both, and-left, and-right}, Laws.{is_self, is_of_int, zero-+ℚ, den-of_int}}
+use Rattle.mdp_math.proofs.{Order.{0ℚ, 1ℚ, nonneg, is_positive, ≤ℚ_antisymm, ≤ℚ_of_lt, <ℚ-≤ℚ_trans, is_nonneg, le_of_is, mul-nonneg}, Whole.{ratio-pos}}
+use Rattle.mdp_math.proofs.{Division.{mul-inv_pos, inv-pos}, Extremes.{le_of_test}, Sums.{sum_of-map, sum_of-scale_right}}
+use Rattle.mdp_math.specs.{Gcd.{gcd-one_right}, Rational.{ℚ, ratio, inv_ℚ, le_ℚ, ◌+ℚ◌, ◌*ℚ◌, ◌<ℚ◌, ◌≤ℚ◌}}
 use Rattle.mdp_num.specs.Numeral.{limit}
-use Rattle.mdp_spec.specs.Mdp.{Entry}
-use Rattle.mdp_spec.specs.Row.{ascends_from, IsRow}
-use Rattle.mdp_spec.specs.Unit.{lcm, row_den}
+use Rattle.mdp_spec.specs.{Mdp.{Entry}, Row.{ascends_from, IsRow}, Unit.{lcm, row_den}}
 use Rattle.mdp_rows.specs.Draft.{kept, is_zero, is_one, is_near_one, row_total, scaled_row, within_limit, ruled_row, closed_row, ◌>>=◌}
-use Rattle.mdp_rows.specs.declared.error.RowsError.TheVariants.{RowSum, RowWide}
-use Rattle.mdp_rows.specs.declared.rule.RowRule.{RowRule}
+use Rattle.mdp_rows.specs.{declared.error.RowsError.TheVariants.{RowSum, RowWide}, declared.rule.RowRule.{RowRule}}
 use Rattle.mdp_rows.specs.declared.rule.RowRule.TheVariants.{Exact, Scaled}
-use Rattle.mdp_rows.proofs.Flat.Kept.{filter_le}
-use Rattle.mdp_rows.proofs.Calls.Steps.{done, ok_same, then_ok, else_ok, if_ok}
-use Rattle.mdp_rows.proofs.ClosedRows.Parts.{one_by}
+use Rattle.mdp_rows.proofs.{Flat.Kept.{filter_le}, Calls.Steps.{done, ok_same, then_ok, else_ok, if_ok}, ClosedRows.Parts.{one_by}}
 
 -- each value times q
 abbrev pub divided : ℚ → List Entry → List Entry

@@ -1,6 +1,4 @@
-use Rattle.mdp_bounds.proofs.ReachRules.{reach_bounds_never_no}
-use Rattle.mdp_bounds.proofs.RewardRules.{reward_bounds_never_no}
-use Rattle.mdp_bounds.proofs.MeanRules.{mean_bounds_never_no}
+use Rattle.mdp_bounds.proofs.{ReachRules.{reach_bounds_never_no}, RewardRules.{reward_bounds_never_no}, MeanRules.{mean_bounds_never_no}}
 use Rattle.mdp_bounds.proofs.laws.never_no_law.Goals as goal
 
 pub returns-clause-reach : goal.returns-clause-reach

@@ -1,6 +1,4 @@
-use Rattle.mdp_bounds.proofs.ReachTelling.{reach_refuted}
-use Rattle.mdp_bounds.proofs.RewardTelling.{reward_refuted}
-use Rattle.mdp_bounds.proofs.MeanTelling.{mean_refuted}
+use Rattle.mdp_bounds.proofs.{ReachTelling.{reach_refuted}, RewardTelling.{reward_refuted}, MeanTelling.{mean_refuted}}
 use Rattle.mdp_bounds.proofs.laws.refuted_law.Goals as goal
 
 pub returns-clause-reach : goal.returns-clause-reach

@@ -1,9 +1,7 @@
 use Rattle.std.proofs.Common.{◌≡◌, ap, sym, ◌∙◌}
 use Rattle.mdp_farkas.specs.Verdict.{verdict, verdict_of}
 use Rattle.mdp_bounds.specs.Mean.{mean_bounds_checks}
-use Rattle.mdp_bounds.proofs.MeanRules.{mean_bounds_rules, mean_bounds_max, mean_bounds_min}
-use Rattle.mdp_bounds.proofs.MeanExact.{mean_of_exact}
-use Rattle.mdp_bounds.proofs.MeanTrivial.{trivial_yes}
+use Rattle.mdp_bounds.proofs.{MeanRules.{mean_bounds_rules, mean_bounds_max, mean_bounds_min}, MeanExact.{mean_of_exact}, MeanTrivial.{trivial_yes}}
 use Rattle.mdp_bounds.proofs.mean.holds_bounds_mean.Goals as goal
 
 pub returns : goal.returns

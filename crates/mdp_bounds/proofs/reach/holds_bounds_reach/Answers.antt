@@ -1,9 +1,7 @@
 use Rattle.std.proofs.Common.{◌≡◌, ap, sym, ◌∙◌}
 use Rattle.mdp_bounds.specs.Reach.{bounds_checks}
 use Rattle.mdp_farkas.specs.Verdict.{verdict, verdict_of}
-use Rattle.mdp_bounds.proofs.ReachRules.{bounds_rules, bounds_max, bounds_min}
-use Rattle.mdp_bounds.proofs.Trivial.{trivial_yes}
-use Rattle.mdp_bounds.proofs.Exact.{bounds_of_exact}
+use Rattle.mdp_bounds.proofs.{ReachRules.{bounds_rules, bounds_max, bounds_min}, Trivial.{trivial_yes}, Exact.{bounds_of_exact}}
 use Rattle.mdp_bounds.proofs.reach.holds_bounds_reach.Goals as goal
 
 pub returns : goal.returns

@@ -1,8 +1,7 @@
 use Rattle.std.proofs.Common.{◌≡◌, ap, sym, ◌∙◌}
 use Rattle.mdp_bounds.specs.Reward.{reward_bounds_checks}
 use Rattle.mdp_farkas.specs.Verdict.{verdict, verdict_of}
-use Rattle.mdp_bounds.proofs.RewardRules.{reward_bounds_rules, reward_bounds_max, reward_bounds_min}
-use Rattle.mdp_bounds.proofs.RewardExact.{reward_of_exact}
+use Rattle.mdp_bounds.proofs.{RewardRules.{reward_bounds_rules, reward_bounds_max, reward_bounds_min}, RewardExact.{reward_of_exact}}
 use Rattle.mdp_bounds.proofs.RewardTrivial.{trivial_yes}
 use Rattle.mdp_bounds.proofs.reward.holds_bounds_reward.Goals as goal
 

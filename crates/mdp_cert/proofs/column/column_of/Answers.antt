@@ -1,5 +1,4 @@
-use Rattle.std.proofs.Common.{◌++◌, [], ◌∷◌, get_or, map, sym, ap, ◌∙◌, arith}
-use Rattle.std.proofs.lemmas.List.{map_more, take_all}
+use Rattle.std.proofs.{Common.{◌++◌, [], ◌∷◌, get_or, map, sym, ap, ◌∙◌, arith}, lemmas.List.{map_more, take_all}}
 use Rattle.mdp_cert.proofs.column.column_of.Goals as goal
 
 pub loop-entry-preserved : goal.loop-entry-preserved

@@ -1,7 +1,6 @@
-use Rattle.std.proofs.Common.{◌≡◌, ℕ, ◌+◌, ◌<◌, List, [], ◌∷◌, ◌++◌, length, get_or, take, Option, refl, arith}
-use Rattle.std.specs.List.{filter_map}
-use Rattle.std.proofs.lemmas.List.{take_all, take_more}
+use Rattle.std.proofs.{Common.{◌≡◌, ℕ, ◌+◌, ◌<◌, List, [], ◌∷◌, ◌++◌, length, get_or, take, Option, refl, arith}, lemmas.List.{take_all, take_more}}
 use Rattle.std.proofs.lemmas.List.Elements.{filter_map-append}
+use Rattle.std.specs.List.{filter_map}
 use Rattle.mdp_cert.specs.Witness.{kept_in, mark_in, flow_in}
 use Rattle.mdp_cert.proofs.flow_lines.flow_body.Goals as goal
 

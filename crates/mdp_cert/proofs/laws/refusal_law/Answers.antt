@@ -1,5 +1,4 @@
-use Rattle.mdp_cert.proofs.Parts.{read-or-refused, not-both}
-use Rattle.mdp_cert.proofs.FirstBroken.{first-broken}
+use Rattle.mdp_cert.proofs.{Parts.{read-or-refused, not-both}, FirstBroken.{first-broken}}
 use Rattle.mdp_cert.proofs.laws.refusal_law.Goals as goal
 
 pub returns-clause-covered : goal.returns-clause-covered

@@ -1,5 +1,4 @@
-use Rattle.std.proofs.Common.{suc, ◌+◌, length, None, Some, Ok, ap, sym, ◌∙◌, arith}
-use Rattle.std.proofs.lemmas.Result.{err_from_is_err_and}
+use Rattle.std.proofs.{Common.{suc, ◌+◌, length, None, Some, Ok, ap, sym, ◌∙◌, arith}, lemmas.Result.{err_from_is_err_and}}
 use Rattle.mdp_text.specs.Lines.{place}
 use Rattle.mdp_cert.specs.Reading.{listed_from}
 use Rattle.mdp_text.proofs.Feeds.{line-found}

@@ -1,5 +1,4 @@
-use Rattle.std.proofs.Common.{◌∙◌, arith}
-use Rattle.std.proofs.lemmas.List.{get_or_default}
+use Rattle.std.proofs.{Common.{◌∙◌, arith}, lemmas.List.{get_or_default}}
 use Rattle.mdp_cert.proofs.Policies.{inside, entry-at}
 use Rattle.mdp_cert.proofs.policy_lines.entry_in.Goals as goal
 

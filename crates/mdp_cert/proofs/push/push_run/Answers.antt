@@ -2,8 +2,7 @@ use Rattle.std.proofs.Common.{◌≡◌, ℕ, ◌-◌, ◌++◌, Bool, true, fal
 use Rattle.std.specs.Prelude.{codes}
 use Rattle.mdp_text.specs.Spelling.{line, ◌␣◌}
 use Rattle.mdp_text.proofs.Fronts.{keeps_more}
-use Rattle.mdp_cert.specs.Runs.{Columns, run}
-use Rattle.mdp_cert.specs.Spelling.{entry_text, run_text, states_front}
+use Rattle.mdp_cert.specs.{Runs.{Columns, run}, Spelling.{entry_text, run_text, states_front}}
 use Rattle.mdp_cert.proofs.Written.{three-parts}
 use Rattle.mdp_cert.proofs.push.push_run.Goals as goal
 

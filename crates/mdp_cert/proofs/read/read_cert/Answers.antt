@@ -1,6 +1,5 @@
-use Rattle.mdp_cert.specs.Cert.{plain_claim, plain_body}
+use Rattle.mdp_cert.specs.{Cert.{plain_claim, plain_body}, Answer.{plain_head}}
 use Rattle.mdp_text.specs.Lines.{place}
-use Rattle.mdp_cert.specs.Answer.{plain_head}
 use Rattle.mdp_cert.proofs.Parts.{head-found, body-found}
 use Rattle.mdp_cert.proofs.read.read_cert.Goals as goal
 

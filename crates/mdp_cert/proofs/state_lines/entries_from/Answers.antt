@@ -1,5 +1,4 @@
-use Rattle.std.proofs.Common.{◌+◌, ◌-◌, Some, refl, ap, sym, ◌∙◌, arith}
-use Rattle.std.proofs.lemmas.Result.{err_from_is_err_and}
+use Rattle.std.proofs.{Common.{◌+◌, ◌-◌, Some, refl, ap, sym, ◌∙◌, arith}, lemmas.Result.{err_from_is_err_and}}
 use Rattle.mdp_text.specs.Lines.{place}
 use Rattle.mdp_cert.specs.Reading.{runs_from}
 use Rattle.mdp_cert.proofs.Steps.{onto, first-line, next-run, no-line, no-run, last-line}

@@ -1,5 +1,4 @@
-use Rattle.std.proofs.Common.{refl, append_assoc}
-use Rattle.std.proofs.lemmas.List.{replicate-append-replicate}
+use Rattle.std.proofs.{Common.{refl, append_assoc}, lemmas.List.{replicate-append-replicate}}
 use Rattle.mdp_cert.proofs.state_lines.push_times.Goals as goal
 
 pub loop-preserved : goal.loop-preserved

@@ -1,5 +1,4 @@
-use Rattle.std.proofs.Common.{◌≡◌, ◌++◌}
-use Rattle.std.proofs.Math.ListN.{replicate}
+use Rattle.std.proofs.{Common.{◌≡◌, ◌++◌}, Math.ListN.{replicate}}
 use Rattle.mdp_cert.proofs.state_lines.push_times.Given as goal
 
 abbrev pub invariant-loop : goal.invariant-loop

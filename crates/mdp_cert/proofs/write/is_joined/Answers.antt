@@ -1,5 +1,4 @@
-use Rattle.std.proofs.Common.{◌≡◌, ◌+◌, ltb, false, ◌∙◌, sym, arith}
-use Rattle.std.proofs.lemmas.Bool.Decides.{nat_tests}
+use Rattle.std.proofs.{Common.{◌≡◌, ◌+◌, ltb, false, ◌∙◌, sym, arith}, lemmas.Bool.Decides.{nat_tests}}
 use Rattle.mdp_cert.proofs.Runs.{next-same, next-none}
 use Rattle.mdp_cert.proofs.write.is_joined.Goals as goal
 

@@ -1,10 +1,6 @@
 use Rattle.std.proofs.Common.{◌≡◌, ℕ, true, length, List, sym, ap, ◌∙◌, arith}
-use Rattle.mdp_cert.specs.declared.body.Body.{Body}
-use Rattle.mdp_cert.specs.declared.cert.Cert.{Cert}
-use Rattle.mdp_cert.specs.Cert.{plain_claim, plain_body, is_body_of}
-use Rattle.mdp_cert.specs.Claims.{policies}
-use Rattle.mdp_cert.proofs.Growth.{Entries, bounds-entries, policy-entries, reward-entries, gains-entries, lines-of-flow, lines-of-floor}
-use Rattle.mdp_cert.proofs.Means.{back}
+use Rattle.mdp_cert.specs.{declared.body.Body.{Body}, declared.cert.Cert.{Cert}, Cert.{plain_claim, plain_body, is_body_of}, Claims.{policies}}
+use Rattle.mdp_cert.proofs.{Growth.{Entries, bounds-entries, policy-entries, reward-entries, gains-entries, lines-of-flow, lines-of-floor}, Means.{back}}
 use Rattle.mdp_cert.proofs.Policies.{length-policies}
 use Rattle.mdp_cert.proofs.write.push_body.Goals as goal
 

@@ -1,5 +1,4 @@
-use Rattle.std.proofs.Common.{◌++◌, ap, sym, ◌∙◌, arith, List, ℕ}
-use Rattle.std.proofs.lemmas.List.{append-nil}
+use Rattle.std.proofs.{Common.{◌++◌, ap, sym, ◌∙◌, arith, List, ℕ}, lemmas.List.{append-nil}}
 use Rattle.mdp_text.proofs.Fronts.{keeps_more}
 use Rattle.mdp_cert.proofs.Growth.{lines-written, last-inside, written-all}
 use Rattle.mdp_cert.proofs.write.push_entries.Goals as goal

@@ -1,6 +1,5 @@
 use Rattle.std.proofs.Common.{◌≡◌, ◌++◌, ◌≤◌, ◌-◌, drop}
-use Rattle.mdp_cert.specs.Runs.{runs_in}
-use Rattle.mdp_cert.specs.Spelling.{run_lines, state_lines}
+use Rattle.mdp_cert.specs.{Runs.{runs_in}, Spelling.{run_lines, state_lines}}
 use Rattle.mdp_text.specs.Answer.{Keeps}
 use Rattle.mdp_cert.proofs.write.push_entries.Given as goal
 

@@ -1,6 +1,5 @@
 use Rattle.std.proofs.Common.{sym, ap, ◌∙◌}
-use Rattle.mdp_cert.specs.declared.body.Body.{Body}
-use Rattle.mdp_cert.specs.Cert.{plain_claim, plain_body, is_body_of}
+use Rattle.mdp_cert.specs.{declared.body.Body.{Body}, Cert.{plain_claim, plain_body, is_body_of}}
 use Rattle.mdp_cert.proofs.Growth.{flow-lists, floor-lists}
 use Rattle.mdp_check.proofs.Shapes.{flow_shape, floor_shape}
 use Rattle.mdp_check.proofs.checking.body_verdict.Goals as goal

@@ -1,7 +1,6 @@
 use Rattle.std.proofs.Common.{◌≡◌, ℕ, true, sym, ap, subst, ◌∙◌, arith}
 use Rattle.mdp_spec.specs.Labels.{initial_of}
-use Rattle.mdp_cert.specs.Cert.{plain_claim}
-use Rattle.mdp_bounds_text.specs.Cert.{plain_body, is_init_of, is_body_of}
+use Rattle.mdp_cert.specs.{Cert.{plain_claim}, BoundsCert.{plain_body, is_init_of, is_body_of}}
 use Rattle.mdp_text.proofs.InitialState.{initial_below}
 use Rattle.mdp_command_bounds_search.proofs.Printing.{values_of_body, init_inside}
 use Rattle.mdp_command_bounds_search.proofs.certificate.certificate_of.Goals as goal

@@ -1,11 +1,7 @@
-use Rattle.std.proofs.Common.{◌≡◌, ℕ, ◌<◌, List, length, get_or, Option, Some, sym, ap₂, subst, ◌∙◌, arith, pos}
-use Rattle.std.proofs.lemmas.List.{get_or_default}
+use Rattle.std.proofs.{Common.{◌≡◌, ℕ, ◌<◌, List, length, get_or, Option, Some, sym, ap₂, subst, ◌∙◌, arith, pos}, lemmas.List.{get_or_default}}
 use Rattle.mdp_math.specs.Rational.{ℚ, of_int}
-use Rattle.mdp_spec.specs.Labels.{initial_of}
-use Rattle.mdp_spec.specs.Mdp.{Mdp, states_of}
-use Rattle.mdp_bounds_text.specs.Cert.{plain_body}
-use Rattle.mdp_bounds_text.specs.declared.body.BoundsBody.{BoundsBody}
-use Rattle.mdp_bounds_text.specs.declared.init.BoundsInit.TheVariants.{Between}
+use Rattle.mdp_spec.specs.{Labels.{initial_of}, Mdp.{Mdp, states_of}}
+use Rattle.mdp_cert.specs.{BoundsCert.{plain_body}, declared.bounds_body.BoundsBody.{BoundsBody}, declared.init.BoundsInit.TheVariants.{Between}}
 use Rattle.mdp_text.proofs.InitialState.{initial_below}
 use Rattle.mdp_command_bounds_search.specs.Certificate.{HasValues, init_between}
 use Rattle.mdp_command_bounds_search.proofs.certificate.init_between.Goals as goal

@@ -1,11 +1,8 @@
 use Rattle.std.proofs.Common.{ap, ◌∙◌}
-use Rattle.mdp_bounds_text.specs.Cert.{plain_body}
-use Rattle.mdp_bounds_text.specs.Plain.{plain}
-use Rattle.mdp_cert.specs.Cert.{PlainClaim}
+use Rattle.mdp_cert.specs.{BoundsCert.{plain_body}, BoundsPlain.{plain}, Cert.{PlainClaim}}
 use Rattle.mdp_job.specs.Job.{plain_query}
 use Rattle.mdp_command.specs.Said.{said}
-use Rattle.mdp_command_bounds_search.specs.Certificate.{certificate_of}
-use Rattle.mdp_command_bounds_search.specs.Due.{claim_of}
+use Rattle.mdp_command_bounds_search.specs.{Certificate.{certificate_of}, Due.{claim_of}}
 use Rattle.mdp_command_bounds_search.proofs.Printing.{text_due, printed}
 use Rattle.mdp_command_bounds_search.proofs.searching.bounds_text.Goals as goal
 

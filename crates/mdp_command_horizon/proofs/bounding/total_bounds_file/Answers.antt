@@ -1,6 +1,5 @@
 use Rattle.mdp_command.proofs.Working.{model_refused, model_worked}
-use Rattle.mdp_command_horizon.proofs.BoundsPrinting.{total_printed}
-use Rattle.mdp_command_horizon.proofs.Printing.{shown_of}
+use Rattle.mdp_command_horizon.proofs.{BoundsPrinting.{total_printed}, Printing.{shown_of}}
 use Rattle.mdp_command_horizon.proofs.bounding.total_bounds_file.Goals as goal
 
 pub returns-in-Err-clause-read : goal.returns-in-Err-clause-read

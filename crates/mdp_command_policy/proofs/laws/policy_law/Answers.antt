@@ -1,5 +1,4 @@
-use Rattle.mdp_command_policy.proofs.Due.{policy_once}
-use Rattle.mdp_command_policy.proofs.Printing.{printed_of_due}
+use Rattle.mdp_command_policy.proofs.{Due.{policy_once}, Printing.{printed_of_due}}
 use Rattle.mdp_command_policy.proofs.laws.policy_law.Goals as goal
 
 pub returns : goal.returns

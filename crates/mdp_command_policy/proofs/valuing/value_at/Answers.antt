@@ -1,6 +1,5 @@
 use Rattle.std.proofs.Common.{inr, Err, sym, subst}
-use Rattle.mdp_wide.specs.declared.too_wide.TooWide.{TooWide}
-use Rattle.mdp_wide.specs.Term.{shown}
+use Rattle.mdp_wide.specs.{declared.too_wide.TooWide.{TooWide}, Term.{shown}}
 use Rattle.mdp_job.specs.Refusal.{too_wide}
 use Rattle.mdp_command_policy.specs.Due.{IsValueDue}
 use Rattle.mdp_command_policy.proofs.Due.{value_due, wide_due}

@@ -1,11 +1,8 @@
 use Rattle.std.proofs.Common.{◌≡◌, ℕ, List, sym, ap, subst, ◌∙◌, rules}
 use Rattle.mdp_rows.specs.Name.{IsName, IsRewardName}
 use Rattle.mdp_mean.specs.Query as averaged
-use Rattle.mdp_cert.specs.Cert.{Fits}
-use Rattle.mdp_cert.specs.Plain.{plain}
-use Rattle.mdp_cert.specs.Spelling.{text_of}
-use Rattle.mdp_command_solve.specs.Due.{mean_certificate_of}
-use Rattle.mdp_command_solve.specs.Solved.{IsMeanPrinted}
+use Rattle.mdp_cert.specs.{Cert.{Fits}, Plain.{plain}, Spelling.{text_of}}
+use Rattle.mdp_command_solve.specs.{Due.{mean_certificate_of}, Solved.{IsMeanPrinted}}
 use Rattle.mdp_rows.proofs.FoundNames.{found_among, name_of_reward}
 use Rattle.mdp_command_solve.proofs.Printing.{mean_sizes, mean_printed, text_printed}
 use Rattle.mdp_command_solve.proofs.averaging.solve_payoff.Goals as goal

@@ -2,11 +2,8 @@ use Rattle.std.proofs.Common.{◌≡◌, ℕ, Bool, List, sym, ap, subst, ◌∙
 use Rattle.mdp_rows.specs.Name.{IsName}
 use Rattle.mdp_farkas.specs.Reach.{IsReach}
 use Rattle.mdp_reach.specs.Query as query
-use Rattle.mdp_cert.specs.Cert.{Fits}
-use Rattle.mdp_cert.specs.Plain.{plain}
-use Rattle.mdp_cert.specs.Spelling.{text_of}
-use Rattle.mdp_command_solve.specs.Due.{certificate_of}
-use Rattle.mdp_command_solve.specs.Solved.{IsReachPrinted}
+use Rattle.mdp_cert.specs.{Cert.{Fits}, Plain.{plain}, Spelling.{text_of}}
+use Rattle.mdp_command_solve.specs.{Due.{certificate_of}, Solved.{IsReachPrinted}}
 use Rattle.mdp_rows.proofs.FoundNames.{found_among}
 use Rattle.mdp_command_solve.proofs.Printing.{answer_sizes, printed, text_printed}
 use Rattle.mdp_command_solve.proofs.reaching.solve_label.Goals as goal

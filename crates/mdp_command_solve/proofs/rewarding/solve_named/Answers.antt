@@ -2,11 +2,8 @@ use Rattle.std.proofs.Common.{◌≡◌, ℕ, Bool, List, sym, ap, ap₂, subst,
 use Rattle.mdp_rows.specs.Name.{IsName, IsRewardName}
 use Rattle.mdp_farkas.specs.Reward.{IsReward}
 use Rattle.mdp_reward.specs.Query as rewarded
-use Rattle.mdp_cert.specs.Cert.{Fits}
-use Rattle.mdp_cert.specs.Plain.{plain}
-use Rattle.mdp_cert.specs.Spelling.{text_of}
-use Rattle.mdp_command_solve.specs.Due.{reward_certificate_of}
-use Rattle.mdp_command_solve.specs.Solved.{IsRewardPrinted}
+use Rattle.mdp_cert.specs.{Cert.{Fits}, Plain.{plain}, Spelling.{text_of}}
+use Rattle.mdp_command_solve.specs.{Due.{reward_certificate_of}, Solved.{IsRewardPrinted}}
 use Rattle.mdp_rows.proofs.FoundNames.{found_among, name_of_reward}
 use Rattle.mdp_command_solve.proofs.Printing.{reward_ranks, reward_printed, text_printed}
 use Rattle.mdp_command_solve.proofs.rewarding.solve_named.Goals as goal

@@ -1,6 +1,5 @@
 use Rattle.std.proofs.Common.{IfOk, sym, subst}
-use Rattle.mdp_job.specs.Job.{plain_query}
-use Rattle.mdp_job.specs.declared.job.Query.{Query}
+use Rattle.mdp_job.specs.{Job.{plain_query}, declared.job.Query.{Query}}
 use Rattle.mdp_command.specs.Said.{said}
 use Rattle.mdp_command_solve.specs.Solved.{IsPrinted}
 use Rattle.mdp_command_solve.proofs.solving.solve_query.Goals as goal

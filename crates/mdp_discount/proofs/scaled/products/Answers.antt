@@ -1,12 +1,8 @@
 use Rattle.std.proofs.Common.{◌≡◌, ◌∙◌, ◌+◌, ◌<◌, ◌++◌, ◌∷◌, ℕ, suc, Bool, true, false, cond, List, [], length, drop, Option, Some, None, refl, sym, ap, ap₂, arith, get_or}
-use Rattle.std.proofs.lemmas.List.{append-nil, get_or_default}
-use Rattle.mdp_math.specs.Written.{written_mul}
-use Rattle.std.proofs.Math.Seq.{drop-length}
-use Rattle.mdp_math.specs.Rational.{ℚ}
-use Rattle.mdp_spec.specs.Mdp.{Entry}
-use Rattle.mdp_spec.specs.Row.{entries}
-use Rattle.mdp_discount.specs.Problem.{scaled_entries, products_fit}
-use Rattle.mdp_discount.specs.ScaledView.{entries_in}
+use Rattle.std.proofs.{lemmas.List.{append-nil, get_or_default}, Math.Seq.{drop-length}}
+use Rattle.mdp_math.specs.{Written.{written_mul}, Rational.{ℚ}}
+use Rattle.mdp_spec.specs.{Mdp.{Entry}, Row.{entries}}
+use Rattle.mdp_discount.specs.{Problem.{scaled_entries, products_fit}, ScaledView.{entries_in}}
 use Rattle.mdp_discount.proofs.Products.{next-entry, entry-made, fits-next, fits-none}
 use Rattle.mdp_discount.proofs.scaled.products.Goals as goal
 

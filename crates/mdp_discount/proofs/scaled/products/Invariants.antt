@@ -1,7 +1,6 @@
 use Rattle.std.proofs.Common.{◌≡◌, ◌++◌, length, drop}
 use Rattle.mdp_spec.specs.Row.{entries}
-use Rattle.mdp_discount.specs.Problem.{scaled_entries, products_fit}
-use Rattle.mdp_discount.specs.ScaledView.{entries_in}
+use Rattle.mdp_discount.specs.{Problem.{scaled_entries, products_fit}, ScaledView.{entries_in}}
 use Rattle.mdp_discount.proofs.scaled.products.Given as goal
 
 abbrev pub invariant-loop-i : goal.invariant-loop-i

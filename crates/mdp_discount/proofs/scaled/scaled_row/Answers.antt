@@ -1,19 +1,13 @@
 use Rattle.std.proofs.Common.{◌≡◌, ◌∙◌, ◌+◌, ◌++◌, ◌∷◌, [], ℕ, List, length, Bool, true, false, cond, Option, Some, None, refl, sym, ap, subst}
-use Rattle.std.specs.Prelude.{◌&&◌}
-use Rattle.std.specs.Option.{option_map, is_some, IfSome}
 use Rattle.std.proofs.lemmas.List.{length-append}
+use Rattle.std.specs.{Prelude.{◌&&◌}, Option.{option_map, is_some, IfSome}}
 use Rattle.mdp_math.specs.Rational.{ℚ}
 use Rattle.mdp_num.specs.Written.{written_sub}
-use Rattle.mdp_spec.specs.Mdp.{Entry}
-use Rattle.mdp_spec.specs.Row.{entries, IsDistribution, IsRow}
-use Rattle.mdp_discount.specs.Problem.{1ℚ, scaled_entries, discounted_row, products_fit}
-use Rattle.mdp_discount.specs.ScaledView.{entries_in}
-use Rattle.mdp_discount.specs.declared.scaled.Entries.{Entries}
-use Rattle.mdp_discount.proofs.ScaledRows.{discounted-row}
-use Rattle.mdp_discount.proofs.MadeRows.{scaled-some}
-use Rattle.mdp_discount.proofs.Products.{products-is, entries-below, settled-row, settled-fits}
-use Rattle.mdp_discount.proofs.scaled.scaled_row.Goals as goal
+use Rattle.mdp_spec.specs.{Mdp.{Entry}, Row.{entries, IsDistribution, IsRow}}
+use Rattle.mdp_discount.specs.{Problem.{1ℚ, scaled_entries, discounted_row, products_fit}, ScaledView.{entries_in}, declared.scaled.Entries.{Entries}}
+use Rattle.mdp_discount.proofs.{ScaledRows.{discounted-row}, MadeRows.{scaled-some}, Products.{products-is, entries-below, settled-row, settled-fits}}
 use Rattle.mdp_discount.proofs.scaled.scaled_row.Goals.{In_ok-probs}
+use Rattle.mdp_discount.proofs.scaled.scaled_row.Goals as goal
 
 -- the parts of what is built, and the row that they make up
 module _ (c : In_ok-probs) where

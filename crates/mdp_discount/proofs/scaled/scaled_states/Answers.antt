@@ -1,6 +1,5 @@
-use Rattle.std.proofs.Common.{◌≡◌, ◌∙◌, ◌++◌, ◌∷◌, [], ℕ, List, Option, map, sym, ap, ap₂, arith}
+use Rattle.std.proofs.{Common.{◌≡◌, ◌∙◌, ◌++◌, ◌∷◌, [], ℕ, List, Option, map, sym, ap, ap₂, arith}, lemmas.List.{map-append}}
 use Rattle.std.specs.List.{range_with_len}
-use Rattle.std.proofs.lemmas.List.{map-append}
 use Rattle.mdp_math.proofs.Lists.{map_more}
 use Rattle.mdp_spec.specs.Mdp.{Entry}
 use Rattle.mdp_discount.specs.ScaledView.{rows_in, scaled_rows}

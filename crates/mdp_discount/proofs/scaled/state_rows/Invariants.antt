@@ -1,6 +1,5 @@
 use Rattle.std.proofs.Common.{◌≡◌, map}
-use Rattle.std.specs.List.{range_with_len}
-use Rattle.std.specs.Option.{option_map}
+use Rattle.std.specs.{List.{range_with_len}, Option.{option_map}}
 use Rattle.mdp_spec.specs.Mdp.{states_of, row_at}
 use Rattle.mdp_discount.specs.ScaledView.{row_in, scaled_row}
 use Rattle.mdp_discount.proofs.scaled.state_rows.Given as goal

@@ -3,13 +3,10 @@ use Rattle.std.specs.Prelude.{IsTrue, slice_index_or}
 use Rattle.mdp_spec.specs.Labels.{initial_of}
 use Rattle.mdp_rows.specs.Name.{IsName}
 use Rattle.mdp_text.specs.declared.init.Init.{Init}
-use Rattle.mdp_discount_rules.specs.Cert.{is_init}
-use Rattle.mdp_discount_rules.specs.Checks.{written_greatest}
-use Rattle.mdp_discount_rules.proofs.Greatest.{written_greatest-some}
-use Rattle.mdp_discount_rules.proofs.DiscountRules.{discount_never_no}
+use Rattle.mdp_discount_rules.specs.{Cert.{is_init}, Checks.{written_greatest}}
+use Rattle.mdp_discount_rules.proofs.{Greatest.{written_greatest-some}, DiscountRules.{discount_never_no}, Names.{init-inside}}
 use Rattle.mdp_text.proofs.InitialState.{initial_below}
 use Rattle.mdp_rows.proofs.FoundNames.{name_of_reward}
-use Rattle.mdp_discount_rules.proofs.Names.{init-inside}
 use Rattle.mdp_discount.proofs.solve.certified.Goals as goal
 
 pub invariant_of-cert : goal.invariant_of-cert

@@ -1,15 +1,9 @@
 use Rattle.std.proofs.Common.{◌≡◌, ◌∙◌, ℕ, ◌+◌, List, Err, take, replicate, length, sym, ap, subst}
 use Rattle.mdp_math.specs.Rational.{ℚ}
-use Rattle.mdp_policy_iteration.specs.Laws.{IsSolvable}
-use Rattle.mdp_policy_iteration.specs.Ends.{Ends}
-use Rattle.mdp_policy_iteration.specs.Errors.{PathError}
+use Rattle.mdp_policy_iteration.specs.{Laws.{IsSolvable}, Ends.{Ends}, Errors.{PathError}, Queries.{term_of}}
 use Rattle.mdp_wide.specs.declared.too_wide.Part.TheVariants.{Whole}
-use Rattle.mdp_policy_iteration.specs.Queries.{term_of}
-use Rattle.mdp_discount.specs.Problem.{discount_problem}
-use Rattle.mdp_discount.specs.Query.{start_of}
-use Rattle.mdp_discount.specs.Code.{IsFound, cut_term}
-use Rattle.mdp_discount.proofs.Solving.{start-solvable, found-is}
-use Rattle.mdp_discount.proofs.Ending.{path-found, path-wide}
+use Rattle.mdp_discount.specs.{Problem.{discount_problem}, Query.{start_of}, Code.{IsFound, cut_term}}
+use Rattle.mdp_discount.proofs.{Solving.{start-solvable, found-is}, Ending.{path-found, path-wide}}
 use Rattle.mdp_discount.proofs.solve.path_end.Goals as goal
 
 pub improve-requires : goal.improve-requires

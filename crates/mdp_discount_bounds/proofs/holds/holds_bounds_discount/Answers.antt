@@ -1,8 +1,7 @@
 use Rattle.std.proofs.Common.{◌≡◌, ap, sym, ◌∙◌}
 use Rattle.mdp_farkas.specs.Verdict.{verdict, verdict_of}
 use Rattle.mdp_discount_bounds.specs.Checks.{discount_bounds_checks}
-use Rattle.mdp_discount_bounds.proofs.Rules.{bounds_rules, bounds_max, bounds_min}
-use Rattle.mdp_discount_bounds.proofs.Trivial.{trivial_yes}
+use Rattle.mdp_discount_bounds.proofs.{Rules.{bounds_rules, bounds_max, bounds_min}, Trivial.{trivial_yes}}
 use Rattle.mdp_discount_bounds.proofs.holds.holds_bounds_discount.Goals as goal
 
 pub returns : goal.returns

@@ -1,6 +1,4 @@
-use Rattle.mdp_discount_bounds.proofs.Between.{between_of_rules}
-use Rattle.mdp_discount_bounds.proofs.Exact.{exact_is_between}
-use Rattle.mdp_discount_bounds.proofs.Accepting.{yes_is_accepted, accepted_is_bound}
+use Rattle.mdp_discount_bounds.proofs.{Between.{between_of_rules}, Exact.{exact_is_between}, Accepting.{yes_is_accepted, accepted_is_bound}}
 use Rattle.mdp_discount_bounds.proofs.laws.discount_bounds_law.Goals as goal
 
 pub returns : goal.returns

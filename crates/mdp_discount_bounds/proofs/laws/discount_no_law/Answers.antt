@@ -1,6 +1,4 @@
-use Rattle.mdp_discount_bounds.proofs.Rules.{discount_never_no}
-use Rattle.mdp_discount_bounds.proofs.Telling.{discount_refuted}
-use Rattle.mdp_discount_bounds.proofs.Saying.{discount_says}
+use Rattle.mdp_discount_bounds.proofs.{Rules.{discount_never_no}, Telling.{discount_refuted}, Saying.{discount_says}}
 use Rattle.mdp_discount_bounds.proofs.laws.discount_no_law.Goals as goal
 
 pub returns : goal.returns

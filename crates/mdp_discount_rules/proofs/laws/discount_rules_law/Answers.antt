@@ -1,6 +1,4 @@
-use Rattle.mdp_discount_rules.proofs.Discount.{discount_of_rules}
-use Rattle.mdp_discount_rules.proofs.DiscountRules.{discount_never_no}
-use Rattle.mdp_discount_rules.proofs.OneValue.{one_value}
+use Rattle.mdp_discount_rules.proofs.{Discount.{discount_of_rules}, DiscountRules.{discount_never_no}, OneValue.{one_value}}
 use Rattle.mdp_discount_rules.proofs.Accepting.{yes_is_accepted, accepted_is_bound}
 use Rattle.mdp_discount_rules.proofs.laws.discount_rules_law.Goals as goal
 

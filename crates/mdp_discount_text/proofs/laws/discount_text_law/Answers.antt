@@ -1,7 +1,6 @@
 use Rattle.mdp_text.proofs.Exact.{read-from}
 use Rattle.mdp_discount_rules.specs.Cert.{Fits}
-use Rattle.mdp_discount_text.specs.Spelling.{text_of}
-use Rattle.mdp_discount_text.specs.Text.{outcome}
+use Rattle.mdp_discount_text.specs.{Spelling.{text_of}, Text.{outcome}}
 use Rattle.mdp_discount_text.proofs.Outcomes.{cert-found, cert-again}
 use Rattle.mdp_discount_text.proofs.laws.discount_text_law.Goals as goal
 

@@ -1,8 +1,7 @@
 use Rattle.std.proofs.Common.{◌+◌, refl, sym}
 use Rattle.mdp_text.specs.Lines.{place}
 use Rattle.mdp_discount_rules.specs.Cert.{Fits}
-use Rattle.mdp_discount_text.specs.Text.{certificate_of, outcome}
-use Rattle.mdp_discount_text.specs.Code.{plain_head, plain_columns}
+use Rattle.mdp_discount_text.specs.{Text.{certificate_of, outcome}, Code.{plain_head, plain_columns}}
 use Rattle.mdp_discount_text.proofs.Outcomes.{read-whole, read-fits}
 use Rattle.mdp_discount_text.proofs.read.read_discount.Goals as goal
 

@@ -1,5 +1,4 @@
-use Rattle.std.proofs.Common.{◌+◌, ◌-◌, ℕ, List, sym, ◌∙◌, ap₂, arith}
-use Rattle.std.proofs.lemmas.Result.{err_from_is_err_and}
+use Rattle.std.proofs.{Common.{◌+◌, ◌-◌, ℕ, List, sym, ◌∙◌, ap₂, arith}, lemmas.Result.{err_from_is_err_and}}
 use Rattle.mdp_math.specs.Rational.{ℚ}
 use Rattle.mdp_text.specs.Lines.{place}
 use Rattle.mdp_discount_text.specs.Text.{states_from}

@@ -1,5 +1,4 @@
-use Rattle.std.proofs.Common.{arith}
-use Rattle.std.proofs.lemmas.Grind.{common_steps}
+use Rattle.std.proofs.{Common.{arith}, lemmas.Grind.{common_steps}}
 use Rattle.mdp_drn.proofs.brackets.behind_open.Goals as goal
 
 pub loop-start-preserved : goal.loop-start-preserved

@@ -1,7 +1,6 @@
 use Rattle.std.proofs.Common.{arith}
 use Rattle.mdp_spec.specs.Mdp.{choices_at}
-use Rattle.mdp_drn.proofs.TextWritten.Appending.{appending-more, appending-done, front-more}
-use Rattle.mdp_drn.proofs.TextWritten.TextsLeft.{choices-more, choices-end}
+use Rattle.mdp_drn.proofs.{TextWritten.Appending.{appending-more, appending-done, front-more}, TextWritten.TextsLeft.{choices-more, choices-end}}
 use Rattle.mdp_drn.proofs.choice_text.push_choices.Goals as goal
 
 pub loop-c-preserved : goal.loop-c-preserved

@@ -1,8 +1,7 @@
 use Rattle.std.proofs.Common.{drop, map, codes, slice_index_or}
 use Rattle.mdp_num.specs.Value.{spelling}
 use Rattle.mdp_spec.specs.Mdp.{choices_at, no_choice}
-use Rattle.mdp_drn.specs.Writing.{joined}
-use Rattle.mdp_drn.specs.Pieces.{separated}
+use Rattle.mdp_drn.specs.{Writing.{joined}, Pieces.{separated}}
 use Rattle.mdp_drn.proofs.TextWritten.Appending.{Appending}
 use Rattle.mdp_drn.proofs.choice_text.push_rewards.Given as goal
 

@@ -1,7 +1,5 @@
-use Rattle.std.proofs.Common.{arith}
-use Rattle.std.proofs.lemmas.Grind.{common_steps}
-use Rattle.mdp_drn.proofs.TextWritten.Appending.{appending-done, front-more}
-use Rattle.mdp_drn.proofs.TextWritten.TextsLeft.{row-end}
+use Rattle.std.proofs.{Common.{arith}, lemmas.Grind.{common_steps}}
+use Rattle.mdp_drn.proofs.{TextWritten.Appending.{appending-done, front-more}, TextWritten.TextsLeft.{row-end}}
 use Rattle.mdp_drn.proofs.choice_text.push_row.Goals as goal
 
 pub returns-clause-text : goal.returns-clause-text

@@ -1,10 +1,7 @@
-use Rattle.std.proofs.Common.{◌≡◌, ℕ, Bool, List, length, Option, Some, None, sym, ap, ap₂, ◌∙◌, arith}
+use Rattle.std.proofs.{Common.{◌≡◌, ℕ, Bool, List, length, Option, Some, None, sym, ap, ap₂, ◌∙◌, arith}, lemmas.List.{length-map}}
 use Rattle.std.specs.Option.{unwrap_or}
-use Rattle.std.proofs.lemmas.List.{length-map}
 use Rattle.mdp_rows.specs.Draft.{Draft, new_draft}
-use Rattle.mdp_drn.specs.Header.{or_else}
-use Rattle.mdp_drn.specs.HeaderView.{view}
-use Rattle.mdp_drn.specs.Reading.{InModel}
+use Rattle.mdp_drn.specs.{Header.{or_else}, HeaderView.{view}, Reading.{InModel}}
 use Rattle.mdp_drn.proofs.LinesRead.HeaderKeeps.{names_for_model}
 use Rattle.mdp_drn.proofs.document.begin_body.Goals as goal
 

@@ -1,6 +1,4 @@
-use Rattle.mdp_drn.specs.HeaderView.{view, view_next}
-use Rattle.mdp_drn.specs.DocumentView.{part_behind, header_part}
-use Rattle.mdp_drn.specs.Reading.{begun, kept_line}
+use Rattle.mdp_drn.specs.{HeaderView.{view, view_next}, DocumentView.{part_behind, header_part}, Reading.{begun, kept_line}}
 use Rattle.mdp_drn.proofs.LinesRead.HeaderKeeps.{header_keeps, kept_header, gives_known, fails-at_line}
 use Rattle.mdp_drn.proofs.document.take_header_line.Goals as goal
 

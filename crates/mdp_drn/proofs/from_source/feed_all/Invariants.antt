@@ -1,6 +1,5 @@
 use Rattle.std.proofs.Common.{◌≡◌, ◌+◌, ◌-◌, ◌≤◌, ℕ, List, length}
-use Rattle.mdp_edge.specs.declared.reading.TheConstants.{MOST_PIECE}
-use Rattle.mdp_edge.specs.Bytes.{Gave}
+use Rattle.mdp_edge.specs.{declared.reading.TheConstants.{MOST_PIECE}, Bytes.{Gave}}
 use Rattle.mdp_drn.specs.Feeding.{HasRead}
 use Rattle.mdp_drn.proofs.from_source.feed_all.Given as goal
 

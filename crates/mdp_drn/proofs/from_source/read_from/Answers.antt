@@ -1,7 +1,6 @@
 use Rattle.std.proofs.Common.{◌≡◌, true, inr, refl, ◌∙◌, subst}
 use Rattle.mdp_rows.specs.declared.rule.RowRule.{RowRule}
-use Rattle.mdp_drn.specs.Reading.{outcome}
-use Rattle.mdp_drn.specs.FromSource.{ReadsAs}
+use Rattle.mdp_drn.specs.{Reading.{outcome}, FromSource.{ReadsAs}}
 use Rattle.mdp_drn.proofs.PiecesFed.SourceBytes.{not_more, holds_anyway}
 use Rattle.mdp_drn.proofs.from_source.read_from.Goals as goal
 

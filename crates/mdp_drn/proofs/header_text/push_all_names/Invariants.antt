@@ -1,6 +1,5 @@
 use Rattle.std.proofs.Common.{[], ◌∷◌, drop}
-use Rattle.mdp_drn.specs.Writing.{joined}
-use Rattle.mdp_drn.specs.Pieces.{separated}
+use Rattle.mdp_drn.specs.{Writing.{joined}, Pieces.{separated}}
 use Rattle.mdp_drn.proofs.TextWritten.Appending.{Appending}
 use Rattle.mdp_drn.proofs.header_text.push_all_names.Given as goal
 

@@ -1,8 +1,6 @@
 use Rattle.std.proofs.Common.{◌≡◌, ℕ, List, ◌++◌, decimal, codes, ap₂, ◌∙◌}
-use Rattle.mdp_drn.specs.Writing.{line}
-use Rattle.mdp_drn.specs.Pieces.{count_text}
-use Rattle.mdp_drn.proofs.TextWritten.TextsLeft.{counts_are}
-use Rattle.mdp_drn.proofs.TextWritten.Appending.{piece-last, front-more}
+use Rattle.mdp_drn.specs.{Writing.{line}, Pieces.{count_text}}
+use Rattle.mdp_drn.proofs.{TextWritten.TextsLeft.{counts_are}, TextWritten.Appending.{piece-last, front-more}}
 use Rattle.mdp_drn.proofs.header_text.push_counts.Goals as goal
 
 lines-are : (n k states choices : ℕ) → n ≡ states → k ≡ choices

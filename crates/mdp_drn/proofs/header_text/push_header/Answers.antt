@@ -1,8 +1,6 @@
-use Rattle.std.proofs.Common.{◌≡◌, ℕ, List, ◌++◌, length, sum_by, decimal, codes, append_assoc, refl, ap, ◌∙◌}
-use Rattle.std.proofs.lemmas.Result.{on_ok_weaker}
+use Rattle.std.proofs.{Common.{◌≡◌, ℕ, List, ◌++◌, length, sum_by, decimal, codes, append_assoc, refl, ap, ◌∙◌}, lemmas.Result.{on_ok_weaker}}
 use Rattle.mdp_spec.specs.Mdp.{Mdp, states_of}
-use Rattle.mdp_drn.specs.Writing.{line, header_text}
-use Rattle.mdp_drn.specs.Pieces.{first_lines, count_lines}
+use Rattle.mdp_drn.specs.{Writing.{line, header_text}, Pieces.{first_lines, count_lines}}
 use Rattle.mdp_drn.proofs.TextWritten.Appending.{front-more}
 use Rattle.mdp_drn.proofs.header_text.push_header.Goals as goal
 

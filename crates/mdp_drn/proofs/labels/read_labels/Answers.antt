@@ -1,7 +1,5 @@
-use Rattle.std.proofs.Common.{sym, ◌∙◌, subst, List, ℕ, length, ◌<◌, map, [], ◌∷◌, ◌++◌}
-use Rattle.std.proofs.lemmas.List.{map-append}
+use Rattle.std.proofs.{Common.{sym, ◌∙◌, subst, List, ℕ, length, ◌<◌, map, [], ◌∷◌, ◌++◌}, lemmas.List.{map-append}, lemmas.Result.{err_from_is_err_and}}
 use Rattle.std.specs.Borrow.{Bor}
-use Rattle.std.proofs.lemmas.Result.{err_from_is_err_and}
 use Rattle.mdp_drn.specs.Lines.{without_blanks_before}
 use Rattle.mdp_drn.proofs.LinesRead.LabelsFrom.{LabelsFrom, some-left, none-left, no_label_done, label_done, label_fails, labels_done, label-takes, labels_in-from}
 use Rattle.mdp_drn.proofs.labels.read_labels.Goals as goal

@@ -1,8 +1,6 @@
 use Rattle.mdp_drn.proofs.ReadingLaws.FirstRefusal.{refused-at_first, behind-counts_not}
-use Rattle.mdp_drn.proofs.ReadingLaws.LineNumbers.{names-no_later, names-line_of_text, moved-by_comment}
-use Rattle.mdp_drn.proofs.ReadingLaws.BlankEnds.{drops-blanks}
-use Rattle.mdp_drn.proofs.ReadingLaws.ByContents.{read-by_contents}
-use Rattle.mdp_drn.proofs.ReadingLaws.LabelOrder.{labels-by_sight}
+use Rattle.mdp_drn.proofs.{ReadingLaws.LineNumbers.{names-no_later, names-line_of_text, moved-by_comment}, ReadingLaws.BlankEnds.{drops-blanks}}
+use Rattle.mdp_drn.proofs.{ReadingLaws.ByContents.{read-by_contents}, ReadingLaws.LabelOrder.{labels-by_sight}}
 use Rattle.mdp_drn.proofs.laws.reading_law.Goals as goal
 
 pub returns : goal.returns

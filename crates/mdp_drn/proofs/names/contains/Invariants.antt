@@ -1,6 +1,5 @@
 use Rattle.std.proofs.Common.{◌≡◌, map, length}
-use Rattle.std.specs.List.{list_any}
-use Rattle.std.specs.Str.{bytes_eq}
+use Rattle.std.specs.{List.{list_any}, Str.{bytes_eq}}
 use Rattle.mdp_drn.proofs.names.contains.Given as goal
 
 abbrev pub invariant-loop-rest : goal.invariant-loop-rest

@@ -1,5 +1,4 @@
-use Rattle.std.proofs.Common.{List, ℕ, length, nat_lt, rules, tests, arith}
-use Rattle.std.proofs.lemmas.Bool.Decides.{nat_tests}
+use Rattle.std.proofs.{Common.{List, ℕ, length, nat_lt, rules, tests, arith}, lemmas.Bool.Decides.{nat_tests}}
 use Rattle.std.proofs.lemmas.Iterator.Consumers.{map_from_collect, YieldsList-from_filter, YieldsList-at}
 use Rattle.std.proofs.lemmas.Iterator.Splits.{YieldsList-from_slice_split}
 use Rattle.mdp_drn.specs.Lines.{is_blank}

@@ -1,6 +1,5 @@
 use Rattle.mdp_spec.specs.Mdp.{state_at}
-use Rattle.mdp_drn.proofs.TextWritten.Appending.{appending-done, appending-more, front-more}
-use Rattle.mdp_drn.proofs.TextWritten.TextsLeft.{label-known, labels-end, labels-more}
+use Rattle.mdp_drn.proofs.{TextWritten.Appending.{appending-done, appending-more, front-more}, TextWritten.TextsLeft.{label-known, labels-end, labels-more}}
 use Rattle.mdp_drn.proofs.state_text.push_labels.Goals as goal
 
 pub label_name-requires : goal.label_name-requires

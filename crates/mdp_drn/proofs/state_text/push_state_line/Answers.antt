@@ -1,7 +1,6 @@
 use Rattle.std.proofs.Common.{◌≡◌, ℕ, List, [], ◌∷◌, ◌++◌, decimal, codes, append_assoc, refl}
 use Rattle.mdp_spec.specs.Mdp.{state_at}
-use Rattle.mdp_drn.specs.Writing.{line, joined, labels_text}
-use Rattle.mdp_drn.specs.Pieces.{zeros_of}
+use Rattle.mdp_drn.specs.{Writing.{line, joined, labels_text}, Pieces.{zeros_of}}
 use Rattle.mdp_drn.proofs.TextWritten.Appending.{piece-then, piece-last, front-more}
 use Rattle.mdp_drn.proofs.state_text.push_state_line.Goals as goal
 

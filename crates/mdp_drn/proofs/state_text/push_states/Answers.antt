@@ -1,6 +1,5 @@
 use Rattle.std.proofs.Common.{arith}
-use Rattle.mdp_drn.proofs.TextWritten.Appending.{appending-more, appending-done, front-more}
-use Rattle.mdp_drn.proofs.TextWritten.TextsLeft.{states-more, states-end}
+use Rattle.mdp_drn.proofs.{TextWritten.Appending.{appending-more, appending-done, front-more}, TextWritten.TextsLeft.{states-more, states-end}}
 use Rattle.mdp_drn.proofs.state_text.push_states.Goals as goal
 
 pub loop-s-preserved : goal.loop-s-preserved

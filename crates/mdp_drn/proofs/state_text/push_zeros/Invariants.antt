@@ -1,6 +1,5 @@
 use Rattle.std.proofs.Common.{drop, codes}
-use Rattle.mdp_drn.specs.Writing.{joined}
-use Rattle.mdp_drn.specs.Pieces.{separated, zeros_of}
+use Rattle.mdp_drn.specs.{Writing.{joined}, Pieces.{separated, zeros_of}}
 use Rattle.mdp_drn.proofs.TextWritten.Appending.{Appending}
 use Rattle.mdp_drn.proofs.state_text.push_zeros.Given as goal
 

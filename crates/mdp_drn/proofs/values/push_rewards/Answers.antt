@@ -1,5 +1,4 @@
-use Rattle.std.proofs.Common.{sym, ◌∙◌, ap, subst, List, ℕ}
-use Rattle.std.proofs.lemmas.Result.{err_from_is_err_and}
+use Rattle.std.proofs.{Common.{sym, ◌∙◌, ap, subst, List, ℕ}, lemmas.Result.{err_from_is_err_and}}
 use Rattle.mdp_drn.specs.Values.{reward_of}
 use Rattle.mdp_drn.proofs.LinesRead.RewardsFrom.{RewardsFrom, texts_of, texts-at, texts-none, all_done, one_done, one_fails}
 use Rattle.mdp_drn.proofs.values.push_rewards.Goals as goal

@@ -1,6 +1,5 @@
-use Rattle.std.proofs.Common.{sym, ◌∙◌, arith}
+use Rattle.std.proofs.{Common.{sym, ◌∙◌, arith}, lemmas.Grind.{common_steps}}
 use Rattle.mdp_drn.proofs.LinesRead.RewardsFrom.{count-read}
-use Rattle.std.proofs.lemmas.Grind.{common_steps}
 use Rattle.mdp_drn.specs.Values.{rewards_in}
 use Rattle.mdp_drn.proofs.values.read_rewards.Goals as goal
 

@@ -1,5 +1,4 @@
-use Rattle.std.proofs.Common.{arith}
-use Rattle.std.proofs.lemmas.Grind.{common_steps}
+use Rattle.std.proofs.{Common.{arith}, lemmas.Grind.{common_steps}}
 use Rattle.mdp_edge.proofs.Pieces.{gave_both}
 use Rattle.mdp_edge.proofs.reading.read_all.Goals as goal
 

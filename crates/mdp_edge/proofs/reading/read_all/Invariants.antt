@@ -1,6 +1,5 @@
 use Rattle.std.proofs.Common.{◌≡◌, ◌+◌, ◌-◌, ◌≤◌, vec_len}
-use Rattle.mdp_edge.specs.Bytes.{Gave}
-use Rattle.mdp_edge.specs.declared.reading.TheConstants.{MOST_PIECE}
+use Rattle.mdp_edge.specs.{Bytes.{Gave}, declared.reading.TheConstants.{MOST_PIECE}}
 use Rattle.mdp_edge.proofs.reading.read_all.Given as goal
 
 abbrev pub invariant-reading : goal.invariant-reading

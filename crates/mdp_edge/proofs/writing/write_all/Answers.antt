@@ -1,5 +1,4 @@
-use Rattle.std.proofs.Common.{◌∙◌, arith}
-use Rattle.std.proofs.lemmas.Grind.{common_steps}
+use Rattle.std.proofs.{Common.{◌∙◌, arith}, lemmas.Grind.{common_steps}}
 use Rattle.mdp_edge.proofs.Pieces.{took_next}
 use Rattle.mdp_edge.proofs.writing.write_all.Goals as goal
 

@@ -1,9 +1,7 @@
-use Rattle.std.proofs.Common.{◌<◌, ◌∙◌, ◌∷◌, ◌++◌, [], sym, ap, length, get_or, arith}
-use Rattle.std.proofs.lemmas.List.{get_or_default}
+use Rattle.std.proofs.{Common.{◌<◌, ◌∙◌, ◌∷◌, ◌++◌, [], sym, ap, length, get_or, arith}, lemmas.List.{get_or_default}}
 use Rattle.mdp_math.proofs.Order.{0ℚ}
 use Rattle.mdp_spec.specs.Mdp.{Entry}
-use Rattle.mdp_elim.proofs.Chains.{inner-kept, inner-left}
-use Rattle.mdp_elim.proofs.chain.inner_terms.Goals.{then-at+in_ok-push, else-at}
+use Rattle.mdp_elim.proofs.{Chains.{inner-kept, inner-left}, chain.inner_terms.Goals.{then-at+in_ok-push, else-at}}
 use Rattle.mdp_elim.proofs.chain.inner_terms.Goals as goal
 
 pub loop-i-preserved : goal.loop-i-preserved

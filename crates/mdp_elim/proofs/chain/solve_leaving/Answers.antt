@@ -1,16 +1,10 @@
-use Rattle.std.proofs.Common.{◌≡◌, ◌⊎◌, sym, ap, subst, ◌∙◌, refl, length, map, List, Err, rules}
-use Rattle.std.proofs.lemmas.List.{length-map}
+use Rattle.std.proofs.{Common.{◌≡◌, ◌⊎◌, sym, ap, subst, ◌∙◌, refl, length, map, List, Err, rules}, lemmas.List.{length-map}}
 use Rattle.mdp_math.specs.Rational.{ℚ}
 use Rattle.mdp_elim.specs.Equation as spec
 use Rattle.mdp_wide.specs.declared.unfinished.Unfinished.TheVariants as error
-use Rattle.mdp_elim.specs.Elimination.{CanEliminate}
-use Rattle.mdp_elim.specs.System.{SolveEach}
-use Rattle.mdp_elim.specs.Solve.{columns_of}
-use Rattle.mdp_elim.specs.Predecessors.{LeadBelow}
-use Rattle.mdp_elim.proofs.Active.{wide_active}
-use Rattle.mdp_elim.proofs.Leaving.{system-can, system-leads, system-len, solve_each}
-use Rattle.mdp_elim.proofs.Chains.{solution-of, written_solution-ok, written_solution-err}
-use Rattle.mdp_elim.proofs.Finish.{ok_no_err}
+use Rattle.mdp_elim.specs.{Elimination.{CanEliminate}, System.{SolveEach}, Solve.{columns_of}, Predecessors.{LeadBelow}}
+use Rattle.mdp_elim.proofs.{Active.{wide_active}, Leaving.{system-can, system-leads, system-len, solve_each}}
+use Rattle.mdp_elim.proofs.{Chains.{solution-of, written_solution-ok, written_solution-err}, Finish.{ok_no_err}}
 use Rattle.mdp_elim.proofs.chain.solve_leaving.Goals as goal
 
 pub solve_system-requires-clause-can : goal.solve_system-requires-clause-can

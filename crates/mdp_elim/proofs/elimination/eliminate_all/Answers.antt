@@ -1,11 +1,8 @@
 use Rattle.std.proofs.Common.{zero-add, ◌≡◌, ◌∙◌, ◌-◌, ◌+◌, ◌<◌, ◌^◌, suc, List, [], ◌∷◌, Err, Some, length, subst, ap, sym, rules, arith, refl}
-use Rattle.std.proofs.lemmas.List.{length-append}
-use Rattle.std.proofs.lemmas.Result.{MatchResult-at_ok}
+use Rattle.std.proofs.{lemmas.List.{length-append}, lemmas.Result.{MatchResult-at_ok}}
 use Rattle.mdp_elim.specs.Equation as spec
 use Rattle.mdp_wide.specs.declared.unfinished.Unfinished.TheVariants as error
-use Rattle.mdp_elim.specs.Elimination.{Eliminated, eliminated, solution}
-use Rattle.mdp_elim.specs.Finish.{finish, LeadDown}
-use Rattle.mdp_elim.specs.Predecessors.{IsLinked, LeadBelow}
+use Rattle.mdp_elim.specs.{Elimination.{Eliminated, eliminated, solution}, Finish.{finish, LeadDown}, Predecessors.{IsLinked, LeadBelow}}
 use Rattle.mdp_elim.proofs.Finish.{all_stop, all_step, can_step, down_step, placed-wide, placed-ok}
 use Rattle.mdp_elim.proofs.elimination.eliminate_all.Goals as goal
 

@@ -1,7 +1,5 @@
 use Rattle.std.proofs.Common.{◌≡◌, ◌+◌, length}
-use Rattle.mdp_elim.specs.Elimination.{solution, CanEliminate}
-use Rattle.mdp_elim.specs.Finish.{finish, LeadDown}
-use Rattle.mdp_elim.specs.Predecessors.{IsLinked}
+use Rattle.mdp_elim.specs.{Elimination.{solution, CanEliminate}, Finish.{finish, LeadDown}, Predecessors.{IsLinked}}
 use Rattle.mdp_elim.proofs.elimination.eliminate_all.Given as goal
 
 abbrev pub invariant-loop-s : goal.invariant-loop-s

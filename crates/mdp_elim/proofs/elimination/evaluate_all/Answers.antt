@@ -1,5 +1,4 @@
-use Rattle.std.proofs.Common.{◌≡◌, ◌∙◌, ◌++◌, ◌∷◌, [], List, Ok, Err, length, subst, ap, sym, rules, arith}
-use Rattle.std.proofs.lemmas.List.{length-append}
+use Rattle.std.proofs.{Common.{◌≡◌, ◌∙◌, ◌++◌, ◌∷◌, [], List, Ok, Err, length, subst, ap, sym, rules, arith}, lemmas.List.{length-append}}
 use Rattle.std.proofs.lemmas.Result.{MatchResult-at_ok}
 use Rattle.mdp_elim.specs.Equation as spec
 use Rattle.mdp_wide.specs.declared.unfinished.Unfinished.TheVariants as error

@@ -1,6 +1,5 @@
 use Rattle.std.proofs.Common.{◌≡◌, ◌+◌, length, Ok}
-use Rattle.mdp_elim.specs.Elimination.{no_values}
-use Rattle.mdp_elim.specs.Finish.{finish, LeadDown}
+use Rattle.mdp_elim.specs.{Elimination.{no_values}, Finish.{finish, LeadDown}}
 use Rattle.mdp_elim.proofs.elimination.evaluate_all.Given as goal
 
 abbrev pub invariant-loop-equation : goal.invariant-loop-equation

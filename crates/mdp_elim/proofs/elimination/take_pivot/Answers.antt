@@ -1,10 +1,7 @@
-use Rattle.std.proofs.Common.{◌≡◌, ◌≢◌, ◌∙◌, ◌+◌, None, Some, sym, ap, subst, arith, pos}
-use Rattle.std.proofs.lemmas.List.{get_or_default}
+use Rattle.std.proofs.{Common.{◌≡◌, ◌≢◌, ◌∙◌, ◌+◌, None, Some, sym, ap, subst, arith, pos}, lemmas.List.{get_or_default}}
 use Rattle.mdp_math.specs.Rational.{of_int}
 use Rattle.mdp_elim.specs.Equation as spec
-use Rattle.mdp_elim.specs.Entries.{Between, entry_to}
-use Rattle.mdp_elim.specs.Elimination.{divided}
-use Rattle.mdp_elim.specs.Predecessors.{at}
+use Rattle.mdp_elim.specs.{Entries.{Between, entry_to}, Elimination.{divided}, Predecessors.{at}}
 use Rattle.mdp_elim.proofs.elimination.take_pivot.Goals.{After-remove-equation}
 use Rattle.mdp_elim.proofs.elimination.take_pivot.Goals as goal
 

@@ -1,10 +1,8 @@
-use Rattle.std.proofs.Common.{◌≡◌, ◌∙◌, List, Some, Err, sym, ap, subst, rules, arith}
-use Rattle.std.proofs.lemmas.List.{with_items_is}
+use Rattle.std.proofs.{Common.{◌≡◌, ◌∙◌, List, Some, Err, sym, ap, subst, rules, arith}, lemmas.List.{with_items_is}}
 use Rattle.mdp_spec.specs.Mdp.{Entry}
 use Rattle.mdp_wide.specs.declared.unfinished.Unfinished.TheVariants as error
 use Rattle.mdp_elim.specs.Entries.{Between, plus_row}
-use Rattle.mdp_elim.proofs.InPlace.{none-left}
-use Rattle.mdp_elim.proofs.entries.add_row.Goals.{In_ok-left}
+use Rattle.mdp_elim.proofs.{InPlace.{none-left}, entries.add_row.Goals.{In_ok-left}}
 use Rattle.mdp_elim.proofs.entries.add_row.Goals as goal
 
 -- so far the sum is that of what is left and the new row

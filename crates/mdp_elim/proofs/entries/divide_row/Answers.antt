@@ -1,8 +1,6 @@
-use Rattle.std.proofs.Common.{arith, refl}
-use Rattle.std.proofs.lemmas.Result.{MatchResult-from_err}
+use Rattle.std.proofs.{Common.{arith, refl}, lemmas.Result.{MatchResult-from_err}}
 use Rattle.mdp_elim.specs.Entries.{divided_entry}
-use Rattle.mdp_elim.proofs.Steps.{so_far-next, so_far-all, so_far-stop, so_far-len}
-use Rattle.mdp_elim.proofs.Merge.{divided_entry-some, divided_entry-none}
+use Rattle.mdp_elim.proofs.{Steps.{so_far-next, so_far-all, so_far-stop, so_far-len}, Merge.{divided_entry-some, divided_entry-none}}
 use Rattle.mdp_elim.proofs.entries.divide_row.Goals as goal
 
 pub returns-in_err-quotient-clause-wide : goal.returns-in_err-quotient-clause-wide

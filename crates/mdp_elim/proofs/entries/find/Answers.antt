@@ -1,5 +1,4 @@
-use Rattle.std.proofs.Common.{rules, sym, ◌∙◌}
-use Rattle.std.proofs.lemmas.List.Sorted.{answers_always}
+use Rattle.std.proofs.{Common.{rules, sym, ◌∙◌}, lemmas.List.Sorted.{answers_always}}
 use Rattle.mdp_spec.specs.Mdp.{Entry}
 use Rattle.mdp_elim.proofs.Search.{search-found, search-none}
 use Rattle.mdp_elim.proofs.entries.find.Goals as goal

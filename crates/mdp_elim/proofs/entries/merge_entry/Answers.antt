@@ -1,7 +1,6 @@
 use Rattle.std.proofs.Common.{ap, ◌∙◌, ◌∷◌, ◌++◌, [], List}
 use Rattle.mdp_spec.specs.Mdp.{Entry}
-use Rattle.mdp_elim.proofs.Merge.{merge-no_term, merge-no_sum, merge-next}
-use Rattle.mdp_elim.proofs.Finish.{ok_no_err}
+use Rattle.mdp_elim.proofs.{Merge.{merge-no_term, merge-no_sum, merge-next}, Finish.{ok_no_err}}
 use Rattle.mdp_elim.proofs.entries.merge_entry.Goals as goal
 
 pub returns-in_err-more-clause-wide : goal.returns-in_err-more-clause-wide

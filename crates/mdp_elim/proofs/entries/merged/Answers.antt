@@ -1,7 +1,6 @@
 use Rattle.std.proofs.Common.{◌≡◌, Err, rules, arith}
 use Rattle.mdp_wide.specs.declared.unfinished.Unfinished.TheVariants as error
-use Rattle.mdp_elim.proofs.Merge.{merged-wide, merged-more, merged-all}
-use Rattle.mdp_elim.proofs.Finish.{ok_no_err}
+use Rattle.mdp_elim.proofs.{Merge.{merged-wide, merged-more, merged-all}, Finish.{ok_no_err}}
 use Rattle.mdp_elim.proofs.entries.merged.Goals as goal
 
 pub returns-in_err-rest-clause-wide : goal.returns-in_err-rest-clause-wide

@@ -1,9 +1,6 @@
-use Rattle.std.proofs.Common.{ℕ, sym, ap, subst, ◌∙◌, ◌≤◌, arith}
-use Rattle.std.proofs.lemmas.Bool.{le-leb}
-use Rattle.std.proofs.lemmas.List.{get_or_default}
+use Rattle.std.proofs.{Common.{ℕ, sym, ap, subst, ◌∙◌, ◌≤◌, arith}, lemmas.Bool.{le-leb}, lemmas.List.{get_or_default}}
 use Rattle.mdp_spec.specs.Mdp.{Entry}
-use Rattle.mdp_elim.proofs.Merge.{no_entry}
-use Rattle.mdp_elim.proofs.Merge.{place_is}
+use Rattle.mdp_elim.proofs.Merge.{no_entry, place_is}
 use Rattle.mdp_elim.proofs.entries.place.Goals as goal
 
 pub returns-then-target : goal.returns-then-target

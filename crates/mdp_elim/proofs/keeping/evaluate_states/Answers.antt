@@ -1,17 +1,11 @@
-use Rattle.std.proofs.Common.{◌≡◌, ◌<◌, ◌≤◌, ◌+◌, ◌∙◌, suc, Some, None, Err, get_or, length, refl, sym, ap, subst, arith, rules}
-use Rattle.std.proofs.Math.ListN.{set}
-use Rattle.std.proofs.lemmas.List.{get_or_default}
-use Rattle.std.proofs.lemmas.Result.{MatchResult-at_ok}
+use Rattle.std.proofs.{Common.{◌≡◌, ◌<◌, ◌≤◌, ◌+◌, ◌∙◌, suc, Some, None, Err, get_or, length, refl, sym, ap, subst, arith, rules}, Math.ListN.{set}}
+use Rattle.std.proofs.{lemmas.List.{get_or_default}, lemmas.Result.{MatchResult-at_ok}}
 use Rattle.mdp_wide.specs.declared.unfinished.Unfinished.TheVariants as error
-use Rattle.mdp_elim.proofs.Finish.{placed-wide, placed-ok}
+use Rattle.mdp_elim.proofs.{Finish.{placed-wide, placed-ok}, RowSums.{between-below}}
+use Rattle.mdp_elim.proofs.{Evaluating.{HaveValues, values_first, values_last, values_next, values-all, values-stop, smaller_have}, Others.{value-other}}
 use Rattle.mdp_spec.specs.Written.{written_sum}
 use Rattle.mdp_elim.specs.Equation as spec
-use Rattle.mdp_elim.specs.Entries.{Between}
-use Rattle.mdp_elim.specs.Elimination.{evaluated}
-use Rattle.mdp_elim.specs.Predecessors.{at}
-use Rattle.mdp_elim.proofs.RowSums.{between-below}
-use Rattle.mdp_elim.proofs.Evaluating.{HaveValues, values_first, values_last, values_next, values-all, values-stop, smaller_have}
-use Rattle.mdp_elim.proofs.Others.{value-other}
+use Rattle.mdp_elim.specs.{Entries.{Between}, Elimination.{evaluated}, Predecessors.{at}}
 use Rattle.mdp_elim.proofs.keeping.evaluate_states.Goals as goal
 
 pub loop-t-init : goal.loop-t-init

@@ -1,5 +1,4 @@
-use Rattle.std.proofs.Common.{◌∷◌, [], length, sym, ap, subst, arith}
-use Rattle.std.proofs.lemmas.List.{length-append}
+use Rattle.std.proofs.{Common.{◌∷◌, [], length, sym, ap, subst, arith}, lemmas.List.{length-append}}
 use Rattle.mdp_elim.specs.Equation as spec
 use Rattle.mdp_elim.proofs.Lists.{HaveNoEntries, no_entries-more, no_entries-down}
 use Rattle.mdp_elim.proofs.keeping.no_equations.Goals as goal

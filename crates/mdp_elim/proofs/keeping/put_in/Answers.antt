@@ -1,17 +1,11 @@
-use Rattle.std.proofs.Common.{◌≡◌, ◌<◌, ◌≤◌, ◌+◌, suc, Err, Some, None, length, sym, ◌∙◌, ap, subst, rules, arith}
-use Rattle.std.proofs.lemmas.List.{get_or_default}
+use Rattle.std.proofs.{Common.{◌≡◌, ◌<◌, ◌≤◌, ◌+◌, suc, Err, Some, None, length, sym, ◌∙◌, ap, subst, rules, arith}, lemmas.List.{get_or_default}}
 use Rattle.std.proofs.lemmas.Result.{MatchResult-at_ok}
 use Rattle.mdp_elim.specs.Equation as spec
-use Rattle.mdp_elim.specs.Entries.{Between, reach}
-use Rattle.mdp_elim.specs.Elimination.{substituted}
-use Rattle.mdp_elim.specs.Predecessors.{at}
-use Rattle.mdp_elim.specs.Kept.{StopsAbove}
+use Rattle.mdp_elim.specs.{Entries.{Between, reach}, Elimination.{substituted}, Predecessors.{at}, Kept.{StopsAbove}}
 use Rattle.mdp_wide.specs.declared.unfinished.Unfinished.TheVariants as error
-use Rattle.mdp_elim.proofs.Finish.{placed-wide, placed-ok}
-use Rattle.mdp_elim.proofs.Reach.{reach-le, between-reach}
-use Rattle.mdp_elim.proofs.PutIn.{between-wide, substituted-down, put_to, put_more}
-use Rattle.mdp_elim.proofs.keeping.put_in.Goals as goal
+use Rattle.mdp_elim.proofs.{Finish.{placed-wide, placed-ok}, Reach.{reach-le, between-reach}, PutIn.{between-wide, substituted-down, put_to, put_more}}
 use Rattle.mdp_elim.proofs.keeping.put_in.Goals.{After-substitute-arg-in-Some-1}
+use Rattle.mdp_elim.proofs.keeping.put_in.Goals as goal
 
 -- the equation of state s, the greatest above low that the equation comes to, is put in
 module _ (c : After-substitute-arg-in-Some-1) where

@@ -1,6 +1,5 @@
 use Rattle.std.proofs.Common.{◌≡◌, ℕ, ◌-◌, ◌<◌, ◌≤◌, length, Some}
-use Rattle.mdp_elim.specs.Entries.{Between, reach}
-use Rattle.mdp_elim.specs.Kept.{put_in}
+use Rattle.mdp_elim.specs.{Entries.{Between, reach}, Kept.{put_in}}
 use Rattle.mdp_elim.proofs.keeping.put_in.Given as goal
 
 abbrev pub invariant-loop-s : goal.invariant-loop-s

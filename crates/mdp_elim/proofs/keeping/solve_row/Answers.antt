@@ -1,12 +1,10 @@
 use Rattle.std.proofs.Common.{◌≡◌, ◌+◌, suc, true, Option, Some, Err, Ok, Result, OnErr, refl, sym, ◌∙◌, ap, subst, inr, rules, arith}
-use Rattle.std.specs.Result.{is_err}
 use Rattle.std.proofs.lemmas.List.{get_or-set_same, get_or-set_other, length-set}
+use Rattle.std.specs.Result.{is_err}
 use Rattle.mdp_math.specs.Written.{◌>>=◌}
 use Rattle.mdp_elim.specs.Equation as spec
-use Rattle.mdp_elim.specs.Entries.{Between}
-use Rattle.mdp_elim.specs.Elimination.{divided}
-use Rattle.mdp_elim.proofs.PutIn.{divided-down}
-use Rattle.mdp_elim.proofs.Finish.{ok_no_err}
+use Rattle.mdp_elim.specs.{Entries.{Between}, Elimination.{divided}}
+use Rattle.mdp_elim.proofs.{PutIn.{divided-down}, Finish.{ok_no_err}}
 use Rattle.mdp_elim.proofs.keeping.solve_row.Goals as goal
 
 on_err : {A E : Type 0} (r : Result A E) (P : Type 0) → OnErr r P → is_err r ≡ true → P

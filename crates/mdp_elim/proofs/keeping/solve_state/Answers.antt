@@ -1,5 +1,4 @@
-use Rattle.std.proofs.Common.{◌≡◌, Ok, refl, sym, ◌∙◌, inr}
-use Rattle.std.proofs.lemmas.Result.{MatchResult-at_ok}
+use Rattle.std.proofs.{Common.{◌≡◌, Ok, refl, sym, ◌∙◌, inr}, lemmas.Result.{MatchResult-at_ok}}
 use Rattle.mdp_elim.proofs.keeping.solve_state.Goals.{in-Some, in-None}
 use Rattle.mdp_elim.proofs.keeping.solve_state.Goals as goal
 

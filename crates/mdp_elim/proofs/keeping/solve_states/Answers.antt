@@ -1,10 +1,7 @@
 use Rattle.std.proofs.Common.{◌≡◌, ◌<◌, ◌-◌, ◌∙◌, suc, None, Some, get_or, length, map, refl, sym, ap, subst, arith}
 use Rattle.mdp_elim.specs.Equation as spec
-use Rattle.mdp_elim.specs.Entries.{Between}
-use Rattle.mdp_elim.specs.System.{system}
-use Rattle.mdp_elim.specs.Kept.{put_in, IsTried}
-use Rattle.mdp_elim.proofs.Leaving.{at-system, system-len, system-down, system-pivots}
-use Rattle.mdp_elim.proofs.Dividing.{not_one}
+use Rattle.mdp_elim.specs.{Entries.{Between}, System.{system}, Kept.{put_in, IsTried}}
+use Rattle.mdp_elim.proofs.{Leaving.{at-system, system-len, system-down, system-pivots}, Dividing.{not_one}}
 use Rattle.mdp_elim.proofs.Solving.{AreTried, tried_first, tried_next, tried_solved, tried_wide, tried-other, tried-down, above_solved, other-not_here}
 use Rattle.mdp_elim.proofs.Finish.{wide_state}
 use Rattle.mdp_elim.proofs.keeping.solve_states.Goals as goal

@@ -1,8 +1,6 @@
 use Rattle.std.proofs.Common.{◌≡◌, ℕ, ◌≤◌, false, length, map}
 use Rattle.mdp_rows.specs.Preds.{is_among}
-use Rattle.mdp_elim.specs.Predecessors.{at}
-use Rattle.mdp_elim.specs.System.{system}
-use Rattle.mdp_elim.specs.Kept.{LeadToSmaller}
+use Rattle.mdp_elim.specs.{Predecessors.{at}, System.{system}, Kept.{LeadToSmaller}}
 use Rattle.mdp_elim.proofs.Solving.{AreTried}
 use Rattle.mdp_elim.proofs.keeping.solve_states.Given as goal
 

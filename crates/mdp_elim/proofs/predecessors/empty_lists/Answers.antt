@@ -1,5 +1,4 @@
-use Rattle.std.proofs.Common.{◌∷◌, [], length, sym, ap, subst, arith}
-use Rattle.std.proofs.lemmas.List.{length-append}
+use Rattle.std.proofs.{Common.{◌∷◌, [], length, sym, ap, subst, arith}, lemmas.List.{length-append}}
 use Rattle.mdp_elim.proofs.Lists.{AreEmpty, empty-more, empty-smaller}
 use Rattle.mdp_elim.proofs.predecessors.empty_lists.Goals as goal
 

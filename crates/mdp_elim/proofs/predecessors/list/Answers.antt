@@ -1,5 +1,4 @@
-use Rattle.std.proofs.Common.{◌∙◌, ◌++◌, ◌∷◌, [], ap, ℕ}
-use Rattle.std.proofs.lemmas.List.{get_or_default}
+use Rattle.std.proofs.{Common.{◌∙◌, ◌++◌, ◌∷◌, [], ap, ℕ}, lemmas.List.{get_or_default}}
 use Rattle.smallvec.specs.SmallVec.{SmallVec}
 use Rattle.mdp_elim.specs.Predecessors.{no_states}
 use Rattle.mdp_elim.proofs.Lists.{list-more}

@@ -1,8 +1,7 @@
 use Rattle.std.proofs.Common.{◌≡◌, ◌<◌, ◌⊎◌, inl, inr, subst, false, rules, arith}
 use Rattle.std.specs.Option.{is_none}
 use Rattle.mdp_elim.specs.Predecessors.{IsListed, ListsMore, LeadsTo}
-use Rattle.mdp_elim.proofs.Lists.{more-then}
-use Rattle.mdp_elim.proofs.Targets.{so_far-more, so_far-same, leads-found}
+use Rattle.mdp_elim.proofs.{Lists.{more-then}, Targets.{so_far-more, so_far-same, leads-found}}
 use Rattle.mdp_elim.proofs.predecessors.list_new.Goals.{then-t-target+then-is_none+in_ok-list, else-t-target, else-t-target-via-then-t-target+else-is_none, else-t-target-via-else-t-target}
 use Rattle.mdp_elim.proofs.predecessors.list_new.Goals as goal
 

@@ -1,8 +1,6 @@
 use Rattle.std.proofs.Common.{◌≡◌, ◌<◌, subst, arith}
-use Rattle.mdp_elim.proofs.Lists.{more-then}
-use Rattle.mdp_elim.proofs.Targets.{so_far-more, so_far-same}
+use Rattle.mdp_elim.proofs.{Lists.{more-then}, Targets.{so_far-more, so_far-same}, predecessors.list_targets.Goals.{then-t-target+in_ok-list, else-t-target}}
 use Rattle.mdp_elim.specs.Predecessors.{IsListed, ListsMore}
-use Rattle.mdp_elim.proofs.predecessors.list_targets.Goals.{then-t-target+in_ok-list, else-t-target}
 use Rattle.mdp_elim.proofs.predecessors.list_targets.Goals as goal
 
 pub loop-x-preserved : goal.loop-x-preserved

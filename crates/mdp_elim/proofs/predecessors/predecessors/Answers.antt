@@ -1,12 +1,10 @@
-use Rattle.std.proofs.Common.{◌≡◌, ◌∙◌, ◌<◌, ◌+◌, ℕ, sym, ap, subst, List, length, arith}
+use Rattle.std.proofs.{Common.{◌≡◌, ◌∙◌, ◌<◌, ◌+◌, ℕ, sym, ap, subst, List, length, arith}, lemmas.List.{with_items_is, get_or_default}}
 use Rattle.std.specs.List.{All}
-use Rattle.std.proofs.lemmas.List.{with_items_is, get_or_default}
 use Rattle.smallvec.specs.SmallVec.{SmallVec}
 use Rattle.mdp_spec.specs.Mdp.{Entry}
 use Rattle.mdp_elim.specs.Equation as spec
 use Rattle.mdp_elim.specs.Predecessors.{ListsMore, ListsTargets, HoldSmaller, at}
-use Rattle.mdp_elim.proofs.RowSums.{between-below}
-use Rattle.mdp_elim.proofs.Lists.{targets-next}
+use Rattle.mdp_elim.proofs.{RowSums.{between-below}, Lists.{targets-next}}
 use Rattle.mdp_elim.proofs.predecessors.predecessors.Goals as goal
 
 pub list_targets-requires : goal.list_targets-requires

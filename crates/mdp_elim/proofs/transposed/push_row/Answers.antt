@@ -1,11 +1,9 @@
-use Rattle.std.proofs.Common.{◌≡◌, ◌<◌, ◌∙◌, length, get_or, true, false, rules, arith}
-use Rattle.std.proofs.lemmas.List.{get_or_default, length-set}
+use Rattle.std.proofs.{Common.{◌≡◌, ◌<◌, ◌∙◌, length, get_or, true, false, rules, arith}, lemmas.List.{get_or_default, length-set}}
 use Rattle.mdp_math.proofs.Order.{0ℚ}
 use Rattle.mdp_spec.specs.Row.{entries}
 use Rattle.mdp_elim.specs.Equation as spec
 use Rattle.mdp_elim.specs.System.{is_active}
-use Rattle.mdp_elim.proofs.Expected.{row_put, row_left}
-use Rattle.mdp_elim.proofs.transposed.push_row.Goals.{then-at+in_ok-push, else-at}
+use Rattle.mdp_elim.proofs.{Expected.{row_put, row_left}, transposed.push_row.Goals.{then-at+in_ok-push, else-at}}
 use Rattle.mdp_elim.proofs.transposed.push_row.Goals as goal
 
 pub loop-i-preserved : goal.loop-i-preserved

@@ -1,7 +1,6 @@
 use Rattle.std.proofs.Common.{◌≡◌, ℕ, drop, length}
 use Rattle.mdp_spec.specs.Row.{entries}
-use Rattle.mdp_elim.specs.Predecessors.{at}
-use Rattle.mdp_elim.specs.Visits.{with_row}
+use Rattle.mdp_elim.specs.{Predecessors.{at}, Visits.{with_row}}
 use Rattle.mdp_elim.proofs.transposed.push_row.Given as goal
 
 abbrev pub invariant-loop-i : goal.invariant-loop-i

@@ -1,8 +1,7 @@
 use Rattle.std.proofs.Common.{◌≡◌, sym, subst, List, length, Err, rules}
 use Rattle.mdp_elim.specs.Equation as spec
 use Rattle.mdp_wide.specs.declared.unfinished.Unfinished.TheVariants as error
-use Rattle.mdp_elim.specs.Elimination.{CanEliminate}
-use Rattle.mdp_elim.specs.Predecessors.{LeadBelow}
+use Rattle.mdp_elim.specs.{Elimination.{CanEliminate}, Predecessors.{LeadBelow}}
 use Rattle.mdp_elim.proofs.Expected.{visits-can, visits-leads, visits-place, written_visits-ok, written_visits-err, are_visits}
 use Rattle.mdp_elim.proofs.transposed.visits.Goals as goal
 

@@ -1,6 +1,5 @@
-use Rattle.std.proofs.Common.{◌≡◌, map, subst, arith, ap₂, ◌∙◌, ◌++◌, ◌∷◌, [], List, sym, zero-add}
+use Rattle.std.proofs.{Common.{◌≡◌, map, subst, arith, ap₂, ◌∙◌, ◌++◌, ◌∷◌, [], List, sym, zero-add}, lemmas.List.FromFn.{map-range_with_len_more}}
 use Rattle.std.specs.List.{range_with_len}
-use Rattle.std.proofs.lemmas.List.FromFn.{map-range_with_len_more}
 use Rattle.mdp_elim.specs.Equation as spec
 use Rattle.mdp_elim.specs.Visits.{start_equation}
 use Rattle.mdp_elim.proofs.Expected.{start-is}

@@ -1,10 +1,8 @@
-use Rattle.std.proofs.Common.{ℕ, sym, ap, subst, ◌≡◌, ◌∙◌, ◌<◌, ◌+◌, List, length, rules, arith}
-use Rattle.std.proofs.lemmas.List.{with_items_is}
+use Rattle.std.proofs.{Common.{ℕ, sym, ap, subst, ◌≡◌, ◌∙◌, ◌<◌, ◌+◌, List, length, rules, arith}, lemmas.List.{with_items_is}}
 use Rattle.std.proofs.lemmas.List.FromFn.{length-map-range_with_len}
 use Rattle.mdp_spec.specs.Row.{entries}
 use Rattle.mdp_elim.specs.Equation as spec
-use Rattle.mdp_elim.specs.Predecessors.{at}
-use Rattle.mdp_elim.specs.Visits.{start_equation, visits_below}
+use Rattle.mdp_elim.specs.{Predecessors.{at}, Visits.{start_equation, visits_below}}
 use Rattle.mdp_elim.proofs.Expected.{visits_first, visits_put, visits_same, visits_system-is}
 use Rattle.mdp_elim.proofs.transposed.visits_system.Goals.{then-at+in_ok-push_row, else-at}
 use Rattle.mdp_elim.proofs.transposed.visits_system.Goals as goal

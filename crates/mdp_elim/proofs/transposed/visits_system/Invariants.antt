@@ -1,6 +1,5 @@
 use Rattle.std.proofs.Common.{◌≡◌, ℕ, ◌<◌, length}
-use Rattle.mdp_elim.specs.Predecessors.{at}
-use Rattle.mdp_elim.specs.Visits.{visits_below}
+use Rattle.mdp_elim.specs.{Predecessors.{at}, Visits.{visits_below}}
 use Rattle.mdp_elim.proofs.transposed.visits_system.Given as goal
 
 abbrev pub invariant-loop-t : goal.invariant-loop-t

@@ -1,7 +1,4 @@
-use Rattle.mdp_farkas.proofs.Named.{named_is_false}
-use Rattle.mdp_farkas.proofs.UpperRules.{upper_never_no}
-use Rattle.mdp_farkas.proofs.ReachRules.{reach_never_no}
-use Rattle.mdp_farkas.proofs.RewardRules.{reward_never_no}
+use Rattle.mdp_farkas.proofs.{Named.{named_is_false}, UpperRules.{upper_never_no}, ReachRules.{reach_never_no}, RewardRules.{reward_never_no}}
 use Rattle.mdp_farkas.proofs.MeanRules.{mean_never_no}
 use Rattle.mdp_farkas.proofs.laws.never_no_law.Goals as goal
 

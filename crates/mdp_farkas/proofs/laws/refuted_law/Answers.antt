@@ -1,6 +1,4 @@
-use Rattle.mdp_farkas.proofs.ReachTelling.{upper_refuted, reach_refuted}
-use Rattle.mdp_farkas.proofs.RewardTelling.{reward_refuted}
-use Rattle.mdp_farkas.proofs.MeanTelling.{mean_refuted}
+use Rattle.mdp_farkas.proofs.{ReachTelling.{upper_refuted, reach_refuted}, RewardTelling.{reward_refuted}, MeanTelling.{mean_refuted}}
 use Rattle.mdp_farkas.proofs.Places.{upper_in_model, reach_in_model, reward_in_model, mean_in_model}
 use Rattle.mdp_farkas.proofs.laws.refuted_law.Goals as goal
 

@@ -1,7 +1,6 @@
 use Rattle.std.proofs.Common.{ℕ, List, ap, ◌∙◌}
 use Rattle.mdp_math.specs.Rational.{ℚ}
-use Rattle.mdp_farkas.specs.Mean.{mean_checks}
-use Rattle.mdp_farkas.specs.Verdict.{verdict, verdict_of}
+use Rattle.mdp_farkas.specs.{Mean.{mean_checks}, Verdict.{verdict, verdict_of}}
 use Rattle.mdp_farkas.proofs.MeanRules.{mean_rules, mean_max, mean_min}
 use Rattle.mdp_farkas.proofs.mean.holds_mean.Goals as goal
 

@@ -1,7 +1,6 @@
 use Rattle.std.proofs.Common.{◌≡◌, ℕ, List, ap, ◌∙◌}
 use Rattle.mdp_math.specs.Rational.{ℚ}
-use Rattle.mdp_farkas.specs.Reach.{reach_checks}
-use Rattle.mdp_farkas.specs.Verdict.{verdict, verdict_of}
+use Rattle.mdp_farkas.specs.{Reach.{reach_checks}, Verdict.{verdict, verdict_of}}
 use Rattle.mdp_farkas.proofs.ReachRules.{reach_rules, reach_max, reach_min}
 use Rattle.mdp_farkas.proofs.reach.holds_reach.Goals as goal
 

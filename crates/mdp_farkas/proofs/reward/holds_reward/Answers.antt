@@ -1,7 +1,6 @@
 use Rattle.std.proofs.Common.{◌≡◌, ℕ, Option, List, ap, ◌∙◌}
 use Rattle.mdp_math.specs.Rational.{ℚ}
-use Rattle.mdp_farkas.specs.Reward.{reward_checks}
-use Rattle.mdp_farkas.specs.Verdict.{verdict, verdict_of}
+use Rattle.mdp_farkas.specs.{Reward.{reward_checks}, Verdict.{verdict, verdict_of}}
 use Rattle.mdp_farkas.proofs.RewardRules.{reward_rules, reward_max, reward_min}
 use Rattle.mdp_farkas.proofs.reward.holds_reward.Goals as goal
 

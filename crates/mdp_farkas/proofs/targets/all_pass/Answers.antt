@@ -1,7 +1,5 @@
-use Rattle.std.proofs.Common.{◌≤◌, Bool, ◌&&◌, length, get_or, sym, ap, ◌∙◌}
+use Rattle.std.proofs.{Common.{◌≤◌, Bool, ◌&&◌, length, get_or, sym, ap, ◌∙◌}, lemmas.List.{take_all}, lemmas.List.Folds.{list_all_at, list_all_more}}
 use Rattle.std.specs.List.{list_all}
-use Rattle.std.proofs.lemmas.List.{take_all}
-use Rattle.std.proofs.lemmas.List.Folds.{list_all_at, list_all_more}
 use Rattle.mdp_farkas.proofs.targets.all_pass.Goals as goal
 
 pub returns-then-not-passes : goal.returns-then-not-passes

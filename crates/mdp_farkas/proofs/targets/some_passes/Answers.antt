@@ -1,7 +1,5 @@
-use Rattle.std.proofs.Common.{◌≤◌, Bool, ◌||◌, length, get_or, sym, ap, ◌∙◌}
+use Rattle.std.proofs.{Common.{◌≤◌, Bool, ◌||◌, length, get_or, sym, ap, ◌∙◌}, lemmas.List.{take_all}, lemmas.List.Folds.{list_any_at, list_any_more}}
 use Rattle.std.specs.List.{list_any}
-use Rattle.std.proofs.lemmas.List.{take_all}
-use Rattle.std.proofs.lemmas.List.Folds.{list_any_at, list_any_more}
 use Rattle.mdp_farkas.proofs.targets.some_passes.Goals as goal
 
 pub returns-then-passes : goal.returns-then-passes

@@ -1,6 +1,5 @@
 use Rattle.std.proofs.Common.{◌≡◌, ap, ◌∙◌}
-use Rattle.mdp_farkas.specs.Upper.{upper_checks}
-use Rattle.mdp_farkas.specs.Verdict.{verdict, verdict_of}
+use Rattle.mdp_farkas.specs.{Upper.{upper_checks}, Verdict.{verdict, verdict_of}}
 use Rattle.mdp_farkas.proofs.UpperRules.{upper_rules, upper_bound}
 use Rattle.mdp_farkas.proofs.upper.holds_upper.Goals as goal
 

@@ -1,5 +1,4 @@
-use Rattle.std.proofs.Common.{◌≡◌, ℕ, Ok, subst, arith}
-use Rattle.std.proofs.lemmas.Result.{err_from_is_err_and}
+use Rattle.std.proofs.{Common.{◌≡◌, ℕ, Ok, subst, arith}, lemmas.Result.{err_from_is_err_and}}
 use Rattle.std.specs.List.{flat_map, range_with_len}
 use Rattle.mdp_farkas.specs.Verdict.{objection_to}
 use Rattle.mdp_farkas.proofs.Objections.{passed, stopped}

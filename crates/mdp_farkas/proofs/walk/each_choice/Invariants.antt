@@ -1,6 +1,5 @@
 use Rattle.std.proofs.Common.{◌≡◌, [], ◌∷◌}
-use Rattle.std.specs.Prelude.{Ok}
-use Rattle.std.specs.List.{flat_map, range_with_len}
+use Rattle.std.specs.{Prelude.{Ok}, List.{flat_map, range_with_len}}
 use Rattle.mdp_farkas.specs.Verdict.{objection_to}
 use Rattle.mdp_farkas.proofs.walk.each_choice.Given as goal
 

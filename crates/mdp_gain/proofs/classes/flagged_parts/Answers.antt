@@ -1,7 +1,6 @@
 use Rattle.std.proofs.Common.{◌+◌, List, Bool, sym, subst, ◌∙◌}
-use Rattle.mdp_gain.proofs.Flagging.{AreFlagged, flagged_on, not_flagged, none_flagged}
+use Rattle.mdp_gain.proofs.{Flagging.{AreFlagged, flagged_on, not_flagged, none_flagged}, classes.flagged_parts.Goals.{then-flags-s, else-flags-s}}
 use Rattle.mdp_gain.proofs.classes.flagged_parts.Goals as goal
-use Rattle.mdp_gain.proofs.classes.flagged_parts.Goals.{then-flags-s, else-flags-s}
 
 pub loop-s-preserved : goal.loop-s-preserved
 loop-s-preserved c = elim c.if-flags-s.branch [

@@ -1,6 +1,5 @@
-use Rattle.std.proofs.Common.{arith}
+use Rattle.std.proofs.Common.{arith, length}
 use Rattle.mdp_graph.proofs.Collecting.{collected, all_collected}
-use Rattle.std.proofs.Common.{length}
 use Rattle.mdp_gain.proofs.next_policy.joined.Goals as goal
 
 pub loop-s-preserved : goal.loop-s-preserved

@@ -1,6 +1,5 @@
 use Rattle.std.proofs.Common.{◌≡◌, map, if◌then◌else◌}
-use Rattle.std.specs.Prelude.{slice_index}
-use Rattle.std.specs.List.{range_with_len}
+use Rattle.std.specs.{Prelude.{slice_index}, List.{range_with_len}}
 use Rattle.mdp_graph.specs.Sets.{marked}
 use Rattle.mdp_gain.proofs.next_policy.joined.Given as goal
 

@@ -1,8 +1,6 @@
-use Rattle.std.proofs.Common.{ap, sym, ◌∙◌, List, ℕ, not, ◌==◌}
+use Rattle.std.proofs.{Common.{ap, sym, ◌∙◌, List, ℕ, not, ◌==◌}, lemmas.List.{take_all}}
 use Rattle.std.specs.List.{list_any}
-use Rattle.std.proofs.lemmas.List.{take_all}
-use Rattle.mdp_graph.proofs.RowSets.{list_any-by}
-use Rattle.mdp_graph.proofs.Collecting.{any_more}
+use Rattle.mdp_graph.proofs.{RowSets.{list_any-by}, Collecting.{any_more}}
 use Rattle.mdp_gain.proofs.Alls.{all-not}
 use Rattle.mdp_gain.proofs.only.are_all.Goals as goal
 

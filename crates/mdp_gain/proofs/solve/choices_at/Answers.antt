@@ -1,5 +1,4 @@
-use Rattle.std.proofs.Common.{ap, ◌∙◌, map, List, ℕ, get_or, refl}
-use Rattle.std.proofs.lemmas.List.{take_all}
+use Rattle.std.proofs.{Common.{ap, ◌∙◌, map, List, ℕ, get_or, refl}, lemmas.List.{take_all}}
 use Rattle.mdp_graph.proofs.Collecting.{mapped}
 use Rattle.mdp_gain.proofs.solve.choices_at.Goals as goal
 

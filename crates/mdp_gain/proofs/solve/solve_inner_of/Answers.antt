@@ -1,7 +1,6 @@
 use Rattle.std.proofs.Common.{◌∙◌, sym, arith}
 use Rattle.mdp_unichain.proofs.Parts.{member-below, part-count}
-use Rattle.mdp_gain.proofs.GainLaws.{solves_best}
-use Rattle.mdp_gain.proofs.OnlyAlone.{only-of}
+use Rattle.mdp_gain.proofs.{GainLaws.{solves_best}, OnlyAlone.{only-of}}
 use Rattle.mdp_gain.proofs.solve.solve_inner_of.Goals as goal
 
 pub invariant_of-component : goal.invariant_of-component

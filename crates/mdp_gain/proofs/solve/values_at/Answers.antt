@@ -1,5 +1,4 @@
-use Rattle.std.proofs.Common.{ap, ◌∙◌, map, List, ℕ}
-use Rattle.std.proofs.lemmas.List.{take_all}
+use Rattle.std.proofs.{Common.{ap, ◌∙◌, map, List, ℕ}, lemmas.List.{take_all}}
 use Rattle.mdp_spec.specs.Mdp.{value_at}
 use Rattle.mdp_graph.proofs.Collecting.{mapped}
 use Rattle.mdp_gain.proofs.solve.values_at.Goals as goal

@@ -1,5 +1,4 @@
-use Rattle.mdp_gen.proofs.Modelled.{layered-model, layered-mdp, length-layered, layered-choices}
-use Rattle.mdp_gen.proofs.Short.{text-short}
+use Rattle.mdp_gen.proofs.{Modelled.{layered-model, layered-mdp, length-layered, layered-choices}, Short.{text-short}}
 use Rattle.mdp_gen.specs.Layered.{layered_model}
 use Rattle.mdp_gen.proofs.laws.layered_law.Goals as goal
 

@@ -1,5 +1,4 @@
-use Rattle.std.proofs.Common.{◌≡◌, ◌++◌, codes}
-use Rattle.std.proofs.lemmas.Result.{on_ok_weaker}
+use Rattle.std.proofs.{Common.{◌≡◌, ◌++◌, codes}, lemmas.Result.{on_ok_weaker}}
 use Rattle.mdp_gen.specs.Pieces.{counts_text}
 use Rattle.mdp_gen.proofs.Written.{appended-two}
 use Rattle.mdp_gen.proofs.push.push_header.Goals as goal

@@ -1,11 +1,8 @@
-use Rattle.std.proofs.Common.{◌≡◌, ℕ, ◌+◌, ◌*◌, ◌≤◌, [], ◌++◌, drop, length, ap, sym, ◌∙◌, arith}
-use Rattle.std.proofs.lemmas.List.{drop_all}
+use Rattle.std.proofs.{Common.{◌≡◌, ℕ, ◌+◌, ◌*◌, ◌≤◌, [], ◌++◌, drop, length, ap, sym, ◌∙◌, arith}, lemmas.List.{drop_all}}
 use Rattle.std.proofs.lemmas.List.FromFn.{length-map-range_with_len}
 use Rattle.mdp_drn.specs.Writing.{states_text}
 use Rattle.mdp_drn.proofs.TextWritten.Appending.{appending-more, appending-done}
-use Rattle.mdp_gen.specs.Draws.{next, draw}
-use Rattle.mdp_gen.specs.Layered.{of_states, state_behind, layer_states}
-use Rattle.mdp_gen.specs.Pieces.{state_text}
+use Rattle.mdp_gen.specs.{Draws.{next, draw}, Layered.{of_states, state_behind, layer_states}, Pieces.{state_text}}
 use Rattle.mdp_gen.proofs.Written.{layers-more, draw-four}
 use Rattle.mdp_gen.proofs.writing.push_layers.Goals as goal
 

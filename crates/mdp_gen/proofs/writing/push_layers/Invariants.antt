@@ -1,8 +1,7 @@
 use Rattle.std.proofs.Common.{◌≡◌, ◌<◌, ◌*◌, [], drop}
 use Rattle.mdp_drn.specs.Writing.{states_text}
 use Rattle.mdp_drn.proofs.TextWritten.Appending.{Appending}
-use Rattle.mdp_gen.specs.Draws.{draw}
-use Rattle.mdp_gen.specs.Layered.{of_states, layer_states}
+use Rattle.mdp_gen.specs.{Draws.{draw}, Layered.{of_states, layer_states}}
 use Rattle.mdp_gen.proofs.writing.push_layers.Given as goal
 
 abbrev pub invariant-loop-s : goal.invariant-loop-s

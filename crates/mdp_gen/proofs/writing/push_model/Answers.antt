@@ -1,5 +1,4 @@
-use Rattle.std.proofs.Common.{◌≡◌, ◌++◌, ◌+◌, ◌*◌, []}
-use Rattle.std.proofs.lemmas.Result.{on_ok_weaker}
+use Rattle.std.proofs.{Common.{◌≡◌, ◌++◌, ◌+◌, ◌*◌, []}, lemmas.Result.{on_ok_weaker}}
 use Rattle.mdp_gen.specs.Pieces.{loop_text}
 use Rattle.mdp_gen.proofs.Written.{appended-four, text-parts}
 use Rattle.mdp_gen.proofs.writing.push_model.Goals as goal

@@ -1,11 +1,7 @@
-use Rattle.std.proofs.Common.{◌≡◌, ◌<◌, ℕ, None, cond, List, Bool, map, is_none, ap, subst, ◌∙◌, arith, length}
+use Rattle.std.proofs.{Common.{◌≡◌, ◌<◌, ℕ, None, cond, List, Bool, map, is_none, ap, subst, ◌∙◌, arith, length}, lemmas.List.{length-map}}
 use Rattle.mdp_spec.specs.Mdp.{states_of}
-use Rattle.mdp_graph.specs.Sets.{marked}
-use Rattle.mdp_graph.specs.Layers.{rank_at, AreReached}
-use Rattle.mdp_graph.specs.Reach.{may_step}
-use Rattle.mdp_graph.proofs.Avoiding.{avoid_marks}
-use Rattle.mdp_graph.proofs.Dropping.{sure_marks, sure_ranks}
-use Rattle.std.proofs.lemmas.List.{length-map}
+use Rattle.mdp_graph.specs.{Sets.{marked}, Layers.{rank_at, AreReached}, Reach.{may_step}}
+use Rattle.mdp_graph.proofs.{Avoiding.{avoid_marks}, Dropping.{sure_marks, sure_ranks}}
 use Rattle.mdp_graph.proofs.always.sure_ranks.Goals as goal
 
 pub returns : goal.returns

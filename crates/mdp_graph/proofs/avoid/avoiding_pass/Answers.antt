@@ -1,6 +1,5 @@
-use Rattle.std.proofs.Common.{◌≡◌, map, is_none, ◌∙◌, length, ap}
+use Rattle.std.proofs.{Common.{◌≡◌, map, is_none, ◌∙◌, length, ap}, lemmas.List.{length-map}}
 use Rattle.mdp_graph.proofs.Avoiding.{avoid_marks, avoid_choices}
-use Rattle.std.proofs.lemmas.List.{length-map}
 use Rattle.mdp_graph.proofs.avoid.avoiding_pass.Goals as goal
 
 pub returns-clause-marks : goal.returns-clause-marks

@@ -1,5 +1,4 @@
-use Rattle.std.proofs.Common.{is_none, None, ap, sym, not, ◌∙◌, map, List, Option, ℕ}
-use Rattle.std.proofs.lemmas.List.{take_all}
+use Rattle.std.proofs.{Common.{is_none, None, ap, sym, not, ◌∙◌, map, List, Option, ℕ}, lemmas.List.{take_all}}
 use Rattle.mdp_math.proofs.Booleans.{not-not}
 use Rattle.mdp_graph.proofs.Collecting.{mapped}
 use Rattle.mdp_graph.proofs.avoid.marks_without.Goals as goal

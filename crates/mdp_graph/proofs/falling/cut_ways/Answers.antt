@@ -1,8 +1,5 @@
-use Rattle.std.proofs.Common.{refl, sym, ◌∙◌, arith, []}
-use Rattle.std.proofs.lemmas.Result.{IfOk-weaker}
-use Rattle.mdp_graph.proofs.Among.{below-all}
-use Rattle.mdp_graph.proofs.Cutting.{from_all}
-use Rattle.mdp_graph.proofs.Pruning.{uncut, first-below, left-way}
+use Rattle.std.proofs.{Common.{refl, sym, ◌∙◌, arith, []}, lemmas.Result.{IfOk-weaker}}
+use Rattle.mdp_graph.proofs.{Among.{below-all}, Cutting.{from_all}, Pruning.{uncut, first-below, left-way}}
 use Rattle.mdp_graph.proofs.falling.cut_ways.Goals as goal
 
 pub cut_choices-requires-clause-from : goal.cut_choices-requires-clause-from

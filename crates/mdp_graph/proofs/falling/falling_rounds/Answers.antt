@@ -1,7 +1,6 @@
 use Rattle.std.proofs.Common.{sym, subst, arith, List, ℕ}
 use Rattle.mdp_graph.specs.Falling.{IsRound}
-use Rattle.mdp_graph.proofs.NextMet.{is_zero}
-use Rattle.mdp_graph.proofs.RoundByRound.{last_round}
+use Rattle.mdp_graph.proofs.{NextMet.{is_zero}, RoundByRound.{last_round}}
 use Rattle.mdp_graph.proofs.falling.falling_rounds.Goals as goal
 
 pub next-requires-clause-before : goal.next-requires-clause-before

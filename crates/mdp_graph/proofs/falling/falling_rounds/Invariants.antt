@@ -1,7 +1,5 @@
 use Rattle.std.proofs.Common.{◌≡◌}
-use Rattle.mdp_graph.specs.Falling.{IsRound}
-use Rattle.mdp_graph.specs.Forest.{all_preds}
-use Rattle.mdp_graph.specs.Ranking.{unranked}
+use Rattle.mdp_graph.specs.{Falling.{IsRound}, Forest.{all_preds}, Ranking.{unranked}}
 use Rattle.mdp_graph.proofs.falling.falling_rounds.Given as goal
 
 abbrev pub invariant-loop-alloc : goal.invariant-loop-alloc

@@ -1,7 +1,5 @@
-use Rattle.std.proofs.Common.{ap, ◌∙◌, length, ◌==◌, ℕ}
-use Rattle.std.proofs.lemmas.List.{length-map}
-use Rattle.mdp_graph.proofs.LeftRanks.{inside_ranked, settled_left}
-use Rattle.mdp_graph.proofs.SureSome.{sure_marks, sure_ranks, sure_choices}
+use Rattle.std.proofs.{Common.{ap, ◌∙◌, length, ◌==◌, ℕ}, lemmas.List.{length-map}}
+use Rattle.mdp_graph.proofs.{LeftRanks.{inside_ranked, settled_left}, SureSome.{sure_marks, sure_ranks, sure_choices}}
 use Rattle.mdp_graph.proofs.falling.sure_pass.Goals as goal
 
 pub returns-clause-marks : goal.returns-clause-marks

@@ -1,5 +1,4 @@
-use Rattle.std.proofs.Common.{refl, ap, ◌∙◌, ◌==◌, map, List, ℕ}
-use Rattle.std.proofs.lemmas.List.{take_all}
+use Rattle.std.proofs.{Common.{refl, ap, ◌∙◌, ◌==◌, map, List, ℕ}, lemmas.List.{take_all}}
 use Rattle.mdp_graph.proofs.Collecting.{mapped}
 use Rattle.mdp_graph.proofs.falling.zero_marks.Goals as goal
 

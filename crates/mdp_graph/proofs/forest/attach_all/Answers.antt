@@ -1,8 +1,6 @@
 use Rattle.std.proofs.Common.{[], sym, ap, refl, ◌∙◌, arith}
 use Rattle.mdp_rows.specs.Preds.{is_among}
-use Rattle.mdp_graph.proofs.Among.{below-all}
-use Rattle.mdp_graph.proofs.Growing.{spreading, spreading_more, spread, preds-within}
-use Rattle.mdp_graph.proofs.NextMet.{is_zero, in_preds}
+use Rattle.mdp_graph.proofs.{Among.{below-all}, Growing.{spreading, spreading_more, spread, preds-within}, NextMet.{is_zero, in_preds}}
 use Rattle.mdp_graph.proofs.forest.attach_all.Goals as goal
 
 pub loop-alloc-init : goal.loop-alloc-init

@@ -1,10 +1,7 @@
-use Rattle.std.proofs.Common.{[], sym, subst, List}
+use Rattle.std.proofs.{Common.{[], sym, subst, List, arith}, lemmas.Bool.{false≢true}, lemmas.List.{take_all}}
 use Rattle.mdp_rows.specs.declared.preds.Pred.{Pred}
 use Rattle.mdp_graph.specs.Waiting.{AreWithin}
 use Rattle.mdp_graph.proofs.Taking.{grown_start, taken_none, into_more, taken_more}
-use Rattle.std.proofs.lemmas.Bool.{false≢true}
-use Rattle.std.proofs.lemmas.List.{take_all}
-use Rattle.std.proofs.Common.{arith}
 use Rattle.mdp_graph.proofs.forest.attach_layer.Goals as goal
 
 pub attach_to-requires-clause-within : goal.attach_to-requires-clause-within

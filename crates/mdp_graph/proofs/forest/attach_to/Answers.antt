@@ -1,13 +1,8 @@
-use Rattle.std.proofs.Common.{◌≡◌, ◌<◌, ◌&&◌, false, not, get_or, length, refl, sym, ap, ◌∙◌, arith, List, Option}
-use Rattle.mdp_rows.specs.Preds.{pair}
-use Rattle.mdp_rows.specs.declared.preds.Pred.{Pred}
-use Rattle.mdp_graph.specs.declared.forest.Way.{Way}
-use Rattle.mdp_graph.specs.Waiting.{waits}
-use Rattle.mdp_graph.specs.Forest.{attached}
-use Rattle.mdp_graph.proofs.Releasing.{within_at}
-use Rattle.mdp_graph.proofs.Taking.{grown_start, grown_set, taken_none, taken_set, taken_more, to_taken, to_kept}
-use Rattle.std.proofs.lemmas.Bool.{false≢true}
+use Rattle.std.proofs.{Common.{◌≡◌, ◌<◌, ◌&&◌, false, not, get_or, length, refl, sym, ap, ◌∙◌, arith, List, Option}, lemmas.Bool.{false≢true}}
 use Rattle.std.proofs.lemmas.List.{take_all}
+use Rattle.mdp_rows.specs.{Preds.{pair}, declared.preds.Pred.{Pred}}
+use Rattle.mdp_graph.specs.{declared.forest.Way.{Way}, Waiting.{waits}, Forest.{attached}}
+use Rattle.mdp_graph.proofs.{Releasing.{within_at}, Taking.{grown_start, grown_set, taken_none, taken_set, taken_more, to_taken, to_kept}}
 use Rattle.mdp_graph.proofs.forest.attach_to.Goals.{then-at+then-not-is_attached+in_ok-push, else-at, else-at-via-then-at+else-not-is_attached, else-at-via-else-at}
 use Rattle.mdp_math.proofs.Booleans.{and-false}
 use Rattle.mdp_graph.proofs.forest.attach_to.Goals as goal

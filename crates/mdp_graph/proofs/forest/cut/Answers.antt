@@ -1,11 +1,7 @@
-use Rattle.std.proofs.Common.{◌<◌, ◌∷◌, [], take, get_or, length, sym, refl, ap, ◌∙◌, arith, Option}
-use Rattle.std.proofs.lemmas.List.{take_more, take_all}
-use Rattle.mdp_rows.specs.Preds.{pair}
-use Rattle.mdp_rows.specs.declared.preds.Pred.{Pred}
-use Rattle.mdp_graph.specs.declared.forest.Way.{Way}
-use Rattle.mdp_graph.specs.Forest.{uses}
-use Rattle.mdp_graph.proofs.Cutting.{cut_none, cut_more, cut_one, cut_skip, from_at, read-way}
-use Rattle.mdp_graph.proofs.forest.cut.Goals.{then-uses+in_ok-push, else-uses}
+use Rattle.std.proofs.{Common.{◌<◌, ◌∷◌, [], take, get_or, length, sym, refl, ap, ◌∙◌, arith, Option}, lemmas.List.{take_more, take_all}}
+use Rattle.mdp_rows.specs.{Preds.{pair}, declared.preds.Pred.{Pred}}
+use Rattle.mdp_graph.specs.{declared.forest.Way.{Way}, Forest.{uses}}
+use Rattle.mdp_graph.proofs.{Cutting.{cut_none, cut_more, cut_one, cut_skip, from_at, read-way}, forest.cut.Goals.{then-uses+in_ok-push, else-uses}}
 use Rattle.mdp_graph.proofs.forest.cut.Goals as goal
 
 pub index-requires : goal.index-requires

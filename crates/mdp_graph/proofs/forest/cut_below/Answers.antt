@@ -1,6 +1,5 @@
-use Rattle.std.proofs.Common.{◌≡◌, ◌++◌, ◌∷◌, [], ap, ◌∙◌, length, length-append, List, sym}
+use Rattle.std.proofs.Common.{◌≡◌, ◌++◌, ◌∷◌, [], ap, ◌∙◌, length, length-append, List, sym, arith}
 use Rattle.mdp_graph.proofs.Pruning.{pruning, pruning_more, popped_below}
-use Rattle.std.proofs.Common.{arith}
 use Rattle.mdp_rows.specs.declared.preds.Pred.{Pred}
 use Rattle.mdp_graph.specs.Waiting.{is_one_of}
 use Rattle.mdp_graph.proofs.forest.cut_below.Goals as goal

@@ -1,9 +1,7 @@
-use Rattle.std.proofs.Common.{◌++◌, [], None, take, List, sym, ap, ◌∙◌, arith}
+use Rattle.std.proofs.{Common.{◌++◌, [], None, take, List, sym, ap, ◌∙◌, arith}, lemmas.List.{take_all}}
 use Rattle.mdp_rows.specs.declared.preds.Pred.{Pred}
 use Rattle.mdp_graph.specs.Waiting.{leading_to, is_one_of}
-use Rattle.mdp_graph.proofs.Releasing.{leading-more}
-use Rattle.mdp_graph.proofs.Cutting.{cut_none, cut_more, from_part}
-use Rattle.std.proofs.lemmas.List.{take_all}
+use Rattle.mdp_graph.proofs.{Releasing.{leading-more}, Cutting.{cut_none, cut_more, from_part}}
 use Rattle.mdp_graph.proofs.forest.cut_choices.Goals as goal
 
 pub cut-requires : goal.cut-requires

@@ -1,6 +1,5 @@
 use Rattle.std.proofs.Common.{take, [], None}
-use Rattle.mdp_graph.specs.Waiting.{leading_to}
-use Rattle.mdp_graph.specs.Forest.{IsCut}
+use Rattle.mdp_graph.specs.{Waiting.{leading_to}, Forest.{IsCut}}
 use Rattle.mdp_graph.proofs.forest.cut_choices.Given as goal
 
 abbrev pub invariant-loop-t : goal.invariant-loop-t

@@ -1,14 +1,9 @@
-use Rattle.std.proofs.Common.{◌≡◌, true, inl, inr, sym, ap, ◌∙◌, arith}
-use Rattle.std.proofs.lemmas.Bool.{false≢true, cases_eq}
+use Rattle.std.proofs.{Common.{◌≡◌, true, inl, inr, sym, ap, ◌∙◌, arith}, lemmas.Bool.{false≢true, cases_eq}}
 use Rattle.mdp_spec.specs.Mdp.{row_at}
 use Rattle.mdp_rows.specs.Preds.{is_among, leads_to}
-use Rattle.mdp_graph.specs.Forest.{attached}
-use Rattle.mdp_graph.specs.Waiting.{waits}
-use Rattle.mdp_graph.proofs.Among.{among-below}
-use Rattle.mdp_graph.proofs.EdgeFacts.{leads-as-among}
-use Rattle.mdp_graph.proofs.Seeking.{found_some}
+use Rattle.mdp_graph.specs.{Forest.{attached}, Waiting.{waits}}
+use Rattle.mdp_graph.proofs.{Among.{among-below}, EdgeFacts.{leads-as-among}, Seeking.{found_some}, forest.new_way.Goals.{then-at+in_default, else-at}}
 use Rattle.mdp_math.proofs.Booleans.{and-left, and-right}
-use Rattle.mdp_graph.proofs.forest.new_way.Goals.{then-at+in_default, else-at}
 use Rattle.mdp_graph.proofs.forest.new_way.Goals as goal
 
 pub returns-in-Some : goal.returns-in-Some

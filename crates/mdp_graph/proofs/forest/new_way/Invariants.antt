@@ -1,8 +1,7 @@
 use Rattle.std.proofs.Common.{◌≡◌, ◌<◌, ℕ, true, false}
 use Rattle.mdp_spec.specs.Mdp.{states_of, row_at}
 use Rattle.mdp_rows.specs.Preds.{leads_to}
-use Rattle.mdp_graph.specs.Waiting.{waits}
-use Rattle.mdp_graph.specs.Forest.{attached}
+use Rattle.mdp_graph.specs.{Waiting.{waits}, Forest.{attached}}
 use Rattle.mdp_graph.proofs.forest.new_way.Given as goal
 
 abbrev pub invariant-loop-c : goal.invariant-loop-c

@@ -1,12 +1,8 @@
 use Rattle.std.proofs.Common.{◌≡◌, inl, inr, ◌<◌, ◌&&◌, false, not, [], get_or, length, refl, sym, ap, ◌∙◌, arith, List, Option, Some, None, is_some}
-use Rattle.mdp_graph.specs.declared.forest.Way.{Way}
-use Rattle.mdp_graph.specs.Forest.{attached, way_at}
-use Rattle.mdp_graph.proofs.Pruning.{cases_way}
-use Rattle.mdp_graph.proofs.Seeking.{found_taken, found_kept}
-use Rattle.mdp_graph.proofs.Taking.{grown_set, taken_set, taken_more}
-use Rattle.mdp_math.proofs.Booleans.{and-false}
+use Rattle.mdp_graph.specs.{declared.forest.Way.{Way}, Forest.{attached, way_at}}
+use Rattle.mdp_graph.proofs.{Pruning.{cases_way}, Seeking.{found_taken, found_kept}, Taking.{grown_set, taken_set, taken_more, grown_start, taken_none}}
 use Rattle.mdp_graph.proofs.forest.take_found.Goals.{in-Some+then-not-is_attached+in_ok-push, in-Some+else-not-is_attached, in_default}
-use Rattle.mdp_graph.proofs.Taking.{grown_start, taken_none}
+use Rattle.mdp_math.proofs.Booleans.{and-false}
 use Rattle.mdp_graph.proofs.forest.take_found.Goals as goal
 
 pub loop-i-preserved : goal.loop-i-preserved

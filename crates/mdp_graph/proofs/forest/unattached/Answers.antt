@@ -1,9 +1,7 @@
-use Rattle.std.proofs.Common.{not, sym, ap, ◌∙◌, ◌&&◌, ℕ, List}
-use Rattle.std.proofs.lemmas.List.{take_all}
+use Rattle.std.proofs.{Common.{not, sym, ap, ◌∙◌, ◌&&◌, ℕ, List}, lemmas.List.{take_all}}
 use Rattle.mdp_rows.specs.Preds.{is_among}
 use Rattle.mdp_graph.specs.Forest.{attached}
-use Rattle.mdp_graph.proofs.Among.{passing_more, passing_skip}
-use Rattle.mdp_graph.proofs.forest.unattached.Goals.{then-not-is_attached+in_ok-push, else-not-is_attached}
+use Rattle.mdp_graph.proofs.{Among.{passing_more, passing_skip}, forest.unattached.Goals.{then-not-is_attached+in_ok-push, else-not-is_attached}}
 use Rattle.mdp_graph.proofs.forest.unattached.Goals as goal
 
 pub loop-s-init : goal.loop-s-init

@@ -1,6 +1,4 @@
-use Rattle.mdp_graph.proofs.Certainty.{choices_miss}
-use Rattle.mdp_graph.proofs.PassLaws.{policy_avoids}
-use Rattle.mdp_graph.proofs.PolicyMeets.{rest_meets}
+use Rattle.mdp_graph.proofs.{Certainty.{choices_miss}, PassLaws.{policy_avoids}, PolicyMeets.{rest_meets}}
 use Rattle.mdp_graph.proofs.laws.avoid_law.Goals as goal
 
 pub returns-clause-avoids : goal.returns-clause-avoids

@@ -1,5 +1,4 @@
-use Rattle.mdp_graph.proofs.Missing.{trees_miss}
-use Rattle.mdp_graph.proofs.RoundLaws.{rounds_fall, zero_is_sure}
+use Rattle.mdp_graph.proofs.{Missing.{trees_miss}, RoundLaws.{rounds_fall, zero_is_sure}}
 use Rattle.mdp_graph.proofs.laws.rounds_law.Goals as goal
 
 pub returns-clause-fall : goal.returns-clause-fall

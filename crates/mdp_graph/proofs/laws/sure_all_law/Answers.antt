@@ -1,6 +1,4 @@
-use Rattle.mdp_graph.proofs.Certainty.{trees_arrive}
-use Rattle.mdp_graph.proofs.Missing.{joined_misses}
-use Rattle.mdp_graph.proofs.PassLaws.{stays_sure}
+use Rattle.mdp_graph.proofs.{Certainty.{trees_arrive}, Missing.{joined_misses}, PassLaws.{stays_sure}}
 use Rattle.mdp_graph.proofs.laws.sure_all_law.Goals as goal
 
 pub returns-clause-stays : goal.returns-clause-stays

@@ -1,5 +1,4 @@
-use Rattle.mdp_graph.proofs.Certainty.{choices_arrive}
-use Rattle.mdp_graph.proofs.PolicyLaws.{choices_are_sure, sure_are_marked}
+use Rattle.mdp_graph.proofs.{Certainty.{choices_arrive}, PolicyLaws.{choices_are_sure, sure_are_marked}}
 use Rattle.mdp_graph.proofs.laws.sure_some_law.Goals as goal
 
 pub returns-clause-policy : goal.returns-clause-policy

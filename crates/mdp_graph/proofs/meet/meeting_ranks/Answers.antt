@@ -1,10 +1,8 @@
 use Rattle.std.proofs.Common.{sym, ap, ◌∙◌, arith}
 use Rattle.mdp_spec.specs.Mdp.{states_of}
 use Rattle.mdp_rows.specs.Preds.{is_among}
-use Rattle.mdp_graph.specs.Sets.{marked}
-use Rattle.mdp_graph.specs.Meet.{must_step}
-use Rattle.mdp_graph.proofs.Among.{below-all}
-use Rattle.mdp_graph.proofs.Meeting.{meeting, meeting_seen, fewer_seen, met_all, must_respects}
+use Rattle.mdp_graph.specs.{Sets.{marked}, Meet.{must_step}}
+use Rattle.mdp_graph.proofs.{Among.{below-all}, Meeting.{meeting, meeting_seen, fewer_seen, met_all, must_respects}}
 use Rattle.mdp_graph.proofs.NextMet.{none_met_yet, met_next, unmet, is_zero, above_zero}
 use Rattle.mdp_graph.proofs.meet.meeting_ranks.Goals as goal
 

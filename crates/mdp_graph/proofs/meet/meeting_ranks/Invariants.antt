@@ -1,8 +1,5 @@
 use Rattle.mdp_spec.specs.Mdp.{states_of}
-use Rattle.mdp_graph.specs.Sets.{marked}
-use Rattle.mdp_graph.specs.Meet.{must_step}
-use Rattle.mdp_graph.specs.NextLayer.{AreLayers}
-use Rattle.mdp_graph.specs.Ranking.{unranked}
+use Rattle.mdp_graph.specs.{Sets.{marked}, Meet.{must_step}, NextLayer.{AreLayers}, Ranking.{unranked}}
 use Rattle.mdp_graph.proofs.Meeting.{IsMeeting}
 use Rattle.mdp_graph.proofs.meet.meeting_ranks.Given as goal
 

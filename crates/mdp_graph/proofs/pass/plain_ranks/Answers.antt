@@ -1,5 +1,4 @@
-use Rattle.std.proofs.Common.{None, ap, ◌∙◌, map, List, Option, ℕ}
-use Rattle.std.proofs.lemmas.List.{take_all}
+use Rattle.std.proofs.{Common.{None, ap, ◌∙◌, map, List, Option, ℕ}, lemmas.List.{take_all}}
 use Rattle.mdp_graph.specs.Choices.{plain_rank}
 use Rattle.mdp_graph.proofs.Collecting.{mapped}
 use Rattle.mdp_graph.proofs.pass.plain_ranks.Goals as goal

@@ -1,10 +1,7 @@
-use Rattle.std.proofs.Common.{ap, sym, ◌∙◌, List, ℕ}
+use Rattle.std.proofs.{Common.{ap, sym, ◌∙◌, List, ℕ}, lemmas.List.{take_all}}
 use Rattle.std.specs.List.{list_any}
-use Rattle.std.proofs.lemmas.List.{take_all}
-use Rattle.mdp_graph.specs.Layers.{rank_at}
-use Rattle.mdp_graph.specs.Choices.{is_before}
-use Rattle.mdp_graph.proofs.RowSets.{list_any-by}
-use Rattle.mdp_graph.proofs.Collecting.{any_more}
+use Rattle.mdp_graph.specs.{Layers.{rank_at}, Choices.{is_before}}
+use Rattle.mdp_graph.proofs.{RowSets.{list_any-by}, Collecting.{any_more}}
 use Rattle.mdp_graph.proofs.pass.some_before.Goals as goal
 
 pub loop-t-preserved : goal.loop-t-preserved

@@ -1,8 +1,7 @@
 use Rattle.std.proofs.Common.{◌≡◌, ◌<◌, ◌∷◌, [], take, get_or, length, not, is_none, None, ℕ, sym, ap, ◌∙◌, arith, refl}
 use Rattle.std.proofs.lemmas.List.{take_more, take_all, get_or_default}
 use Rattle.mdp_graph.specs.Layers.{rank_at}
-use Rattle.mdp_graph.proofs.GivingRanks.{given_none, given_more, given_one, kept_one}
-use Rattle.mdp_graph.proofs.Meeting.{none_is}
+use Rattle.mdp_graph.proofs.{GivingRanks.{given_none, given_more, given_one, kept_one}, Meeting.{none_is}}
 use Rattle.mdp_graph.proofs.ranking.give_rank.Goals.{then-is_none+in_ok-push, else-is_none}
 use Rattle.mdp_graph.proofs.ranking.give_rank.Goals as goal
 

@@ -1,6 +1,5 @@
 use Rattle.std.proofs.Common.{sym, ◌∙◌, arith}
-use Rattle.mdp_graph.proofs.RankFacts.{none_marked, marked_more, marked_skip}
-use Rattle.mdp_graph.proofs.ranking.marked_states.Goals.{then-at+in_ok-push, else-at}
+use Rattle.mdp_graph.proofs.{RankFacts.{none_marked, marked_more, marked_skip}, ranking.marked_states.Goals.{then-at+in_ok-push, else-at}}
 use Rattle.mdp_graph.proofs.ranking.marked_states.Goals as goal
 
 pub loop-s-init : goal.loop-s-init

@@ -1,10 +1,7 @@
-use Rattle.std.proofs.Common.{sym, ap, ◌∙◌, ◌++◌, take, List, ℕ, arith}
-use Rattle.std.proofs.lemmas.List.{take_all}
+use Rattle.std.proofs.{Common.{sym, ap, ◌∙◌, ◌++◌, take, List, ℕ, arith}, lemmas.List.{take_all}}
 use Rattle.mdp_rows.specs.Preds.{is_among}
 use Rattle.mdp_graph.specs.Edges.{predecessors_of}
-use Rattle.mdp_graph.proofs.Among.{below-all}
-use Rattle.mdp_graph.proofs.GivingRanks.{given_none, given_more}
-use Rattle.mdp_graph.proofs.Releasing.{leading-more}
+use Rattle.mdp_graph.proofs.{Among.{below-all}, GivingRanks.{given_none, given_more}, Releasing.{leading-more}}
 use Rattle.mdp_graph.proofs.ranking.next_layer.Goals as goal
 
 pub loop-t-init : goal.loop-t-init

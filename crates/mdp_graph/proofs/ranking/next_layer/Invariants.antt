@@ -1,6 +1,5 @@
 use Rattle.std.proofs.Common.{take, []}
-use Rattle.mdp_graph.specs.Edges.{predecessors_of}
-use Rattle.mdp_graph.specs.Ranking.{IsGiven}
+use Rattle.mdp_graph.specs.{Edges.{predecessors_of}, Ranking.{IsGiven}}
 use Rattle.mdp_graph.proofs.ranking.next_layer.Given as goal
 
 abbrev pub invariant-loop-t : goal.invariant-loop-t

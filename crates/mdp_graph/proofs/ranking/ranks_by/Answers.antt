@@ -1,11 +1,7 @@
-use Rattle.std.proofs.Common.{sym, ap, ◌∙◌, arith, None, Option, ℕ, length, ◌≡◌}
-use Rattle.std.proofs.lemmas.List.{length-replicate}
+use Rattle.std.proofs.{Common.{sym, ap, ◌∙◌, arith, None, Option, ℕ, length, ◌≡◌, subst}, lemmas.List.{length-replicate}}
 use Rattle.mdp_rows.specs.Preds.{is_among}
-use Rattle.mdp_graph.proofs.Among.{below-all}
-use Rattle.mdp_graph.proofs.RankFacts.{started, layered_from, ended}
-use Rattle.std.proofs.Common.{subst}
+use Rattle.mdp_graph.proofs.{Among.{below-all}, RankFacts.{started, layered_from, ended}, NextMet.{is_zero, above_zero}}
 use Rattle.mdp_graph.specs.Edges.{AreEdges}
-use Rattle.mdp_graph.proofs.NextMet.{is_zero, above_zero}
 use Rattle.mdp_graph.proofs.ranking.ranks_by.Goals as goal
 
 pub give_rank-requires : goal.give_rank-requires

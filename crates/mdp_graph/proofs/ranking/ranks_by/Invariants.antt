@@ -1,6 +1,5 @@
 use Rattle.std.proofs.Common.{◌+◌, length}
-use Rattle.mdp_graph.specs.Sets.{marked}
-use Rattle.mdp_graph.specs.Ranking.{unranked}
+use Rattle.mdp_graph.specs.{Sets.{marked}, Ranking.{unranked}}
 use Rattle.mdp_graph.proofs.RankFacts.{IsLayered}
 use Rattle.mdp_graph.proofs.ranking.ranks_by.Given as goal
 

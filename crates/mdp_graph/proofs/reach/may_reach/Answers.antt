@@ -1,5 +1,4 @@
-use Rattle.std.proofs.Common.{ap, ◌∙◌, ℕ, true, replicate, length}
-use Rattle.std.proofs.lemmas.List.{length-replicate}
+use Rattle.std.proofs.{Common.{ap, ◌∙◌, ℕ, true, replicate, length}, lemmas.List.{length-replicate}}
 use Rattle.mdp_graph.proofs.MayReach.{may_seen, may_choices}
 use Rattle.mdp_graph.proofs.reach.may_reach.Goals as goal
 

@@ -1,7 +1,5 @@
-use Rattle.std.proofs.Common.{subst, ℕ, Vec, Option, Global}
-use Rattle.std.proofs.lemmas.Result.{IfOk-weaker}
-use Rattle.mdp_graph.specs.Sets.{marked}
-use Rattle.mdp_graph.specs.Ranking.{AreRankedBy, AreRanksAlong}
+use Rattle.std.proofs.{Common.{subst, ℕ, Vec, Option, Global}, lemmas.Result.{IfOk-weaker}}
+use Rattle.mdp_graph.specs.{Sets.{marked}, Ranking.{AreRankedBy, AreRanksAlong}}
 use Rattle.mdp_graph.proofs.reach.ranks_along.Goals as goal
 
 pub returns : goal.returns

@@ -1,10 +1,6 @@
-use Rattle.std.proofs.Common.{subst, ℕ, length, Vec, Option, Global}
-use Rattle.std.proofs.lemmas.Result.{IfOk-weaker}
-use Rattle.mdp_graph.specs.Sets.{marked}
-use Rattle.mdp_graph.specs.Reach.{row_step}
-use Rattle.mdp_graph.specs.Ranking.{AreRankedBy}
-use Rattle.mdp_graph.proofs.Reached.{ranked}
-use Rattle.mdp_graph.proofs.Steps.{row_leads, row_follows}
+use Rattle.std.proofs.{Common.{subst, ℕ, length, Vec, Option, Global}, lemmas.Result.{IfOk-weaker}}
+use Rattle.mdp_graph.specs.{Sets.{marked}, Reach.{row_step}, Ranking.{AreRankedBy}}
+use Rattle.mdp_graph.proofs.{Reached.{ranked}, Steps.{row_leads, row_follows}}
 use Rattle.mdp_graph.proofs.reach.row_ranks.Goals as goal
 
 pub returns : goal.returns

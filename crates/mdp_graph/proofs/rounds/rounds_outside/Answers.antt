@@ -1,6 +1,5 @@
 use Rattle.std.proofs.Common.{map, ap, sym, ◌∙◌, subst, List, Option, ℕ}
-use Rattle.mdp_graph.specs.Choices.{plain_rank}
-use Rattle.mdp_graph.specs.Rounds.{AreRounds}
+use Rattle.mdp_graph.specs.{Choices.{plain_rank}, Rounds.{AreRounds}}
 use Rattle.mdp_graph.proofs.rounds.rounds_outside.Goals as goal
 
 pub returns : goal.returns

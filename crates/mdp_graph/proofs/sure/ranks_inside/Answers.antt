@@ -1,13 +1,7 @@
-use Rattle.std.proofs.Common.{◌≡◌, ◌<◌, ℕ, ap, ◌∙◌, not, ◌&&◌, Bool, List, false, arith}
-use Rattle.std.proofs.lemmas.List.{get_or-replicate}
+use Rattle.std.proofs.{Common.{◌≡◌, ◌<◌, ℕ, ap, ◌∙◌, not, ◌&&◌, Bool, List, false, arith, length}, lemmas.List.{get_or-replicate, length-replicate}}
 use Rattle.mdp_spec.specs.Mdp.{states_of}
-use Rattle.mdp_graph.specs.Sets.{marked}
-use Rattle.mdp_graph.specs.Edges.{has_edge, has_choice_to}
-use Rattle.mdp_graph.specs.Sure.{inside_step}
-use Rattle.mdp_graph.proofs.Reached.{ranked}
-use Rattle.mdp_graph.proofs.StepsInside.{inside_leads, inside_follows}
-use Rattle.std.proofs.Common.{length}
-use Rattle.std.proofs.lemmas.List.{length-replicate}
+use Rattle.mdp_graph.specs.{Sets.{marked}, Edges.{has_edge, has_choice_to}, Sure.{inside_step}}
+use Rattle.mdp_graph.proofs.{Reached.{ranked}, StepsInside.{inside_leads, inside_follows}}
 use Rattle.mdp_graph.proofs.sure.ranks_inside.Goals as goal
 
 pub returns : goal.returns

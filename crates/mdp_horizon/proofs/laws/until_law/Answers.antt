@@ -1,5 +1,4 @@
-use Rattle.mdp_horizon.proofs.Answering.{answers_are_greatest, answers_are_least, bounded_max_unique, bounded_min_unique}
-use Rattle.mdp_horizon.proofs.Hitting.{until_is_hit}
+use Rattle.mdp_horizon.proofs.{Answering.{answers_are_greatest, answers_are_least, bounded_max_unique, bounded_min_unique}, Hitting.{until_is_hit}}
 use Rattle.mdp_horizon.proofs.laws.until_law.Goals as goal
 
 pub returns : goal.returns

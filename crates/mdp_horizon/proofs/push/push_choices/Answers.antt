@@ -1,5 +1,4 @@
-use Rattle.std.proofs.Common.{◌≡◌, ℕ, ◌+◌, ◌<◌, List, ◌∷◌, ◌++◌, length, take, get_or, decimal, ap, sym, ◌∙◌}
-use Rattle.std.proofs.lemmas.List.{take_more, flat_map_more}
+use Rattle.std.proofs.{Common.{◌≡◌, ℕ, ◌+◌, ◌<◌, List, ◌∷◌, ◌++◌, length, take, get_or, decimal, ap, sym, ◌∙◌}, lemmas.List.{take_more, flat_map_more}}
 use Rattle.mdp_text.proofs.Fronts.{keeps_more}
 use Rattle.mdp_horizon.specs.Spelling.{choice_words}
 use Rattle.mdp_horizon.proofs.push.push_choices.Goals as goal

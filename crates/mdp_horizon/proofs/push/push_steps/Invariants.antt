@@ -1,7 +1,6 @@
 use Rattle.std.proofs.Common.{◌≡◌, ◌++◌, drop}
 use Rattle.mdp_text.specs.Answer.{Keeps}
-use Rattle.mdp_horizon.specs.Spelling.{step_lines}
-use Rattle.mdp_horizon.specs.Answer.{lists}
+use Rattle.mdp_horizon.specs.{Spelling.{step_lines}, Answer.{lists}}
 use Rattle.mdp_horizon.proofs.push.push_steps.Given as goal
 
 abbrev pub invariant-loop-done : goal.invariant-loop-done

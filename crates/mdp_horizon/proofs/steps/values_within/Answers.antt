@@ -1,10 +1,7 @@
 use Rattle.std.proofs.Common.{◌≡◌, ◌∙◌, ◌+◌, ◌++◌, ◌∷◌, [], length, map, reverse, ℕ, List, Vec, Global, Result, Ok, sym, ap, ap₂, arith}
-use Rattle.std.proofs.lemmas.List.{reverse-append}
-use Rattle.std.proofs.lemmas.Result.{err_from_is_err_and}
+use Rattle.std.proofs.{lemmas.List.{reverse-append}, lemmas.Result.{err_from_is_err_and}}
 use Rattle.mdp_math.specs.Rational.{ℚ}
-use Rattle.mdp_horizon.specs.Written.{Place, Answer, backups, next_step, no_steps, with_step}
-use Rattle.mdp_horizon.specs.Code.{plain_objective}
-use Rattle.mdp_horizon.specs.Answer.{row_of}
+use Rattle.mdp_horizon.specs.{Written.{Place, Answer, backups, next_step, no_steps, with_step}, Code.{plain_objective}, Answer.{row_of}}
 use Rattle.mdp_horizon.proofs.Exact.{length-endings, backups-length, step_made, step_refused}
 use Rattle.mdp_horizon.proofs.Turns.{in_turn-more, in_turn-refused, says_of, says_then, says_same, answers_err}
 use Rattle.mdp_horizon.proofs.steps.values_within.Goals as goal

@@ -1,7 +1,6 @@
 use Rattle.std.proofs.Common.{◌≡◌, length, map, reverse, Ok}
 use Rattle.mdp_spec.specs.Mdp.{states_of}
-use Rattle.mdp_horizon.specs.Written.{in_turn, next_step, no_steps}
-use Rattle.mdp_horizon.specs.Code.{plain_objective}
+use Rattle.mdp_horizon.specs.{Written.{in_turn, next_step, no_steps}, Code.{plain_objective}}
 use Rattle.mdp_horizon.proofs.steps.values_within.Given as goal
 
 abbrev pub invariant-loop-done : goal.invariant-loop-done

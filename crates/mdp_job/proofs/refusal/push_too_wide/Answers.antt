@@ -1,8 +1,7 @@
 use Rattle.std.proofs.Common.{◌∷◌, [], codes, decimal}
 use Rattle.mdp_drn.proofs.TextWritten.Appending.{three-pieces}
 use Rattle.mdp_wide.specs.Term.{shown}
-use Rattle.mdp_job.specs.Text.{part_word, kind_word, place_text, policy_words, too_wide_text}
-use Rattle.mdp_job.specs.WideLines.{wide_place, policy_line}
+use Rattle.mdp_job.specs.{Text.{part_word, kind_word, place_text, policy_words, too_wide_text}, WideLines.{wide_place, policy_line}}
 use Rattle.mdp_job.proofs.WideText.{two_lines}
 use Rattle.mdp_text.proofs.Fronts.{keeps_more}
 use Rattle.mdp_job.proofs.refusal.push_too_wide.Goals as goal

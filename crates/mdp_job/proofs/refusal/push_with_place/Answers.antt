@@ -1,5 +1,4 @@
-use Rattle.std.proofs.Common.{arith}
-use Rattle.std.proofs.lemmas.Grind.{common_steps}
+use Rattle.std.proofs.{Common.{arith}, lemmas.Grind.{common_steps}}
 use Rattle.mdp_text.proofs.Fronts.{keeps_more}
 use Rattle.mdp_job.proofs.refusal.push_with_place.Goals as goal
 

@@ -1,7 +1,6 @@
 use Rattle.mdp_spec.specs.Mdp.{states_of}
 use Rattle.mdp_policy_iteration.proofs.Results.{up_to-is}
-use Rattle.mdp_mean.specs.Code.{joining_in}
-use Rattle.mdp_mean.specs.Join.{constant}
+use Rattle.mdp_mean.specs.{Code.{joining_in}, Join.{constant}}
 use Rattle.mdp_mean.proofs.bias.bias_of.Goals as goal
 
 pub solution_of-requires-clause-constants : goal.solution_of-requires-clause-constants

@@ -1,9 +1,7 @@
-use Rattle.std.proofs.Common.{◌≡◌, ◌∙◌, length, slice_index, sym, arith, rules}
-use Rattle.std.proofs.lemmas.List.FromFn.{length-map-range_with_len}
+use Rattle.std.proofs.{Common.{◌≡◌, ◌∙◌, length, slice_index, sym, arith, rules}, lemmas.List.FromFn.{length-map-range_with_len}}
 use Rattle.mdp_spec.specs.Mdp.{states_of, row_at}
 use Rattle.mdp_policy_iteration.proofs.Solving.{one_column, first_len, written_solution-below}
-use Rattle.mdp_mean.specs.Code.{joining_in}
-use Rattle.mdp_mean.specs.Join.{policy_rows}
+use Rattle.mdp_mean.specs.{Code.{joining_in}, Join.{policy_rows}}
 use Rattle.mdp_mean.proofs.bias.solution_of.Goals as goal
 
 pub solve_leaving-requires-clause-active : goal.solve_leaving-requires-clause-active

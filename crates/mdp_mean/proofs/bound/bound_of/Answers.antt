@@ -1,11 +1,8 @@
-use Rattle.std.proofs.Common.{◌∙◌, ◌+◌, Ok, Some, sym, ap, arith, slice_index}
-use Rattle.std.proofs.lemmas.Result.{err_from_is_err_and}
+use Rattle.std.proofs.{Common.{◌∙◌, ◌+◌, Ok, Some, sym, ap, arith, slice_index}, lemmas.Result.{err_from_is_err_and}}
 use Rattle.mdp_wide.specs.declared.too_wide.Kind.TheVariants.{Compare}
 use Rattle.mdp_spec.specs.Mdp.{states_of}
 use Rattle.mdp_policy_iteration.proofs.Answering.{up_to-more, up_to-refused}
-use Rattle.mdp_mean.specs.Code.{joining_in}
-use Rattle.mdp_mean.specs.Join.{bounding, bound_at}
-use Rattle.mdp_mean.specs.Terms.{bound_by}
+use Rattle.mdp_mean.specs.{Code.{joining_in}, Join.{bounding, bound_at}, Terms.{bound_by}}
 use Rattle.mdp_mean.proofs.Answering.{at-ok, at-err, placed-ok, placed-err, says, answers_err}
 use Rattle.mdp_mean.proofs.bound.bound_of.Goals as goal
 

@@ -1,8 +1,6 @@
-use Rattle.std.proofs.Common.{◌∙◌, ◌+◌, length, arith}
-use Rattle.std.proofs.lemmas.Result.{err_from_is_err_and}
+use Rattle.std.proofs.{Common.{◌∙◌, ◌+◌, length, arith}, lemmas.Result.{err_from_is_err_and}}
 use Rattle.mdp_spec.specs.Mdp.{choices_at}
-use Rattle.mdp_mean.specs.Code.{joining_in}
-use Rattle.mdp_mean.specs.Join.{after_choice}
+use Rattle.mdp_mean.specs.{Code.{joining_in}, Join.{after_choice}}
 use Rattle.mdp_mean.proofs.Answering.{steps-more, steps-refused, answers_err, says_same, Says-then}
 use Rattle.mdp_mean.proofs.excess.after_state.Goals as goal
 

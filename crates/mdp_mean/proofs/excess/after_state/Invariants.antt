@@ -1,6 +1,5 @@
 use Rattle.std.proofs.Common.{◌≡◌, Ok}
-use Rattle.mdp_mean.specs.Code.{joining_in}
-use Rattle.mdp_mean.specs.Join.{steps_to, after_choice}
+use Rattle.mdp_mean.specs.{Code.{joining_in}, Join.{steps_to, after_choice}}
 use Rattle.mdp_mean.proofs.excess.after_state.Given as goal
 
 abbrev pub invariant-loop-c : goal.invariant-loop-c

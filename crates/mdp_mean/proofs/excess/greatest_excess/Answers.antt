@@ -1,9 +1,7 @@
-use Rattle.std.proofs.Common.{◌∙◌, ◌+◌, arith}
-use Rattle.std.proofs.lemmas.Result.{err_from_is_err_and}
+use Rattle.std.proofs.{Common.{◌∙◌, ◌+◌, arith}, lemmas.Result.{err_from_is_err_and}}
 use Rattle.mdp_spec.specs.Mdp.{states_of}
 use Rattle.mdp_farkas.specs.Compare.{0ℚ}
-use Rattle.mdp_mean.specs.Code.{joining_in}
-use Rattle.mdp_mean.specs.Join.{after_state}
+use Rattle.mdp_mean.specs.{Code.{joining_in}, Join.{after_state}}
 use Rattle.mdp_mean.proofs.Answering.{steps-more, steps-refused, answers_err, says_same, Says-then}
 use Rattle.mdp_mean.proofs.excess.greatest_excess.Goals as goal
 

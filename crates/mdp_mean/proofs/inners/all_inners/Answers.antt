@@ -1,12 +1,9 @@
-use Rattle.std.proofs.Common.{◌≡◌, ℕ, suc, ◌+◌, List, length, sym, subst, arith, get_or, ◌<◌}
-use Rattle.std.proofs.lemmas.Result.{err_from_is_err_and}
+use Rattle.std.proofs.{Common.{◌≡◌, ℕ, suc, ◌+◌, List, length, sym, subst, arith, get_or, ◌<◌}, lemmas.Result.{err_from_is_err_and}}
 use Rattle.mdp_spec.specs.Mdp.{states_of}
 use Rattle.mdp_gain.specs.Query.{members, plain}
 use Rattle.mdp_gain.specs.Query as inner
-use Rattle.mdp_mean.specs.Inners.{InnersEndSo}
-use Rattle.mdp_mean.specs.PartsCode.{inners_in}
-use Rattle.mdp_mean.proofs.Adding.{Keeps, keeps-one, refused-at, members-below}
-use Rattle.mdp_mean.proofs.Passing.{solves-err, passed-on}
+use Rattle.mdp_mean.specs.{Inners.{InnersEndSo}, PartsCode.{inners_in}}
+use Rattle.mdp_mean.proofs.{Adding.{Keeps, keeps-one, refused-at, members-below}, Passing.{solves-err, passed-on}}
 use Rattle.mdp_mean.proofs.inners.all_inners.Goals as goal
 
 pub returns-in_err-found-clause-path : goal.returns-in_err-found-clause-path

@@ -1,7 +1,5 @@
 use Rattle.mdp_rows.specs.declared.dir.Dir.TheVariants.{Max, Min}
-use Rattle.mdp_mean.proofs.OneEnd.{one_query_end}
-use Rattle.mdp_mean.proofs.Joinings.{joining-ends, answer-joined}
-use Rattle.mdp_mean.proofs.Certified.{joined-meets, answer-meets, answer-max, answer-min}
+use Rattle.mdp_mean.proofs.{OneEnd.{one_query_end}, Joinings.{joining-ends, answer-joined}, Certified.{joined-meets, answer-meets, answer-max, answer-min}}
 use Rattle.mdp_mean.proofs.HasEnd.{query_end}
 use Rattle.mdp_mean.proofs.laws.mean_law.Goals as goal
 

@@ -1,5 +1,4 @@
-use Rattle.std.proofs.Common.{◌∙◌, ◌++◌, ◌∷◌, [], List, sym, ap₂, zero-add}
-use Rattle.std.proofs.lemmas.List.FromFn.{map-range_with_len_more}
+use Rattle.std.proofs.{Common.{◌∙◌, ◌++◌, ◌∷◌, [], List, sym, ap₂, zero-add}, lemmas.List.FromFn.{map-range_with_len_more}}
 use Rattle.mdp_math.specs.Rational.{ℚ}
 use Rattle.mdp_mean.proofs.parts.at_nodes.Goals as goal
 

@@ -1,6 +1,5 @@
 use Rattle.std.proofs.Common.{◌≡◌, map}
-use Rattle.std.specs.List.{range_with_len}
-use Rattle.std.specs.Prelude.{slice_index}
+use Rattle.std.specs.{List.{range_with_len}, Prelude.{slice_index}}
 use Rattle.mdp_spec.specs.Mdp.{value_at}
 use Rattle.mdp_mean.proofs.parts.at_nodes.Given as goal
 

@@ -6,15 +6,11 @@ use Rattle.mdp_wide.specs.Errors.{SolveError}
 use Rattle.mdp_policy_iteration.specs.Queries.{Solves}
 use Rattle.mdp_ends.specs.Toward.{IsOuter, lifted}
 use Rattle.mdp_quot.specs.Lifting.{IsInner}
-use Rattle.mdp_quot_exits.proofs.InModel.{node_below}
+use Rattle.mdp_quot.proofs.InModel.{node_below}
 use Rattle.mdp_farkas.specs.Mean.{MeetsMean}
-use Rattle.mdp_mean.specs.Terms.{Joining}
-use Rattle.mdp_mean.specs.Join.{policy_rows, written_join}
-use Rattle.mdp_mean.specs.Code.{shown}
-use Rattle.mdp_mean.specs.Faults.{Says}
-use Rattle.mdp_mean.specs.PartsCode.{inners_in, joining_of}
+use Rattle.mdp_mean.specs.{Terms.{Joining}, Join.{policy_rows, written_join}, Code.{shown}, Faults.{Says}, PartsCode.{inners_in, joining_of}}
 use Rattle.mdp_mean.specs.Query.{Answer, plain, at_nodes, leaving, JoinEndsSo}
-use Rattle.mdp_quot_exits.specs.Outer as outer
+use Rattle.mdp_quot.specs.Outer as outer
 use Rattle.mdp_mean.proofs.Meets.{is_outer, choice-inner, policy-is, gains-len, steps-len, marks-len, can_leave, meets}
 use Rattle.mdp_mean.proofs.Passing.{same-joining, join-refused, join-held}
 use Rattle.mdp_mean.proofs.parts.join_parts.Goals as goal

@@ -1,6 +1,5 @@
 use Rattle.std.proofs.Common.{◌≡◌, map, not, ◌==◌}
-use Rattle.std.specs.List.{range_with_len}
-use Rattle.std.specs.Prelude.{slice_index}
+use Rattle.std.specs.{List.{range_with_len}, Prelude.{slice_index}}
 use Rattle.mdp_mean.proofs.parts.leaving.Given as goal
 
 abbrev pub invariant-loop-s : goal.invariant-loop-s

@@ -1,15 +1,12 @@
-use Rattle.std.proofs.Common.{◌∙◌, ap, subst, length, List, Ok, Err, Vec}
+use Rattle.std.proofs.{Common.{◌∙◌, ap, subst, length, List, Ok, Err, Vec}, lemmas.Result.{err_from_is_err_and}}
 use Rattle.std.specs.Global.{Global}
 use Rattle.mdp_num.specs.declared.frac.Frac.{Frac}
-use Rattle.std.proofs.lemmas.Result.{err_from_is_err_and}
 use Rattle.mdp_math.specs.Rational.{ℚ}
 use Rattle.mdp_policy_iteration.specs.Queries.{Solves}
-use Rattle.mdp_quot_exits.specs.Outer as outer
-use Rattle.mdp_quot_exits.specs.Steps.{StepsEndSo}
-use Rattle.mdp_quot_exits.proofs.InModel.{gains-each}
-use Rattle.mdp_mean.specs.Inners.{InnersEndSo}
-use Rattle.mdp_mean.specs.PartsCode.{inners_in}
-use Rattle.mdp_mean.specs.Query.{plain, joining, JoinEndsSo, EndsSo}
+use Rattle.mdp_quot.specs.Outer as outer
+use Rattle.mdp_quot.specs.Steps.{StepsEndSo}
+use Rattle.mdp_quot.proofs.InModel.{gains-each}
+use Rattle.mdp_mean.specs.{Inners.{InnersEndSo}, PartsCode.{inners_in}, Query.{plain, joining, JoinEndsSo, EndsSo}}
 use Rattle.mdp_mean.proofs.Passing.{solves-err, passed-on, goes-through, ends-inner, ends-outer, ends-steps, ends-join}
 use Rattle.mdp_mean.proofs.solve.solve_mean.Goals as goal
 

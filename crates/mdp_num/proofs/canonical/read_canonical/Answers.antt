@@ -1,5 +1,4 @@
-use Rattle.std.proofs.Common.{◌≡◌, arith}
-use Rattle.std.proofs.lemmas.Grind.{common_steps}
+use Rattle.std.proofs.{Common.{◌≡◌, arith}, lemmas.Grind.{common_steps}}
 use Rattle.mdp_num.specs.Canonical.{canonical_of}
 use Rattle.mdp_num.proofs.Spellings.{found, none}
 use Rattle.mdp_num.proofs.canonical.read_canonical.Goals as goal

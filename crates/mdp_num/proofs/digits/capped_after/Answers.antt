@@ -1,5 +1,4 @@
-use Rattle.std.proofs.Common.{◌≡◌, ℕ, ◌-◌, ◌++◌, List, length, take, drop, min, arith, ap, ◌∙◌}
-use Rattle.std.proofs.lemmas.List.{take-append-drop, take_all, length-drop}
+use Rattle.std.proofs.{Common.{◌≡◌, ℕ, ◌-◌, ◌++◌, List, length, take, drop, min, arith, ap, ◌∙◌}, lemmas.List.{take-append-drop, take_all, length-drop}}
 use Rattle.mdp_num.specs.Digits.{number_after}
 use Rattle.mdp_num.proofs.Zeros.{number_after-more, capped-twice}
 use Rattle.mdp_num.proofs.digits.capped_after.Goals as goal

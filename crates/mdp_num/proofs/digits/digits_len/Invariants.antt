@@ -1,6 +1,5 @@
 use Rattle.std.proofs.Common.{◌≡◌, ◌+◌, drop}
-use Rattle.std.specs.Char.{is_ascii_digit}
-use Rattle.std.specs.List.{prefix_len}
+use Rattle.std.specs.{Char.{is_ascii_digit}, List.{prefix_len}}
 use Rattle.mdp_num.proofs.digits.digits_len.Given as goal
 
 abbrev pub invariant-loop-place : goal.invariant-loop-place

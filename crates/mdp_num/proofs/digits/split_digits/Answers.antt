@@ -1,6 +1,5 @@
-use Rattle.std.proofs.Common.{arith}
+use Rattle.std.proofs.{Common.{arith}, lemmas.List.Sums.{prefix_len-le-length}}
 use Rattle.std.specs.Char.{is_ascii_digit}
-use Rattle.std.proofs.lemmas.List.Sums.{prefix_len-le-length}
 use Rattle.mdp_num.proofs.digits.split_digits.Goals as goal
 
 pub split_at-requires : goal.split_at-requires

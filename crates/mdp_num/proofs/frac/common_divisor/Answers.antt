@@ -1,5 +1,4 @@
-use Rattle.std.proofs.Common.{◌≡◌, ◌<◌, ◌^◌, ◌∙◌, ap, ap₂, arith, unsigned_abs, pos, sym, to_z, to_z-of_z}
-use Rattle.std.proofs.lemmas.Int.{ints, to_z_pos}
+use Rattle.std.proofs.{Common.{◌≡◌, ◌<◌, ◌^◌, ◌∙◌, ap, ap₂, arith, unsigned_abs, pos, sym, to_z, to_z-of_z}, lemmas.Int.{ints, to_z_pos}}
 use mir.Syntax.{w128}
 use Rattle.mdp_math.specs.Gcd.{gcd, gcd-le_right}
 use Rattle.mdp_num.proofs.Divisors.{divisor-one}

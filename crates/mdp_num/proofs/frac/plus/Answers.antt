@@ -1,5 +1,4 @@
-use Rattle.std.proofs.Common.{arith}
-use Rattle.std.proofs.lemmas.Int.{ints}
+use Rattle.std.proofs.{Common.{arith}, lemmas.Int.{ints}}
 use Rattle.mdp_math.proofs.Written.{narrow-kept, narrow-past}
 use Rattle.mdp_num.proofs.frac.plus.Goals as goal
 

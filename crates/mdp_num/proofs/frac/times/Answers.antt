@@ -1,6 +1,5 @@
 use Rattle.std.proofs.Common.{◌≡◌, ℤ, ◌*ℤ◌, ◌*◌, ◌<◌, ◌≤◌, ◌^◌, unsigned_abs, to_z, of_z, to_z-of_z, Some, arith, sym, ap, ap₂, subst, ◌∙◌}
-use Rattle.std.proofs.lemmas.Int.{ints, unsigned_abs-mul, fits_signed_from_abs}
-use Rattle.std.proofs.Math.Nat.{mul-le-mul}
+use Rattle.std.proofs.{lemmas.Int.{ints, unsigned_abs-mul, fits_signed_from_abs}, Math.Nat.{mul-le-mul}}
 use Rattle.std.specs.Prelude.{FitsSigned}
 use mir.Syntax.{w64, w128}
 use Rattle.mdp_math.specs.Written.{narrow}

@@ -1,12 +1,9 @@
-use Rattle.std.proofs.Common.{◌≡◌, ℕ, ◌+◌, ◌++◌, ◌==◌, List, min, cond, length, sym, ap, ◌∙◌, arith}
-use Rattle.std.proofs.lemmas.List.{length-append}
+use Rattle.std.proofs.{Common.{◌≡◌, ℕ, ◌+◌, ◌++◌, ◌==◌, List, min, cond, length, sym, ap, ◌∙◌, arith}, lemmas.List.{length-append}}
 use Rattle.std.proofs.lemmas.List.Sums.{suffix_len-le-length}
-use Rattle.mdp_num.specs.Digits.{number, number_after}
-use Rattle.mdp_num.specs.Numeral.{limit, significant, zeros_behind}
-use Rattle.mdp_num.proofs.Zeros.{capped-twice, zeros-all, zeros-some}
-use Rattle.mdp_num.proofs.Scale.{scaled-capped}
-use Rattle.mdp_num.proofs.numeral.decimal.Goals as goal
+use Rattle.mdp_num.specs.{Digits.{number, number_after}, Numeral.{limit, significant, zeros_behind}}
+use Rattle.mdp_num.proofs.{Zeros.{capped-twice, zeros-all, zeros-some}, Scale.{scaled-capped}}
 use Rattle.mdp_num.proofs.numeral.decimal.Goals.{then-zeros-places, else-zeros-places, then-negative, else-negative}
+use Rattle.mdp_num.proofs.numeral.decimal.Goals as goal
 
 pub returns : goal.returns
 returns c =

@@ -1,8 +1,8 @@
 use Rattle.std.proofs.Common.{◌-◌, ◌*◌, ◌^◌, ◌≤◌, sym, arith}
 use Rattle.mdp_num.specs.Numeral.{limit}
 use Rattle.mdp_num.proofs.Scale.{past_limit, past_tens, within_limit, scaled-large, scaled-whole}
-use Rattle.mdp_num.proofs.numeral.scale.Goals as goal
 use Rattle.mdp_num.proofs.numeral.scale.Goals.{then-tens-gt36-via-then-tens-gt36, then-tens-gt36-via-else-tens-gt36+then-d-power_of_ten}
+use Rattle.mdp_num.proofs.numeral.scale.Goals as goal
 
 pub returns-then-tens-gt36 : goal.returns-then-tens-gt36
 returns-then-tens-gt36 c =

@@ -1,5 +1,4 @@
-use Rattle.std.proofs.Common.{arith, ◌==◌}
-use Rattle.std.proofs.lemmas.List.Sums.{suffix_len-le-length}
+use Rattle.std.proofs.{Common.{arith, ◌==◌}, lemmas.List.Sums.{suffix_len-le-length}}
 use Rattle.mdp_num.proofs.Zeros.{significant-some, significant-none}
 use Rattle.mdp_num.proofs.numeral.without_zeros.Goals as goal
 

@@ -1,7 +1,7 @@
 use Rattle.std.proofs.Common.{◌≡◌, ◌%◌, ◌⊎◌, inl, inr, ◌∙◌, arith}
 use Rattle.mdp_num.proofs.Orders.{order_whole, order_end, order_step}
-use Rattle.mdp_num.proofs.order.fraction_order.Goals as goal
 use Rattle.mdp_num.proofs.order.fraction_order.Goals.{then-rest-eq0-via-then-rest-eq0, then-rest-eq0-via-else-rest-eq0+then-other_rest-eq0}
+use Rattle.mdp_num.proofs.order.fraction_order.Goals as goal
 
 pub returns-then-rest-eq0 : goal.returns-then-rest-eq0
 returns-then-rest-eq0 c =

@@ -1,7 +1,6 @@
 use Rattle.std.proofs.Common.{sym, ◌∙◌, arith}
 use borrow.Author.Count.{below_more}
-use Rattle.mdp_parts.proofs.Searching.{order_found, search_begins, search_as}
-use Rattle.mdp_parts.proofs.depth.depth_order.Goals.{then-not-at+in_ok-explore, else-not-at}
+use Rattle.mdp_parts.proofs.{Searching.{order_found, search_begins, search_as}, depth.depth_order.Goals.{then-not-at+in_ok-explore, else-not-at}}
 use Rattle.mdp_parts.proofs.depth.depth_order.Goals as goal
 
 pub loop-root-init : goal.loop-root-init

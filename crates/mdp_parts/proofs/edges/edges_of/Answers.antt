@@ -1,6 +1,5 @@
 use Rattle.std.proofs.Common.{ℕ, List, ◌++◌, ◌∷◌, [], ap, ◌∙◌, arith, subst, sym}
-use Rattle.mdp_parts.specs.Allowed.{allowed_at}
-use Rattle.mdp_parts.specs.Targets.{AreTargets}
+use Rattle.mdp_parts.specs.{Allowed.{allowed_at}, Targets.{AreTargets}}
 use Rattle.mdp_parts.proofs.Targeting.{none_in_one, one_state_more, all_targets}
 use Rattle.mdp_parts.proofs.edges.edges_of.Goals as goal
 

@@ -1,10 +1,8 @@
-use Rattle.std.proofs.Common.{◌<◌, sym, ap, ◌∙◌, arith, get_or, length, [], ℕ, List, ◌||◌, ◌&&◌, ◌==◌, subst}
-use Rattle.std.proofs.lemmas.List.{length-replicate}
+use Rattle.std.proofs.{Common.{◌<◌, sym, ap, ◌∙◌, arith, get_or, length, [], ℕ, List, ◌||◌, ◌&&◌, ◌==◌, subst}, lemmas.List.{length-replicate}}
 use Rattle.std.proofs.lemmas.Result.{IfOk-weaker}
 use Rattle.mdp_rows.specs.Preds.{is_among}
 use Rattle.mdp_graph.specs.Edges.{has_edge}
-use Rattle.mdp_graph.proofs.Among.{below-all}
-use Rattle.mdp_graph.proofs.EdgeFacts.{nothing_before, state_added}
+use Rattle.mdp_graph.proofs.{Among.{below-all}, EdgeFacts.{nothing_before, state_added}}
 use Rattle.mdp_parts.specs.Targets.{AreReversed}
 use Rattle.mdp_parts.proofs.TargetFacts.{reversed_are}
 use Rattle.mdp_parts.proofs.edges.reversed.Goals as goal

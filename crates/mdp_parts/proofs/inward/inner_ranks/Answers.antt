@@ -1,12 +1,9 @@
-use Rattle.std.proofs.Common.{ℕ, Vec, Option, Global}
-use Rattle.std.proofs.lemmas.Result.{IfOk-weaker}
+use Rattle.std.proofs.{Common.{ℕ, Vec, Option, Global}, lemmas.Result.{IfOk-weaker}}
 use Rattle.mdp_spec.specs.Mdp.{states_of}
-use Rattle.mdp_graph.specs.Sets.{marked}
-use Rattle.mdp_graph.specs.Layers.{AreRanks}
+use Rattle.mdp_graph.specs.{Sets.{marked}, Layers.{AreRanks}}
 use Rattle.mdp_ends.specs.Toward.{inner_step}
 use Rattle.mdp_parts.specs.Allowed.{allowed_at}
-use Rattle.mdp_parts.proofs.ComponentsFound.{targets_edges}
-use Rattle.mdp_parts.proofs.InnerPass.{ranks_are}
+use Rattle.mdp_parts.proofs.{ComponentsFound.{targets_edges}, InnerPass.{ranks_are}}
 use Rattle.mdp_parts.proofs.inward.inner_ranks.Goals as goal
 
 pub reversed-requires-clause-edges : goal.reversed-requires-clause-edges

@@ -1,7 +1,5 @@
-use Rattle.std.proofs.Common.{Bool, List, length, map, ap, ◌∙◌}
+use Rattle.std.proofs.{Common.{Bool, List, length, map, ap, ◌∙◌}, lemmas.List.FromFn.{length-map-range_with_len}, lemmas.Result.{IfOk-weaker}}
 use Rattle.std.specs.List.{range_with_len}
-use Rattle.std.proofs.lemmas.List.FromFn.{length-map-range_with_len}
-use Rattle.std.proofs.lemmas.Result.{IfOk-weaker}
 use Rattle.mdp_graph.specs.declared.pass.Pass.{Pass}
 use Rattle.mdp_ends.specs.Toward.{target_in}
 use Rattle.mdp_parts.proofs.TowardParts.{is_toward, part_marked}

@@ -1,8 +1,7 @@
 use Rattle.std.proofs.Common.{◌+◌, length}
 use Rattle.mdp_spec.specs.Mdp.{states_of}
 use Rattle.mdp_ends.proofs.Existing.{total_below}
-use Rattle.mdp_parts.specs.Allowed.{allowed_at}
-use Rattle.mdp_parts.specs.Losing.{IsPruned, AreLosing}
+use Rattle.mdp_parts.specs.{Allowed.{allowed_at}, Losing.{IsPruned, AreLosing}}
 use Rattle.mdp_parts.proofs.losing.forbid_losing.Given as goal
 
 abbrev pub invariant-loop-t : goal.invariant-loop-t

@@ -1,7 +1,5 @@
-use Rattle.std.proofs.Common.{◌≡◌, ◌<◌, ℕ, List, get_or, Option, Some, None, length, set, is_none, not, refl, sym, ap, ◌∙◌, arith}
-use Rattle.std.proofs.lemmas.List.{length-set}
-use Rattle.mdp_parts.proofs.Grouping.{read_at}
-use Rattle.mdp_parts.proofs.Renumbering.{renumbering_begins, no_key, known_key, new_key, renumbered}
+use Rattle.std.proofs.{Common.{◌≡◌, ◌<◌, ℕ, List, get_or, Option, Some, None, length, set, is_none, not, refl, sym, ap, ◌∙◌, arith}, lemmas.List.{length-set}}
+use Rattle.mdp_parts.proofs.{Grouping.{read_at}, Renumbering.{renumbering_begins, no_key, known_key, new_key, renumbered}}
 use Rattle.mdp_parts.proofs.numbering.numbered.Goals.{in-Some+in_ok-push-in-Some, then-is_none, else-is_none, in-None+in_ok-push-in-None}
 use Rattle.mdp_parts.proofs.numbering.numbered.Goals as goal
 

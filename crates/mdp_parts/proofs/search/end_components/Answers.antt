@@ -1,8 +1,6 @@
 use Rattle.std.proofs.Common.{ℕ, Bool, false, List, sym, subst}
-use Rattle.mdp_parts.specs.Round.{IsRound, AreLastParts}
-use Rattle.mdp_parts.specs.Losing.{IsPruned}
-use Rattle.mdp_parts.proofs.Forbidding.{round_keeps}
-use Rattle.mdp_parts.proofs.Pruning.{pruned_less}
+use Rattle.mdp_parts.specs.{Round.{IsRound, AreLastParts}, Losing.{IsPruned}}
+use Rattle.mdp_parts.proofs.{Forbidding.{round_keeps}, Pruning.{pruned_less}}
 use Rattle.mdp_parts.proofs.search.end_components.Goals as goal
 
 pub loop-alloc-smaller : goal.loop-alloc-smaller

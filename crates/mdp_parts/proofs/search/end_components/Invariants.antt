@@ -1,6 +1,5 @@
 use Rattle.mdp_spec.specs.Mdp.{states_of}
-use Rattle.mdp_ends.specs.Walks.{AreComponents}
-use Rattle.mdp_ends.specs.Rounds.{KeepsEnds}
+use Rattle.mdp_ends.specs.{Walks.{AreComponents}, Rounds.{KeepsEnds}}
 use Rattle.mdp_ends.proofs.Existing.{total_below}
 use Rattle.mdp_parts.specs.Allowed.{allowed_at, AreChoices}
 use Rattle.mdp_parts.proofs.search.end_components.Given as goal

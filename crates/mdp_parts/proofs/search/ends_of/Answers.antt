@@ -1,9 +1,6 @@
-use Rattle.std.proofs.Common.{ℕ, List, Option, length, sym, ap, ◌∙◌, subst, arith}
-use Rattle.std.proofs.lemmas.List.FromFn.{length-map-range_with_len}
+use Rattle.std.proofs.{Common.{ℕ, List, Option, length, sym, ap, ◌∙◌, subst, arith}, lemmas.List.FromFn.{length-map-range_with_len}}
 use Rattle.mdp_spec.specs.Mdp.{states_of}
-use Rattle.mdp_parts.specs.FoundEnds.{FoundEnds, AreEndsOf}
-use Rattle.mdp_parts.specs.Round.{key_of}
-use Rattle.mdp_parts.specs.Numbered.{IsRenumbered}
+use Rattle.mdp_parts.specs.{FoundEnds.{FoundEnds, AreEndsOf}, Round.{key_of}, Numbered.{IsRenumbered}}
 use Rattle.mdp_parts.proofs.EndsFound.{found, key-below}
 use Rattle.mdp_parts.proofs.search.ends_of.Goals as goal
 

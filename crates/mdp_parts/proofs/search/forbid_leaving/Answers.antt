@@ -1,6 +1,5 @@
 use Rattle.std.proofs.Common.{arith}
-use Rattle.mdp_parts.proofs.Forbidding.{passing_begins, passing_some, passing_none, passed}
-use Rattle.mdp_parts.proofs.search.forbid_leaving.Goals.{then-forbid_at, else-forbid_at}
+use Rattle.mdp_parts.proofs.{Forbidding.{passing_begins, passing_some, passing_none, passed}, search.forbid_leaving.Goals.{then-forbid_at, else-forbid_at}}
 use Rattle.mdp_parts.proofs.search.forbid_leaving.Goals as goal
 
 pub loop-s-init : goal.loop-s-init

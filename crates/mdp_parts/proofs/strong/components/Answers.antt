@@ -1,6 +1,5 @@
 use Rattle.std.proofs.Common.{ℕ, List, Option, sym, ◌∙◌, subst, arith}
-use Rattle.mdp_parts.specs.Allowed.{allowed_at}
-use Rattle.mdp_parts.specs.Numbered.{AreGrouped, IsRenumbered}
+use Rattle.mdp_parts.specs.{Allowed.{allowed_at}, Numbered.{AreGrouped, IsRenumbered}}
 use Rattle.mdp_parts.proofs.ComponentsFound.{targets_edges, edges_all, order_all, groups_below, components_found, order_below, back_edges}
 use Rattle.mdp_parts.proofs.strong.components.Goals as goal
 

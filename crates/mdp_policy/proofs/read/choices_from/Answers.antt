@@ -1,5 +1,4 @@
-use Rattle.std.proofs.Common.{◌+◌, ◌-◌, sym, ◌∙◌, ap, arith}
-use Rattle.std.proofs.lemmas.Result.{err_from_is_err_and}
+use Rattle.std.proofs.{Common.{◌+◌, ◌-◌, sym, ◌∙◌, ap, arith}, lemmas.Result.{err_from_is_err_and}}
 use Rattle.mdp_text.specs.Lines.{place}
 use Rattle.mdp_policy.specs.Text.{choices_from}
 use Rattle.mdp_policy.proofs.Reading.{onto, first-choice, next-choice, no-line, no-choice, last-choice}

@@ -1,9 +1,7 @@
 use Rattle.std.proofs.Common.{◌∙◌, sym}
 use Rattle.mdp_policy.specs.Answer.{plain}
-use Rattle.mdp_policy.proofs.Solving.{policy_rows-len, along_ranks, policy_leaves}
-use Rattle.mdp_policy.proofs.Facts.{IsValued, written_valued}
+use Rattle.mdp_policy.proofs.{Solving.{policy_rows-len, along_ranks, policy_leaves}, Facts.{IsValued, written_valued}, value.value_of.Goals.{In-Ok}}
 use Rattle.mdp_policy.proofs.value.value_of.Goals as goal
-use Rattle.mdp_policy.proofs.value.value_of.Goals.{In-Ok}
 
 pub along-requires : goal.along-requires
 along-requires c = record { target = c.requires.goals ∙ sym (policy_rows-len c.args.model.now c.args.policy.now) }

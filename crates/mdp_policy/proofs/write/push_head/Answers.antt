@@ -1,10 +1,7 @@
 use Rattle.std.proofs.Common.{◌≡◌, ◌++◌, ℕ, List, Some, OnOk, subst, ap, ◌∙◌, append_assoc}
 use Rattle.mdp_math.specs.Rational.{ℚ}
-use Rattle.mdp_spec.specs.Mdp.{states_of, value_at}
-use Rattle.mdp_spec.specs.Labels.{initial_of}
-use Rattle.mdp_text.specs.declared.init.Init.{Init}
-use Rattle.mdp_text.specs.Heads.{init_by}
-use Rattle.mdp_text.specs.Spelling.{line, states_text, init_text}
+use Rattle.mdp_spec.specs.{Mdp.{states_of, value_at}, Labels.{initial_of}}
+use Rattle.mdp_text.specs.{declared.init.Init.{Init}, Heads.{init_by}, Spelling.{line, states_text, init_text}}
 use Rattle.mdp_policy.proofs.write.push_head.Goals as goal
 
 -- four texts, one after the other

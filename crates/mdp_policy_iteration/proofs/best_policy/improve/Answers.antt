@@ -1,8 +1,6 @@
 use Rattle.std.proofs.Common.{List, sym, subst}
 use Rattle.mdp_math.specs.Rational.{ℚ}
-use Rattle.mdp_policy_iteration.specs.Evaluated.{HasRoom}
-use Rattle.mdp_policy_iteration.specs.Laws.{IsBestFrom}
-use Rattle.mdp_policy_iteration.specs.Ends.{IsLast}
+use Rattle.mdp_policy_iteration.specs.{Evaluated.{HasRoom}, Laws.{IsBestFrom}, Ends.{IsLast}}
 use Rattle.mdp_policy_iteration.proofs.best_policy.improve.Goals as goal
 
 pub last_of-requires-clause-room : goal.last_of-requires-clause-room

@@ -1,20 +1,10 @@
 use Rattle.std.proofs.Common.{replicate, false, ◌≡◌, ◌∙◌, ◌+◌, ◌<◌, ℕ, List, Result, Ok, Err, refl, sym, ap, subst, arith, rules, length}
 use Rattle.mdp_rows.specs.declared.preds.Pred.{Pred}
-use Rattle.mdp_policy_iteration.specs.Problem.{Problem, IsPolicy}
-use Rattle.mdp_policy_iteration.specs.Values.{CanLeave}
-use Rattle.mdp_policy_iteration.specs.Path.{Round, Found, Refusal, improved, path_step}
-use Rattle.mdp_policy_iteration.specs.Iteration.{Step, done, EndsWith}
-use Rattle.mdp_policy_iteration.specs.Laws.{first}
-use Rattle.mdp_policy_iteration.specs.Changes.{Ascend, spread, nodes_of}
-use Rattle.mdp_policy_iteration.specs.Evaluated.{IsEvaluated, CanServe}
-use Rattle.mdp_policy_iteration.specs.Scope.{IsScope}
-use Rattle.mdp_policy_iteration.specs.Ends.{IsRefused}
-use Rattle.mdp_policy_iteration.specs.Errors.{PathError}
-use Rattle.mdp_policy_iteration.proofs.Iterations.{ends-done}
-use Rattle.mdp_policy_iteration.proofs.Ending.{Keeps, better_left, start-keeps, done-best}
-use Rattle.mdp_policy_iteration.proofs.Walking.{done_at, ends_by}
-use Rattle.mdp_policy_iteration.proofs.Rounds.{is_none, is_some, keeps-on, rest-on, serves-on, unimproved}
-use Rattle.mdp_policy_iteration.proofs.best_policy.improve_further.Given.{Over}
+use Rattle.mdp_policy_iteration.specs.{Problem.{Problem, IsPolicy}, Values.{CanLeave}, Path.{Round, Found, Refusal, improved, path_step}}
+use Rattle.mdp_policy_iteration.specs.{Iteration.{Step, done, EndsWith}, Laws.{first}, Changes.{Ascend, spread, nodes_of}, Evaluated.{IsEvaluated, CanServe}}
+use Rattle.mdp_policy_iteration.specs.{Scope.{IsScope}, Ends.{IsRefused}, Errors.{PathError}}
+use Rattle.mdp_policy_iteration.proofs.{Iterations.{ends-done}, Ending.{Keeps, better_left, start-keeps, done-best}, Walking.{done_at, ends_by}}
+use Rattle.mdp_policy_iteration.proofs.{Rounds.{is_none, is_some, keeps-on, rest-on, serves-on, unimproved}, best_policy.improve_further.Given.{Over}}
 use Rattle.mdp_policy_iteration.proofs.best_policy.improve_further.Goals.{After-marks-in-rounds-1, After-drop-changes-in-Ok, After-scope-in-rounds-1}
 use Rattle.mdp_policy_iteration.proofs.best_policy.improve_further.Goals as goal
 

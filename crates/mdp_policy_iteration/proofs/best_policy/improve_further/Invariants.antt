@@ -1,7 +1,6 @@
 use Rattle.std.proofs.Common.{◌≡◌, ℕ, ◌-◌, ◌^◌, min, false, replicate}
 use Rattle.mdp_policy_iteration.specs.Problem.{count}
-use Rattle.mdp_policy_iteration.proofs.Ending.{better_left}
-use Rattle.mdp_policy_iteration.proofs.Rounds.{Stands}
+use Rattle.mdp_policy_iteration.proofs.{Ending.{better_left}, Rounds.{Stands}}
 use Rattle.mdp_policy_iteration.proofs.best_policy.improve_further.Given as goal
 
 -- the loop stands before a round

@@ -1,18 +1,8 @@
-use Rattle.std.proofs.lemmas.Result.{IfOk-at_ok}
-use Rattle.std.proofs.Common.{◌≡◌, ℕ, List, Ok, Err, refl, sym, subst, arith, rules}
-use Rattle.mdp_policy_iteration.specs.Problem.{IsPolicy}
-use Rattle.mdp_policy_iteration.specs.Values.{CanLeave}
-use Rattle.mdp_policy_iteration.specs.Iteration.{Step, done}
-use Rattle.mdp_policy_iteration.specs.Path.{Round, Found, Refusal, path_step}
-use Rattle.mdp_policy_iteration.specs.Laws.{first}
-use Rattle.mdp_policy_iteration.specs.Ends.{IsRefused}
-use Rattle.mdp_policy_iteration.specs.Errors.{PathError}
-use Rattle.mdp_policy_iteration.proofs.Ending.{start-keeps, done-best}
-use Rattle.mdp_policy_iteration.proofs.Iterations.{ends-done}
-use Rattle.mdp_policy_iteration.proofs.Rounds.{is_none}
-use Rattle.mdp_policy_iteration.proofs.Walking.{done_at, ends_by}
-use Rattle.mdp_policy_iteration.proofs.best_policy.last_of.Given.{Over}
-use Rattle.mdp_policy_iteration.proofs.best_policy.last_of.Goals.{After-drop-loops-in-Ok}
+use Rattle.std.proofs.{lemmas.Result.{IfOk-at_ok}, Common.{◌≡◌, ℕ, List, Ok, Err, refl, sym, subst, arith, rules}}
+use Rattle.mdp_policy_iteration.specs.{Problem.{IsPolicy}, Values.{CanLeave}, Iteration.{Step, done}, Path.{Round, Found, Refusal, path_step}, Laws.{first}}
+use Rattle.mdp_policy_iteration.specs.{Ends.{IsRefused}, Errors.{PathError}}
+use Rattle.mdp_policy_iteration.proofs.{Ending.{start-keeps, done-best}, Iterations.{ends-done}, Rounds.{is_none}, Walking.{done_at, ends_by}}
+use Rattle.mdp_policy_iteration.proofs.{best_policy.last_of.Given.{Over}, best_policy.last_of.Goals.{After-drop-loops-in-Ok}}
 use Rattle.mdp_policy_iteration.proofs.best_policy.last_of.Goals as goal
 
 pub first_round-requires-clause-policy : goal.first_round-requires-clause-policy

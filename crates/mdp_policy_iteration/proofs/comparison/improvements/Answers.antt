@@ -1,14 +1,10 @@
-use Rattle.std.proofs.Common.{◌∙◌, ◌+◌, Ok, List, Vec, sym, ap, subst, arith, slice_index}
-use Rattle.std.proofs.lemmas.Result.{err_from_is_err_and}
+use Rattle.std.proofs.{Common.{◌∙◌, ◌+◌, Ok, List, Vec, sym, ap, subst, arith, slice_index}, lemmas.Result.{err_from_is_err_and}}
 use Rattle.mdp_rows.specs.declared.preds.Pred.{Pred}
-use Rattle.mdp_policy_iteration.specs.Problem.{count}
-use Rattle.mdp_policy_iteration.specs.Path.{improvement}
-use Rattle.mdp_policy_iteration.specs.Changes.{IsChangeOf}
-use Rattle.mdp_policy_iteration.proofs.Answering.{Says-then, says_of, says_same, answers_err}
-use Rattle.mdp_policy_iteration.proofs.Chosen.{improvement-below}
+use Rattle.mdp_policy_iteration.specs.{Problem.{count}, Path.{improvement}, Changes.{IsChangeOf}}
+use Rattle.mdp_policy_iteration.proofs.{Answering.{Says-then, says_of, says_same, answers_err}, Chosen.{improvement-below}}
 use Rattle.mdp_policy_iteration.proofs.Collected.{AreCollected, collected-none, collected-kept, collected-more, collected-refused, collected-all}
-use Rattle.mdp_policy_iteration.proofs.comparison.improvements.Goals as goal
 use Rattle.mdp_policy_iteration.proofs.comparison.improvements.Goals.{in-Some+in_ok-push, in_default}
+use Rattle.mdp_policy_iteration.proofs.comparison.improvements.Goals as goal
 
 pub loop-s-init : goal.loop-s-init
 loop-s-init g c =

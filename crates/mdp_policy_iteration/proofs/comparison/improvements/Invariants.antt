@@ -1,6 +1,4 @@
-use Rattle.mdp_policy_iteration.specs.Problem.{count}
-use Rattle.mdp_policy_iteration.specs.Path.{improvement}
-use Rattle.mdp_policy_iteration.specs.Changes.{IsChangeOf}
+use Rattle.mdp_policy_iteration.specs.{Problem.{count}, Path.{improvement}, Changes.{IsChangeOf}}
 use Rattle.mdp_policy_iteration.proofs.Collected.{AreCollected}
 use Rattle.mdp_policy_iteration.proofs.comparison.improvements.Given as goal
 

@@ -1,5 +1,4 @@
-use Rattle.std.proofs.Common.{subst, arith}
-use Rattle.std.proofs.lemmas.List.{take_all}
+use Rattle.std.proofs.{Common.{subst, arith}, lemmas.List.{take_all}}
 use Rattle.mdp_policy_iteration.proofs.Taken.{HasTaken, taken-more, taken-all}
 use Rattle.mdp_policy_iteration.proofs.comparison.take_changes.Goals as goal
 

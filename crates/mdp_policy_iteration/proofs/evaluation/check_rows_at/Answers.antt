@@ -1,9 +1,6 @@
 use Rattle.std.proofs.Common.{◌∙◌, ◌<◌, ◌≡◌, true, sym, arith, get_or}
-use Rattle.mdp_policy_iteration.specs.Problem.{count}
-use Rattle.mdp_policy_iteration.specs.Path.{evaluating, fits}
-use Rattle.mdp_policy_iteration.proofs.NodesAmong.{so_far-start, so_far-next, so_far-all, visited-below}
-use Rattle.mdp_policy_iteration.proofs.Results.{all_pass-refused}
-use Rattle.mdp_policy_iteration.proofs.UpTo.{all_pass-from}
+use Rattle.mdp_policy_iteration.specs.{Problem.{count}, Path.{evaluating, fits}}
+use Rattle.mdp_policy_iteration.proofs.{NodesAmong.{so_far-start, so_far-next, so_far-all, visited-below}, Results.{all_pass-refused}, UpTo.{all_pass-from}}
 use Rattle.mdp_policy_iteration.proofs.Chain.{can_take}
 use Rattle.mdp_policy_iteration.proofs.evaluation.check_rows_at.Goals as goal
 

@@ -1,6 +1,5 @@
 use Rattle.std.proofs.Common.{◌≡◌, true}
-use Rattle.mdp_policy_iteration.specs.Problem.{count}
-use Rattle.mdp_policy_iteration.specs.Path.{fits}
+use Rattle.mdp_policy_iteration.specs.{Problem.{count}, Path.{fits}}
 use Rattle.mdp_policy_iteration.proofs.NodesAmong.{HoldSoFar}
 use Rattle.mdp_policy_iteration.proofs.evaluation.check_rows_at.Given as goal
 

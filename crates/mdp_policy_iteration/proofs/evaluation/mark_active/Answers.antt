@@ -1,8 +1,6 @@
-use Rattle.std.proofs.Common.{◌≡◌, ◌+◌, List, Bool, false, get_or, sym, subst, arith}
-use Rattle.std.proofs.lemmas.List.FromFn.{fill_by_all}
+use Rattle.std.proofs.{Common.{◌≡◌, ◌+◌, List, Bool, false, get_or, sym, subst, arith}, lemmas.List.FromFn.{fill_by_all}}
 use Rattle.mdp_policy_iteration.specs.Problem.{count, goes_on, taken}
-use Rattle.mdp_policy_iteration.proofs.NodesAmong.{AreMade, made-start, made-next, made-all}
-use Rattle.mdp_policy_iteration.proofs.Chain.{can_take}
+use Rattle.mdp_policy_iteration.proofs.{NodesAmong.{AreMade, made-start, made-next, made-all}, Chain.{can_take}}
 use Rattle.mdp_policy_iteration.proofs.evaluation.mark_active.Goals as goal
 
 pub loop-s-init : goal.loop-s-init

@@ -1,16 +1,9 @@
-use Rattle.std.proofs.Common.{◌∙◌, ◌≡◌, ◌<◌, Ok, length, take, get_or, sym, ap, pos, arith, slice_index}
-use Rattle.std.proofs.lemmas.Result.{err_from_is_err_and}
+use Rattle.std.proofs.{Common.{◌∙◌, ◌≡◌, ◌<◌, Ok, length, take, get_or, sym, ap, pos, arith, slice_index}, lemmas.Result.{err_from_is_err_and}}
 use Rattle.mdp_wide.specs.declared.too_wide.Kind.TheVariants.{Evaluate}
 use Rattle.mdp_math.specs.Rational.{of_int}
-use Rattle.mdp_policy_iteration.specs.Problem.{count, taken}
-use Rattle.mdp_policy_iteration.specs.Path.{constant, evaluating}
-use Rattle.mdp_policy_iteration.specs.Places.{up_to}
-use Rattle.mdp_policy_iteration.specs.Faults.{Says}
-use Rattle.mdp_policy_iteration.proofs.Answering.{up_to-refused, placed-ok, placed-err, constant-ok, constant-err, says}
-use Rattle.mdp_policy_iteration.proofs.Chain.{active-len}
-use Rattle.mdp_policy_iteration.proofs.Elsewhere.{constant_by-is}
-use Rattle.mdp_policy_iteration.proofs.EvaluatedAgain.{if_err}
-use Rattle.mdp_policy_iteration.proofs.NodesAmong.{made-start, made-next, made-all, visited-below}
+use Rattle.mdp_policy_iteration.specs.{Problem.{count, taken}, Path.{constant, evaluating}, Places.{up_to}, Faults.{Says}}
+use Rattle.mdp_policy_iteration.proofs.{Answering.{up_to-refused, placed-ok, placed-err, constant-ok, constant-err, says}, Chain.{active-len}}
+use Rattle.mdp_policy_iteration.proofs.{Elsewhere.{constant_by-is}, EvaluatedAgain.{if_err}, NodesAmong.{made-start, made-next, made-all, visited-below}}
 use Rattle.mdp_policy_iteration.proofs.UpTo.{up_to-part, up_to-from}
 use Rattle.mdp_policy_iteration.proofs.evaluation.put_constants.Goals as goal
 

@@ -1,7 +1,6 @@
 use Rattle.std.proofs.Common.{◌≡◌, Ok, pos}
 use Rattle.mdp_math.specs.Rational.{of_int}
-use Rattle.mdp_policy_iteration.specs.Problem.{count}
-use Rattle.mdp_policy_iteration.specs.Path.{constant}
+use Rattle.mdp_policy_iteration.specs.{Problem.{count}, Path.{constant}}
 use Rattle.mdp_policy_iteration.proofs.NodesAmong.{AreMade}
 use Rattle.mdp_policy_iteration.proofs.evaluation.put_constants.Given as goal
 

@@ -1,10 +1,8 @@
-use Rattle.std.proofs.Common.{◌∙◌, refl, sym, pos, arith}
-use Rattle.std.proofs.lemmas.Bool.{true≢false}
+use Rattle.std.proofs.{Common.{◌∙◌, refl, sym, pos, arith}, lemmas.Bool.{true≢false}}
 use Rattle.mdp_math.specs.Rational.{of_int}
 use Rattle.mdp_policy_iteration.specs.Problem.{count}
 use Rattle.mdp_elim.proofs.Others.{among-at}
-use Rattle.mdp_policy_iteration.proofs.NodesAmong.{made-start, made-next, made-all}
-use Rattle.mdp_policy_iteration.proofs.Elsewhere.{IsStopValue}
+use Rattle.mdp_policy_iteration.proofs.{NodesAmong.{made-start, made-next, made-all}, Elsewhere.{IsStopValue}}
 use Rattle.mdp_policy_iteration.proofs.evaluation.put_stop_values.Goals as goal
 
 pub loop-s-init : goal.loop-s-init

@@ -1,8 +1,7 @@
 use Rattle.std.proofs.Common.{pos}
 use Rattle.mdp_math.specs.Rational.{of_int}
 use Rattle.mdp_policy_iteration.specs.Problem.{count}
-use Rattle.mdp_policy_iteration.proofs.NodesAmong.{AreMade}
-use Rattle.mdp_policy_iteration.proofs.Elsewhere.{IsStopValue}
+use Rattle.mdp_policy_iteration.proofs.{NodesAmong.{AreMade}, Elsewhere.{IsStopValue}}
 use Rattle.mdp_policy_iteration.proofs.evaluation.put_stop_values.Given as goal
 
 abbrev pub invariant-loop-s : goal.invariant-loop-s

@@ -1,8 +1,6 @@
-use Rattle.std.proofs.Common.{◌≡◌, pos, arith}
-use Rattle.std.proofs.lemmas.List.FromFn.{fill_by_all}
+use Rattle.std.proofs.{Common.{◌≡◌, pos, arith}, lemmas.List.FromFn.{fill_by_all}}
 use Rattle.mdp_math.specs.Rational.{of_int}
-use Rattle.mdp_policy_iteration.specs.Problem.{count, taken}
-use Rattle.mdp_policy_iteration.specs.Path.{filled_by}
+use Rattle.mdp_policy_iteration.specs.{Problem.{count, taken}, Path.{filled_by}}
 use Rattle.mdp_policy_iteration.proofs.NodesAmong.{made-start, made-next, made-all}
 use Rattle.mdp_policy_iteration.proofs.evaluation.put_values.Goals as goal
 

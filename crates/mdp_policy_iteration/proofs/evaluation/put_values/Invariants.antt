@@ -1,7 +1,6 @@
 use Rattle.std.proofs.Common.{◌≡◌, pos}
 use Rattle.mdp_math.specs.Rational.{of_int}
-use Rattle.mdp_policy_iteration.specs.Problem.{count, taken}
-use Rattle.mdp_policy_iteration.specs.Path.{filled_by}
+use Rattle.mdp_policy_iteration.specs.{Problem.{count, taken}, Path.{filled_by}}
 use Rattle.mdp_policy_iteration.proofs.NodesAmong.{AreMade}
 use Rattle.mdp_policy_iteration.proofs.evaluation.put_values.Given as goal
 

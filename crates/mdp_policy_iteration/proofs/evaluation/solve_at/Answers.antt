@@ -4,8 +4,7 @@ use Rattle.mdp_num.specs.declared.frac.Frac.{Frac}
 use Rattle.mdp_elim.specs.Kept as elimination
 use Rattle.mdp_elim.specs.System.{Leaves, system}
 use Rattle.mdp_policy_iteration.specs.Problem.{rows_of, active_of}
-use Rattle.mdp_policy_iteration.proofs.Chain.{rows-len, active-len}
-use Rattle.mdp_policy_iteration.proofs.Solving.{one_column, solution-below}
+use Rattle.mdp_policy_iteration.proofs.{Chain.{rows-len, active-len}, Solving.{one_column, solution-below}}
 use Rattle.mdp_policy_iteration.proofs.evaluation.solve_at.Goals as goal
 
 pub solve_again-requires-clause-columns : goal.solve_again-requires-clause-columns

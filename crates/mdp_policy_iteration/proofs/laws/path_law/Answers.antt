@@ -1,5 +1,4 @@
-use Rattle.mdp_policy_iteration.proofs.Ending.{has_one_end, ends_at_best}
-use Rattle.mdp_policy_iteration.proofs.Optimal.{best_of_all}
+use Rattle.mdp_policy_iteration.proofs.{Ending.{has_one_end, ends_at_best}, Optimal.{best_of_all}}
 use Rattle.mdp_policy_iteration.proofs.laws.path_law.Goals as goal
 
 pub returns-clause-one_end : goal.returns-clause-one_end

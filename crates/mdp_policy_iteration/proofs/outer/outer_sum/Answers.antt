@@ -1,6 +1,5 @@
-use Rattle.std.proofs.Common.{◌∙◌, sym, ap, get_or, arith}
+use Rattle.std.proofs.{Common.{◌∙◌, sym, ap, get_or, arith}, lemmas.List.{get_or_default}}
 use Rattle.std.specs.Result.{result_ok}
-use Rattle.std.proofs.lemmas.List.{get_or_default}
 use Rattle.mdp_policy_iteration.proofs.OuterSums.{outer-step}
 use Rattle.mdp_policy_iteration.proofs.outer.outer_sum.Goals as goal
 

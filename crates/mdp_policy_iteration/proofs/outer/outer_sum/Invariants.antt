@@ -1,6 +1,5 @@
 use Rattle.std.proofs.Common.{◌≡◌, drop}
-use Rattle.mdp_spec.specs.Row.{entries}
-use Rattle.mdp_spec.specs.Written.{written_sum}
+use Rattle.mdp_spec.specs.{Row.{entries}, Written.{written_sum}}
 use Rattle.mdp_policy_iteration.specs.Path.{outer}
 use Rattle.mdp_policy_iteration.proofs.outer.outer_sum.Given as goal
 

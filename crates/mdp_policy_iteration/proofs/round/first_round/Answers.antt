@@ -1,8 +1,7 @@
 use Rattle.std.proofs.Common.{◌∙◌, ◌<◌, ℕ, List, sym, ap, subst, inl, true≢false}
 use Rattle.std.specs.List.{All, range_with_len}
 use Rattle.mdp_rows.specs.Preds.{is_among}
-use Rattle.mdp_policy_iteration.specs.Problem.{count}
-use Rattle.mdp_policy_iteration.specs.Changes.{Ascend}
+use Rattle.mdp_policy_iteration.specs.{Problem.{count}, Changes.{Ascend}}
 use Rattle.mdp_policy_iteration.proofs.AllNodes.{all-below, all-ascend, all-among}
 use Rattle.mdp_policy_iteration.proofs.round.first_round.Goals as goal
 

@@ -1,11 +1,7 @@
 use Rattle.std.proofs.Common.{◌∙◌, ℕ, ◌<◌, List, Result, Ok, Err, OnOk, ap, sym, subst, length}
 use Rattle.std.specs.List.{All}
 use Rattle.mdp_math.specs.Rational.{ℚ}
-use Rattle.mdp_policy_iteration.specs.Problem.{count}
-use Rattle.mdp_policy_iteration.specs.Changes.{Ascend, spread}
-use Rattle.mdp_policy_iteration.specs.Faults.{Answers}
-use Rattle.mdp_policy_iteration.specs.Path.{improvements}
-use Rattle.mdp_policy_iteration.specs.Evaluated.{IsEvaluated, CanServe}
+use Rattle.mdp_policy_iteration.specs.{Problem.{count}, Changes.{Ascend, spread}, Faults.{Answers}, Path.{improvements}, Evaluated.{IsEvaluated, CanServe}}
 use Rattle.mdp_policy_iteration.specs.Scope.{Scope}
 use Rattle.mdp_policy_iteration.proofs.RoundFacts.{values-len, makes_answer}
 use Rattle.mdp_policy_iteration.proofs.round.round_of.Goals as goal

@@ -1,15 +1,9 @@
 use Rattle.std.proofs.Common.{◌≡◌, ℕ, ◌<◌, ◌++◌, ◌∷◌, [], List, length, get_or, map, sym, ap, ap₂, ◌∙◌, subst, arith, vec_len, rules}
-use Rattle.std.proofs.lemmas.List.{take_more, map-append, get_or_default}
-use Rattle.std.proofs.lemmas.List.FromFn.{map-range_with_len_more}
-use Rattle.mdp_rows.specs.declared.preds.Pred.{Pred}
-use Rattle.mdp_rows.specs.declared.row.Row.{Row}
+use Rattle.std.proofs.{lemmas.List.{take_more, map-append, get_or_default, take_all}, lemmas.List.FromFn.{map-range_with_len_more}}
+use Rattle.mdp_rows.specs.{declared.preds.Pred.{Pred}, declared.row.Row.{Row}}
 use Rattle.mdp_ends.specs.Quotient.{nodes_in}
-use Rattle.mdp_quot.specs.Quotient.{rows_by}
-use Rattle.mdp_quot.specs.QuotientView.{row_in, rows_in}
-use Rattle.mdp_quot.specs.Sums.{IsClear}
-use Rattle.mdp_quot.specs.declared.node.Node.{Node}
+use Rattle.mdp_quot.specs.{Quotient.{rows_by}, QuotientView.{row_in, rows_in}, Sums.{IsClear}, declared.node.Node.{Node}}
 use Rattle.std.specs.List.{All, range_with_len}
-use Rattle.std.proofs.lemmas.List.{take_all}
 use Rattle.mdp_spec.specs.Mdp.{states_of, choices_at}
 use Rattle.mdp_quot.proofs.build.all_nodes.Goals as goal
 

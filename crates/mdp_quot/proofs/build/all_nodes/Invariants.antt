@@ -1,9 +1,7 @@
 use Rattle.std.proofs.Common.{◌≡◌, [], map, take, slice_index_or}
 use Rattle.std.specs.List.{range_with_len}
 use Rattle.mdp_ends.specs.Quotient.{nodes_in}
-use Rattle.mdp_quot.specs.Quotient.{rows_by}
-use Rattle.mdp_quot.specs.QuotientView.{rows_in}
-use Rattle.mdp_quot.specs.Sums.{IsClear}
+use Rattle.mdp_quot.specs.{Quotient.{rows_by}, QuotientView.{rows_in}, Sums.{IsClear}}
 use Rattle.mdp_quot.proofs.build.all_nodes.Given as goal
 
 abbrev pub invariant-loop-q : goal.invariant-loop-q

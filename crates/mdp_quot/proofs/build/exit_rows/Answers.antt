@@ -1,15 +1,10 @@
-use Rattle.std.specs.List.{All}
-use Rattle.std.proofs.Common.{◌<◌, ◌∷◌, [], List, ℕ, map, ap, ap₂, ◌∙◌, subst, sym}
-use Rattle.std.specs.Prelude.{slice_index}
-use Rattle.std.proofs.lemmas.List.{take_all, map-append}
+use Rattle.std.specs.{List.{All}, Prelude.{slice_index}}
+use Rattle.std.proofs.{Common.{◌<◌, ◌∷◌, [], List, ℕ, map, ap, ap₂, ◌∙◌, subst, sym}, lemmas.List.{take_all, map-append}}
 use Rattle.mdp_spec.specs.Mdp.{Entry}
-use Rattle.mdp_rows.specs.Preds.{pair}
-use Rattle.mdp_rows.specs.declared.preds.Pred.{Pred}
-use Rattle.mdp_rows.specs.declared.row.Row.{Row}
+use Rattle.mdp_rows.specs.{Preds.{pair}, declared.preds.Pred.{Pred}, declared.row.Row.{Row}}
 use Rattle.mdp_ends.specs.Quotient.{merged, node_row}
 use Rattle.mdp_graph.proofs.Collecting.{mapped}
-use Rattle.mdp_quot.specs.QuotientView.{row_in}
-use Rattle.mdp_quot.specs.Sums.{IsClear}
+use Rattle.mdp_quot.specs.{QuotientView.{row_in}, Sums.{IsClear}}
 use Rattle.mdp_quot.proofs.build.exit_rows.Goals as goal
 
 pub loop-exit-init : goal.loop-exit-init

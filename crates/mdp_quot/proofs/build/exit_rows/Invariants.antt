@@ -1,7 +1,6 @@
 use Rattle.std.proofs.Common.{◌≡◌, map, take}
 use Rattle.mdp_ends.specs.Quotient.{nodes_in, node_row}
-use Rattle.mdp_quot.specs.QuotientView.{row_in}
-use Rattle.mdp_quot.specs.Sums.{IsClear}
+use Rattle.mdp_quot.specs.{QuotientView.{row_in}, Sums.{IsClear}}
 use Rattle.mdp_quot.proofs.build.exit_rows.Given as goal
 
 abbrev pub invariant-loop-exit : goal.invariant-loop-exit

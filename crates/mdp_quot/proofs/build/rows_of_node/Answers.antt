@@ -1,9 +1,7 @@
-use Rattle.std.proofs.lemmas.List.{nil_from_length}
-use Rattle.std.proofs.Common.{◌∷◌, ◌++◌, [], List, map, sym, ap, ◌∙◌, rules}
+use Rattle.std.proofs.{lemmas.List.{nil_from_length}, Common.{◌∷◌, ◌++◌, [], List, map, sym, ap, ◌∙◌, rules}}
 use Rattle.mdp_spec.specs.Mdp.{Entry}
 use Rattle.mdp_rows.specs.declared.row.Row.{Row}
-use Rattle.mdp_quot.specs.Quotient.{rows_by}
-use Rattle.mdp_quot.specs.QuotientView.{row_in}
+use Rattle.mdp_quot.specs.{Quotient.{rows_by}, QuotientView.{row_in}}
 use Rattle.mdp_quot.proofs.build.rows_of_node.Goals as goal
 
 pub returns-in_ok-push-clause-rows : goal.returns-in_ok-push-clause-rows

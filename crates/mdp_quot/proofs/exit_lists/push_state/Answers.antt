@@ -1,14 +1,11 @@
-use Rattle.std.proofs.Common.{◌≡◌, ◌<◌, ◌++◌, ◌∷◌, [], List, length, get_or, sym, ap, ◌∙◌, subst, arith}
+use Rattle.std.proofs.{Common.{◌≡◌, ◌<◌, ◌++◌, ◌∷◌, [], List, length, get_or, sym, ap, ◌∙◌, subst, arith}, lemmas.List.{get_or_default, length-set}}
 use Rattle.std.specs.Prelude.{slice_set}
-use Rattle.std.proofs.lemmas.List.{get_or_default, length-set}
 use Rattle.mdp_spec.specs.Mdp.{choices_at}
-use Rattle.mdp_rows.specs.declared.preds.Pred.{Pred}
-use Rattle.mdp_rows.specs.Preds.{pair, first_choices}
+use Rattle.mdp_rows.specs.{declared.preds.Pred.{Pred}, Preds.{pair, first_choices}}
 use Rattle.mdp_ends.specs.Ends.{is_inside}
 use Rattle.mdp_quot.specs.ExitLists.{AreExits}
-use Rattle.mdp_quot.proofs.ExitsFound.{inside_more, exit_more, choice_more}
+use Rattle.mdp_quot.proofs.{ExitsFound.{inside_more, exit_more, choice_more}, exit_lists.push_state.Goals.{then-not-inside+in_ok-push, else-not-inside}}
 use Rattle.mdp_quot.proofs.exit_lists.push_state.Goals as goal
-use Rattle.mdp_quot.proofs.exit_lists.push_state.Goals.{then-not-inside+in_ok-push, else-not-inside}
 
 pub loop-c-preserved : goal.loop-c-preserved
 loop-c-preserved c =

@@ -1,6 +1,5 @@
 use Rattle.std.proofs.Common.{◌≡◌, ◌++◌, List, length}
-use Rattle.mdp_rows.specs.declared.preds.Pred.{Pred}
-use Rattle.mdp_rows.specs.Preds.{first_choices}
+use Rattle.mdp_rows.specs.{declared.preds.Pred.{Pred}, Preds.{first_choices}}
 use Rattle.mdp_quot.specs.ExitLists.{AreExits}
 use Rattle.mdp_quot.proofs.exit_lists.push_state.Given as goal
 

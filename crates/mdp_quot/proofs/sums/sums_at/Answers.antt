@@ -1,5 +1,4 @@
-use Rattle.std.proofs.Common.{ap, ◌∙◌, map, List, ℕ, get_or, pos}
-use Rattle.std.proofs.lemmas.List.{take_all, get_or_default}
+use Rattle.std.proofs.{Common.{ap, ◌∙◌, map, List, ℕ, get_or, pos}, lemmas.List.{take_all, get_or_default}}
 use Rattle.mdp_math.specs.Rational.{of_int}
 use Rattle.mdp_spec.specs.Mdp.{value_at}
 use Rattle.mdp_graph.proofs.Collecting.{mapped}

@@ -1,5 +1,4 @@
-use Rattle.mdp_reach.proofs.OneEnd.{one_query_end, one_round_end}
-use Rattle.mdp_reach.proofs.Answering.{answer-meets, answers_are_greatest, answers_are_least}
+use Rattle.mdp_reach.proofs.{OneEnd.{one_query_end, one_round_end}, Answering.{answer-meets, answers_are_greatest, answers_are_least}}
 use Rattle.mdp_reach.proofs.AnEnd.{has_an_end, has_a_round}
 use Rattle.mdp_reach.proofs.laws.query_law.Goals as goal
 

@@ -1,8 +1,7 @@
 use Rattle.std.proofs.Common.{◌≡◌, ◌||◌, not, map, pos}
 use Rattle.std.specs.List.{range_with_len}
 use Rattle.mdp_math.specs.Rational.{of_int, lt_ℚ}
-use Rattle.mdp_spec.specs.Mdp.{value_at}
-use Rattle.mdp_spec.specs.Tree.{is_marked}
+use Rattle.mdp_spec.specs.{Mdp.{value_at}, Tree.{is_marked}}
 use Rattle.mdp_reach.proofs.ranks.ending.Given as goal
 
 abbrev pub invariant-loop-s : goal.invariant-loop-s

@@ -1,5 +1,4 @@
-use Rattle.std.proofs.Common.{◌∙◌, ap, length}
-use Rattle.std.proofs.lemmas.List.FromFn.{length-map-range_with_len}
+use Rattle.std.proofs.{Common.{◌∙◌, ap, length}, lemmas.List.FromFn.{length-map-range_with_len}}
 use Rattle.mdp_reach.proofs.ranks.min_ranks.Goals as goal
 
 pub must_meet-requires : goal.must_meet-requires

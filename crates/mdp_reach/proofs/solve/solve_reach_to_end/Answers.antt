@@ -2,15 +2,11 @@ use Rattle.std.proofs.Common.{◌∙◌, ℕ, List, Err, length, sym, ap, subst}
 use Rattle.mdp_spec.specs.Tree.{IsPolicy}
 use Rattle.mdp_wide.specs.Errors.{SolveError}
 use Rattle.mdp_math.specs.Rational.{ℚ}
-use Rattle.mdp_reach.specs.Query.{AreRanks}
-use Rattle.mdp_reach.specs.Round.{SolvesToEnd}
-use Rattle.mdp_reach.proofs.Nodes.{reach-count}
-use Rattle.mdp_reach.proofs.Starts.{start-solvable, start-choices, start-marks}
-use Rattle.mdp_reach.proofs.Kept.{found-policy}
+use Rattle.mdp_reach.specs.{Query.{AreRanks}, Round.{SolvesToEnd}}
+use Rattle.mdp_reach.proofs.{Nodes.{reach-count}, Starts.{start-solvable, start-choices, start-marks}, Kept.{found-policy}}
+use Rattle.mdp_reach.proofs.{Answering.{meets-reach, ranks-count, ends-refused, ends-answered, ends-wide}, solve.solve_reach_to_end.Goals.{After-cert-1}}
 use Rattle.mdp_farkas.proofs.ReachRules.{reach_never_no}
-use Rattle.mdp_reach.proofs.Answering.{meets-reach, ranks-count, ends-refused, ends-answered, ends-wide}
 use Rattle.mdp_reach.proofs.solve.solve_reach_to_end.Goals as goal
-use Rattle.mdp_reach.proofs.solve.solve_reach_to_end.Goals.{After-cert-1}
 
 pub invariant_of-problem : goal.invariant_of-problem
 invariant_of-problem c = record {

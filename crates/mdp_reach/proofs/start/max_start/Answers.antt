@@ -1,5 +1,4 @@
-use Rattle.std.proofs.Common.{false, length, ap, ◌∙◌}
-use Rattle.std.proofs.lemmas.List.{length-replicate}
+use Rattle.std.proofs.{Common.{false, length, ap, ◌∙◌}, lemmas.List.{length-replicate}}
 use Rattle.mdp_reach.proofs.start.max_start.Goals as goal
 
 pub may_reach-requires-clause-target : goal.may_reach-requires-clause-target

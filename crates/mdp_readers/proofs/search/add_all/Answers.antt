@@ -1,7 +1,5 @@
-use Rattle.std.proofs.Common.{◌==◌, arith}
-use Rattle.std.proofs.lemmas.List.Folds.{list_any_more}
-use Rattle.mdp_rows.specs.declared.preds.Pred.{Pred}
-use Rattle.mdp_rows.specs.Preds.{pair}
+use Rattle.std.proofs.{Common.{◌==◌, arith}, lemmas.List.Folds.{list_any_more}}
+use Rattle.mdp_rows.specs.{declared.preds.Pred.{Pred}, Preds.{pair}}
 use Rattle.mdp_readers.specs.Found.{has_one}
 use Rattle.mdp_readers.proofs.Marking.{none_added, more_added, all_added}
 use Rattle.mdp_readers.proofs.search.add_all.Goals as goal

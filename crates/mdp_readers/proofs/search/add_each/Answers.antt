@@ -1,5 +1,4 @@
-use Rattle.std.proofs.Common.{ℕ, ◌==◌, List, arith}
-use Rattle.std.proofs.lemmas.List.Folds.{list_any_more}
+use Rattle.std.proofs.{Common.{ℕ, ◌==◌, List, arith}, lemmas.List.Folds.{list_any_more}}
 use Rattle.mdp_rows.specs.Preds.{is_among}
 use Rattle.mdp_readers.proofs.Marking.{none_added, more_added, all_added}
 use Rattle.mdp_readers.proofs.search.add_each.Goals as goal

@@ -1,5 +1,4 @@
-use Rattle.std.proofs.Common.{ℕ, sym, subst, List}
-use Rattle.std.proofs.lemmas.List.Sorted.{IsNonDecreasingBy-from_sort}
+use Rattle.std.proofs.{Common.{ℕ, sym, subst, List}, lemmas.List.Sorted.{IsNonDecreasingBy-from_sort}}
 use Rattle.mdp_readers.specs.Found.{AreMarked}
 use Rattle.mdp_readers.proofs.Marking.{sorted-among, sorted-marked, sorted-ascend, all-in_range, marks-cleared}
 use Rattle.mdp_readers.proofs.search.finish.Goals as goal

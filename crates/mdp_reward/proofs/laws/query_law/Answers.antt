@@ -1,6 +1,4 @@
-use Rattle.mdp_reward.proofs.OneEnd.{one_query_end}
-use Rattle.mdp_reward.proofs.Answering.{pass_laws, answers_meet, answers_are_greatest, answers_are_least}
-use Rattle.mdp_reward.proofs.AnEnd.{has_an_end}
+use Rattle.mdp_reward.proofs.{OneEnd.{one_query_end}, Answering.{pass_laws, answers_meet, answers_are_greatest, answers_are_least}, AnEnd.{has_an_end}}
 use Rattle.mdp_reward.proofs.laws.query_law.Goals as goal
 
 pub returns-clause-one_end : goal.returns-clause-one_end

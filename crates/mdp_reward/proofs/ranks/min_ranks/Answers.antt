@@ -1,8 +1,7 @@
 use Rattle.std.proofs.Common.{◌∙◌, ℕ, List, length, sym, ap, subst}
 use Rattle.mdp_spec.specs.Tree.{is_marked}
 use Rattle.mdp_rows.proofs.Queries.Policies.{rows-len}
-use Rattle.mdp_graph.specs.Layers.{AreReached, AreLeastRanks}
-use Rattle.mdp_graph.specs.Reach.{row_step}
+use Rattle.mdp_graph.specs.{Layers.{AreReached, AreLeastRanks}, Reach.{row_step}}
 use Rattle.mdp_reward.specs.Query.{split, policy_rows}
 use Rattle.mdp_reward.proofs.ranks.min_ranks.Goals as goal
 

@@ -1,9 +1,7 @@
-use Rattle.std.specs.Prelude.{slice_index}
-use Rattle.std.specs.List.{range_with_len}
+use Rattle.std.specs.{Prelude.{slice_index}, List.{range_with_len}}
 use Rattle.std.proofs.Common.{◌∙◌, ◌++◌, ◌∷◌, ℕ, [], List, sym, ap₂, ◌≡◌, map, subst, arith, if◌then◌else◌}
 use Rattle.mdp_math.proofs.Lists.{map_more}
-use Rattle.mdp_spec.specs.Mdp.{states_of}
-use Rattle.mdp_spec.specs.Tree.{is_marked}
+use Rattle.mdp_spec.specs.{Mdp.{states_of}, Tree.{is_marked}}
 use Rattle.mdp_reward.proofs.ranks.split.Goals as goal
 
 pub loop-s-preserved : goal.loop-s-preserved

@@ -1,6 +1,5 @@
 use Rattle.std.proofs.Common.{◌≡◌, if◌then◌else◌, map}
-use Rattle.std.specs.List.{range_with_len}
-use Rattle.std.specs.Prelude.{slice_index}
+use Rattle.std.specs.{List.{range_with_len}, Prelude.{slice_index}}
 use Rattle.mdp_spec.specs.Tree.{is_marked}
 use Rattle.mdp_reward.proofs.ranks.split.Given as goal
 

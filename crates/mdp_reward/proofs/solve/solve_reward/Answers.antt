@@ -1,22 +1,17 @@
 use Rattle.std.proofs.Common.{◌≡◌, ◌∙◌, ℕ, List, Option, Ok, Err, Result, length, sym, ap, subst}
 use Rattle.mdp_math.specs.Rational.{ℚ}
 use Rattle.mdp_spec.specs.Tree.{IsPolicy}
-use Rattle.mdp_wide.specs.Errors.{SolveError}
-use Rattle.mdp_farkas.specs.Verdict.{verdict_of}
-use Rattle.mdp_farkas.specs.Reward.{reward_checks}
+use Rattle.mdp_wide.specs.{Errors.{SolveError}, Term.{WideTerm}}
+use Rattle.mdp_farkas.specs.{Verdict.{verdict_of}, Reward.{reward_checks}}
 use Rattle.mdp_claims.specs.declared.verdict.Verdict.TheVariants.{Yes, No, Wide}
-use Rattle.mdp_wide.specs.Term.{WideTerm}
 use Rattle.mdp_policy_iteration.specs.Queries.{Solves}
 use Rattle.mdp_reward.specs.Query.{Answer, plain, rewards_of, AreRanks, EndsSo}
-use Rattle.mdp_reward.proofs.Nodes.{reward-count}
-use Rattle.mdp_reward.proofs.Values.{reward-nonneg}
-use Rattle.mdp_reward.proofs.Starts.{start-solvable, start-choices, start-finite, start-known}
-use Rattle.mdp_reward.proofs.Kept.{found-policy}
-use Rattle.mdp_reward.proofs.Certificate.{rewards-len}
+use Rattle.mdp_reward.proofs.{Nodes.{reward-count}, Values.{reward-nonneg}, Starts.{start-solvable, start-choices, start-finite, start-known}}
+use Rattle.mdp_reward.proofs.{Kept.{found-policy}, Certificate.{rewards-len}}
 use Rattle.mdp_reward.proofs.Answering.{pass_laws, meets-reward, ranks-count, ends-refused, ends-answered, ends-wide}
+use Rattle.mdp_reward.proofs.solve.solve_reward.Goals.{After-cert-2-1}
 use Rattle.mdp_farkas.proofs.RewardRules.{reward_never_no}
 use Rattle.mdp_reward.proofs.solve.solve_reward.Goals as goal
-use Rattle.mdp_reward.proofs.solve.solve_reward.Goals.{After-cert-2-1}
 
 pub invariant_of-problem : goal.invariant_of-problem
 invariant_of-problem c = record {

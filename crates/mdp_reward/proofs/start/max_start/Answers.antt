@@ -1,5 +1,4 @@
-use Rattle.std.proofs.Common.{◌∙◌, ap, length}
-use Rattle.std.proofs.lemmas.List.FromFn.{length-map-range_with_len}
+use Rattle.std.proofs.{Common.{◌∙◌, ap, length}, lemmas.List.FromFn.{length-map-range_with_len}}
 use Rattle.mdp_reward.proofs.start.max_start.Goals as goal
 
 pub split-requires-2-clause-marks : goal.split-requires-2-clause-marks

@@ -1,6 +1,4 @@
-use Rattle.std.proofs.Common.{nat_le, sym, arith}
-use Rattle.std.proofs.lemmas.Bool.{le-leb}
-use Rattle.std.proofs.lemmas.List.Sums.{position_or_len_is}
+use Rattle.std.proofs.{Common.{nat_le, sym, arith}, lemmas.Bool.{le-leb}, lemmas.List.Sums.{position_or_len_is}}
 use Rattle.mdp_rows.proofs.assembly.place_of_label.Goals as goal
 
 pub returns-then-places-i : goal.returns-then-places-i

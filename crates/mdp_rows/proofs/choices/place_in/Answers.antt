@@ -1,6 +1,5 @@
 use Rattle.std.proofs.Common.{ℕ, sym, ap, ◌∙◌, arith}
-use Rattle.std.specs.Global.{Vec}
-use Rattle.std.specs.Str.{bytes_eq}
+use Rattle.std.specs.{Global.{Vec}, Str.{bytes_eq}}
 use Rattle.mdp_rows.proofs.Flat.Names.{first_is, none_is}
 use Rattle.mdp_rows.proofs.choices.place_in.Goals as goal
 

@@ -1,6 +1,5 @@
 use Rattle.std.proofs.Common.{◌≡◌, ℕ, ◌<◌, false, get_or}
-use Rattle.std.specs.Global.{Vec}
-use Rattle.std.specs.Str.{bytes_eq}
+use Rattle.std.specs.{Global.{Vec}, Str.{bytes_eq}}
 use Rattle.mdp_rows.proofs.choices.place_in.Given as goal
 
 abbrev pub invariant-loop-m : goal.invariant-loop-m

@@ -1,12 +1,10 @@
 use Rattle.std.proofs.Common.{◌≡◌, ℕ, List, Some, sym, ap, ◌∙◌, arith}
 use Rattle.mdp_spec.specs.Unit.{row_den}
-use Rattle.mdp_rows.specs.Given.{row_of}
-use Rattle.mdp_rows.specs.Parts.{parts as row_parts}
-use Rattle.mdp_rows.specs.declared.given.Given.{Given}
+use Rattle.mdp_rows.specs.{Given.{row_of}, Parts.{parts as row_parts}, declared.given.Given.{Given}}
 use Rattle.mdp_rows.proofs.ClosedRows.{IsSummed, closed-wide, refused_past, refused_diff, some_parts, closes_exact, refused_exact, closes_scaled, refused_wide}
 use Rattle.mdp_rows.proofs.ClosedRows.Denominators.{within_limit, within-none, within-some, some_within, none_within}
-use Rattle.mdp_rows.proofs.ClosedRows.Parts as parts
 use Rattle.mdp_rows.proofs.closing.close_row.Goals.{else-scale-via-then-scale+else-is_some, else-scale-via-else-scale}
+use Rattle.mdp_rows.proofs.ClosedRows.Parts as parts
 use Rattle.mdp_rows.proofs.closing.close_row.Goals as goal
 
 -- the least common denominator, and the sum in parts of it

@@ -1,8 +1,7 @@
 use Rattle.std.proofs.Common.{◌≡◌, ◌≤◌, ◌∙◌, arith}
 use Rattle.mdp_spec.specs.Unit.{lcm}
 use Rattle.mdp_num.specs.Numeral.{limit}
-use Rattle.mdp_rows.proofs.ClosedRows.Denominators.{past_limit, in_limit}
-use Rattle.mdp_rows.proofs.ClosedRows.Quotients.{multiple_is}
+use Rattle.mdp_rows.proofs.{ClosedRows.Denominators.{past_limit, in_limit}, ClosedRows.Quotients.{multiple_is}}
 use Rattle.mdp_rows.proofs.closing.common_multiple.Goals as goal
 
 pub returns-in_err-multiple : goal.returns-in_err-multiple

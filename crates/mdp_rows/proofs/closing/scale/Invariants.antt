@@ -1,6 +1,5 @@
 use Rattle.std.proofs.Common.{◌≡◌}
-use Rattle.mdp_rows.specs.Draft.{row_total}
-use Rattle.mdp_rows.specs.Given.{row_of}
+use Rattle.mdp_rows.specs.{Draft.{row_total}, Given.{row_of}}
 use Rattle.mdp_rows.proofs.ClosedRows.Scaling.{scaled_to, over}
 use Rattle.mdp_rows.proofs.closing.scale.Given as goal
 

@@ -1,8 +1,6 @@
 use Rattle.std.proofs.Common.{◌≡◌, ◌<◌, ◌≤◌, ℕ, ◌*◌, ◌/◌, List, length, get_or, unsigned_abs, arith, ap₂}
 use Rattle.mdp_spec.specs.Unit.{row_den}
-use Rattle.mdp_rows.specs.Given.{row_of}
-use Rattle.mdp_rows.specs.Parts.{part}
-use Rattle.mdp_rows.specs.declared.given.Given.{Given}
+use Rattle.mdp_rows.specs.{Given.{row_of}, Parts.{part}, declared.given.Given.{Given}}
 use Rattle.mdp_rows.proofs.ClosedRows.Parts.{value_past, value_within, so_far_past}
 use Rattle.mdp_rows.proofs.closing.sum_in_parts.Goals as goal
 

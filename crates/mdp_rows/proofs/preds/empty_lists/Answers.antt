@@ -1,5 +1,4 @@
-use Rattle.std.proofs.Common.{ℕ, List, ◌++◌, ◌∷◌, [], replicate, ap, ap₂, ◌∙◌, arith}
-use Rattle.std.proofs.lemmas.List.{replicate-append-replicate}
+use Rattle.std.proofs.{Common.{ℕ, List, ◌++◌, ◌∷◌, [], replicate, ap, ap₂, ◌∙◌, arith}, lemmas.List.{replicate-append-replicate}}
 use Rattle.mdp_rows.specs.declared.preds.Pred.{Pred}
 use Rattle.mdp_rows.proofs.preds.empty_lists.Goals as goal
 

@@ -1,5 +1,4 @@
-use Rattle.std.proofs.Common.{[], ◌∙◌, arith}
-use Rattle.std.proofs.lemmas.List.{length-replicate}
+use Rattle.std.proofs.{Common.{[], ◌∙◌, arith}, lemmas.List.{length-replicate}}
 use Rattle.mdp_rows.proofs.Queries.Preds.{more_led, states_more, all_led}
 use Rattle.mdp_rows.specs.Preds.{choices_of}
 use Rattle.mdp_rows.proofs.preds.preds_of.Goals as goal

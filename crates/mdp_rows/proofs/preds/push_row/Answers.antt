@@ -1,5 +1,4 @@
-use Rattle.std.proofs.Common.{List, [], ◌∷◌, ◌++◌, get_or, set, refl, ap, ◌∙◌, arith}
-use Rattle.std.proofs.lemmas.List.{get_or_default}
+use Rattle.std.proofs.{Common.{List, [], ◌∷◌, ◌++◌, get_or, set, refl, ap, ◌∙◌, arith}, lemmas.List.{get_or_default}}
 use Rattle.mdp_rows.specs.declared.preds.Pred.{Pred}
 use Rattle.mdp_rows.proofs.Queries.Preds.{one_pushed}
 use Rattle.mdp_rows.proofs.preds.push_row.Goals as goal

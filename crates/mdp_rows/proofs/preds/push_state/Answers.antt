@@ -1,6 +1,5 @@
 use Rattle.std.proofs.Common.{◌++◌, ◌∷◌, [], get_or, ap, ◌∙◌, List}
-use Rattle.mdp_rows.specs.Preds.{pair}
-use Rattle.mdp_rows.specs.declared.preds.Pred.{Pred}
+use Rattle.mdp_rows.specs.{Preds.{pair}, declared.preds.Pred.{Pred}}
 use Rattle.mdp_rows.proofs.Queries.Preds.{different, more_led, pushed_leads, choices_more}
 use Rattle.mdp_rows.proofs.preds.push_state.Goals as goal
 

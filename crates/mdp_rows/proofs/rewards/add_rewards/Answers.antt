@@ -1,7 +1,5 @@
-use Rattle.std.proofs.Common.{List, ◌+◌, drop, inl, inr, refl, sym, ap, ap₂, ◌∙◌, arith}
-use Rattle.std.proofs.lemmas.Result.{err_from_is_err_and}
-use Rattle.mdp_math.specs.Rational.{ℚ}
-use Rattle.mdp_math.specs.Written.{written_add}
+use Rattle.std.proofs.{Common.{List, ◌+◌, drop, inl, inr, refl, sym, ap, ap₂, ◌∙◌, arith}, lemmas.Result.{err_from_is_err_and}}
+use Rattle.mdp_math.specs.{Rational.{ℚ}, Written.{written_add}}
 use Rattle.mdp_rows.specs.Draft.{kept_sum, summed_rewards}
 use Rattle.mdp_rows.proofs.Assembled.Sums.{sums_then, sums_start, sums_more, sums_stop, sums_end}
 use Rattle.mdp_rows.proofs.rewards.add_rewards.Goals as goal

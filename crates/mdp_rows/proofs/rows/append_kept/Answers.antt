@@ -1,7 +1,5 @@
-use Rattle.std.proofs.Common.{List, ◌++◌, map, arith, sym, ap, ◌∙◌, unsigned_abs}
-use Rattle.std.proofs.lemmas.List.{take_all}
-use Rattle.mdp_rows.specs.Given.{kept_given}
-use Rattle.mdp_rows.specs.declared.given.Given.{Given}
+use Rattle.std.proofs.{Common.{List, ◌++◌, map, arith, sym, ap, ◌∙◌, unsigned_abs}, lemmas.List.{take_all}}
+use Rattle.mdp_rows.specs.{Given.{kept_given}, declared.given.Given.{Given}}
 use Rattle.mdp_rows.proofs.Flat.Kept.{num_zero, appended_one, appended_skip}
 use Rattle.mdp_rows.proofs.rows.append_kept.Goals.{then-num_of-ne0+in_ok-push+in_ok-push-2, else-num_of-ne0}
 use Rattle.mdp_rows.proofs.rows.append_kept.Goals as goal

@@ -1,9 +1,7 @@
-use Rattle.std.proofs.Common.{◌+◌, List, drop, sym, ap, ◌∙◌, arith}
-use Rattle.std.proofs.lemmas.List.{drop_more}
+use Rattle.std.proofs.{Common.{◌+◌, List, drop, sym, ap, ◌∙◌, arith}, lemmas.List.{drop_more}}
 use Rattle.mdp_spec.specs.Mdp.{Choice, choices_at, no_choice}
 use Rattle.mdp_rows.specs.Replay.{with_choices}
-use Rattle.mdp_rows.proofs.CutModels.Handing.{choice_first}
-use Rattle.mdp_rows.proofs.Calls.Kept.{both_same}
+use Rattle.mdp_rows.proofs.{CutModels.Handing.{choice_first}, Calls.Kept.{both_same}}
 use Rattle.mdp_rows.proofs.subsystem.give_choices.Goals as goal
 
 pub loop-c-preserved : goal.loop-c-preserved

@@ -1,8 +1,6 @@
 use Rattle.std.proofs.Common.{◌≡◌, IsTrue, drop}
 use Rattle.mdp_spec.specs.Mdp.{choices_at}
-use Rattle.mdp_rows.specs.Draft.{has_state}
-use Rattle.mdp_rows.specs.Head.{IsSameHead}
-use Rattle.mdp_rows.specs.Replay.{with_choices}
+use Rattle.mdp_rows.specs.{Draft.{has_state}, Head.{IsSameHead}, Replay.{with_choices}}
 use Rattle.mdp_rows.proofs.subsystem.give_choices.Given as goal
 
 abbrev pub invariant-loop-c : goal.invariant-loop-c

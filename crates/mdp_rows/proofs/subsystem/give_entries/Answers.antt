@@ -1,14 +1,9 @@
-use Rattle.std.proofs.Common.{◌≡◌, ◌+◌, ◌≤◌, List, ◌∷◌, drop, length, get_or, sym, ap, subst, ◌∙◌, arith}
+use Rattle.std.proofs.{Common.{◌≡◌, ◌+◌, ◌≤◌, List, ◌∷◌, drop, length, get_or, sym, ap, subst, ◌∙◌, arith}, lemmas.List.{drop_all}}
 use Rattle.std.specs.List.{AllByRecursion}
-use Rattle.std.proofs.lemmas.List.{drop_all}
 use Rattle.mdp_num.specs.Meaning.{IsWithinLimit}
-use Rattle.mdp_spec.specs.Mdp.{Entry, row_at}
-use Rattle.mdp_spec.specs.Row.{entries}
+use Rattle.mdp_spec.specs.{Mdp.{Entry, row_at}, Row.{entries}}
 use Rattle.mdp_rows.specs.Replay.{with_entries}
-use Rattle.mdp_rows.proofs.CutModels.{row_within}
-use Rattle.mdp_rows.proofs.CutModels.Handing.{entry_first, entry_at, prob_at}
-use Rattle.mdp_rows.proofs.Calls.Kept.{both_same}
-use Rattle.mdp_rows.proofs.Flat.Pieces.{length-entries}
+use Rattle.mdp_rows.proofs.{CutModels.{row_within}, CutModels.Handing.{entry_first, entry_at, prob_at}, Calls.Kept.{both_same}, Flat.Pieces.{length-entries}}
 use Rattle.mdp_rows.proofs.subsystem.give_entries.Goals as goal
 
 pub entry-requires-clause-term : goal.entry-requires-clause-term

@@ -1,8 +1,6 @@
 use Rattle.std.proofs.Common.{◌≡◌, IsTrue, drop}
 use Rattle.mdp_spec.specs.Mdp.{row_at}
-use Rattle.mdp_rows.specs.Draft.{has_state, has_choice}
-use Rattle.mdp_rows.specs.Head.{IsSameHead}
-use Rattle.mdp_rows.specs.Replay.{with_entries}
+use Rattle.mdp_rows.specs.{Draft.{has_state, has_choice}, Head.{IsSameHead}, Replay.{with_entries}}
 use Rattle.mdp_rows.proofs.subsystem.give_entries.Given as goal
 
 abbrev pub invariant-loop-i : goal.invariant-loop-i

@@ -1,5 +1,4 @@
-use Rattle.std.proofs.Common.{[], get_or, sym, subst}
-use Rattle.std.proofs.lemmas.List.Elements.{All-get_or}
+use Rattle.std.proofs.{Common.{[], get_or, sym, subst}, lemmas.List.Elements.{All-get_or}}
 use Rattle.mdp_rows.specs.Name.{IsName}
 use Rattle.mdp_rows.proofs.CutModels.Handing.{label_known}
 use Rattle.mdp_rows.proofs.subsystem.give_labels.Goals as goal

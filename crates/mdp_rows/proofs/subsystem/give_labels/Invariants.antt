@@ -1,8 +1,6 @@
 use Rattle.std.proofs.Common.{◌≡◌, IsTrue, drop}
 use Rattle.mdp_spec.specs.Mdp.{state_at}
-use Rattle.mdp_rows.specs.Draft.{has_state}
-use Rattle.mdp_rows.specs.Head.{IsSameHead}
-use Rattle.mdp_rows.specs.Replay.{with_labels}
+use Rattle.mdp_rows.specs.{Draft.{has_state}, Head.{IsSameHead}, Replay.{with_labels}}
 use Rattle.mdp_rows.proofs.subsystem.give_labels.Given as goal
 
 abbrev pub invariant-loop-i : goal.invariant-loop-i

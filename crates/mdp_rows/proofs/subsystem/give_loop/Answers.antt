@@ -1,5 +1,4 @@
-use Rattle.std.proofs.Common.{length, sym, ap, subst, ◌∙◌}
-use Rattle.std.proofs.lemmas.List.{length-map}
+use Rattle.std.proofs.{Common.{length, sym, ap, subst, ◌∙◌}, lemmas.List.{length-map}}
 use Rattle.mdp_math.proofs.Order.{0ℚ}
 use Rattle.mdp_num.specs.Meaning.{IsWithinLimit}
 use Rattle.mdp_rows.proofs.CutModels.{one_within}

@@ -1,5 +1,4 @@
-use Rattle.std.proofs.Common.{length, sym, ap, ◌∙◌}
-use Rattle.std.proofs.lemmas.List.{length-map}
+use Rattle.std.proofs.{Common.{length, sym, ap, ◌∙◌}, lemmas.List.{length-map}}
 use Rattle.mdp_math.proofs.Order.{0ℚ}
 use Rattle.mdp_rows.proofs.subsystem.give_state.Goals as goal
 

@@ -1,14 +1,9 @@
 use Rattle.std.proofs.Common.{◌≡◌, ℕ, ◌+◌, ◌≤◌, ◌<◌, ◌∷◌, Bool, ◌||◌, List, drop, sym, ap, subst, ◌∙◌}
-use Rattle.mdp_spec.specs.Mdp.{State, Mdp, state_at}
-use Rattle.mdp_spec.specs.Sub.{sub_of}
-use Rattle.mdp_spec.specs.Tree.{is_marked}
-use Rattle.mdp_rows.specs.Replay.{with_states}
-use Rattle.mdp_rows.specs.Cut.{cut_state}
-use Rattle.mdp_rows.proofs.CutModels.{sub_at, sub_end}
-use Rattle.mdp_rows.proofs.CutModels.Handing.{state_first}
-use Rattle.mdp_rows.proofs.Calls.Kept.{both_same}
-use Rattle.mdp_rows.proofs.subsystem.give_states.Goals as goal
+use Rattle.mdp_spec.specs.{Mdp.{State, Mdp, state_at}, Sub.{sub_of}, Tree.{is_marked}}
+use Rattle.mdp_rows.specs.{Replay.{with_states}, Cut.{cut_state}}
+use Rattle.mdp_rows.proofs.{CutModels.{sub_at, sub_end}, CutModels.Handing.{state_first}, Calls.Kept.{both_same}}
 use Rattle.mdp_rows.proofs.subsystem.give_states.Goals.{then-at, else-at}
+use Rattle.mdp_rows.proofs.subsystem.give_states.Goals as goal
 
 pub loop-s-preserved : goal.loop-s-preserved
 loop-s-preserved c =

@@ -1,7 +1,6 @@
 use Rattle.std.proofs.Common.{◌≡◌, drop}
 use Rattle.mdp_spec.specs.Sub.{sub_of}
-use Rattle.mdp_rows.specs.Head.{IsSameHead}
-use Rattle.mdp_rows.specs.Replay.{with_states}
+use Rattle.mdp_rows.specs.{Head.{IsSameHead}, Replay.{with_states}}
 use Rattle.mdp_rows.proofs.subsystem.give_states.Given as goal
 
 abbrev pub invariant-loop-s : goal.invariant-loop-s

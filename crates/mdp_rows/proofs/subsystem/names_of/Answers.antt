@@ -1,6 +1,5 @@
-use Rattle.std.proofs.Common.{List, ℕ, [], ◌∷◌, ◌++◌, map, sym, ap, ap₂, ◌∙◌, arith}
+use Rattle.std.proofs.{Common.{List, ℕ, [], ◌∷◌, ◌++◌, map, sym, ap, ap₂, ◌∙◌, arith}, lemmas.List.{map-append, take_more}}
 use Rattle.std.specs.Global.{Vec}
-use Rattle.std.proofs.lemmas.List.{map-append, take_more}
 use Rattle.mdp_rows.proofs.subsystem.names_of.Goals as goal
 
 pub loop-m-preserved : goal.loop-m-preserved

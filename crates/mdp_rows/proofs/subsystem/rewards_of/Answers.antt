@@ -1,5 +1,4 @@
-use Rattle.std.proofs.Common.{List, ◌++◌, ◌∷◌, [], sym, ap₂, ◌∙◌, arith}
-use Rattle.std.proofs.lemmas.List.{take_more, take_all}
+use Rattle.std.proofs.{Common.{List, ◌++◌, ◌∷◌, [], sym, ap₂, ◌∙◌, arith}, lemmas.List.{take_more, take_all}}
 use Rattle.mdp_math.specs.Rational.{ℚ}
 use Rattle.mdp_math.proofs.Order.{0ℚ}
 use Rattle.mdp_rows.proofs.CutModels.{rewards_each}

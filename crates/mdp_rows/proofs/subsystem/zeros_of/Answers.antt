@@ -1,6 +1,5 @@
-use Rattle.std.proofs.Common.{◌≡◌, ℕ, List, length, refl, ap₂, ◌∙◌}
+use Rattle.std.proofs.{Common.{◌≡◌, ℕ, List, length, refl, ap₂, ◌∙◌}, lemmas.Simd.{splat_is_map}}
 use Rattle.std.specs.Prelude.{Result, Ok, Err, IfOk, replicate}
-use Rattle.std.proofs.lemmas.Simd.{splat_is_map}
 use Rattle.mdp_math.specs.Rational.{ℚ}
 use Rattle.mdp_math.proofs.Order.{0ℚ}
 use Rattle.mdp_rows.specs.Replay.{no_rewards}

@@ -1,9 +1,7 @@
-use Rattle.std.proofs.Common.{◌∙◌, ℕ, length, map, replicate, if◌then◌else◌, ap}
+use Rattle.std.proofs.{Common.{◌∙◌, ℕ, length, map, replicate, if◌then◌else◌, ap}, lemmas.List.FromFn.{length-map-range_with_len}}
 use Rattle.std.specs.List.{range_with_len}
-use Rattle.std.proofs.lemmas.List.FromFn.{length-map-range_with_len}
 use Rattle.mdp_math.specs.Rational.{ℚ}
-use Rattle.mdp_spec.specs.Mdp.{states_of}
-use Rattle.mdp_spec.specs.Tree.{is_marked}
+use Rattle.mdp_spec.specs.{Mdp.{states_of}, Tree.{is_marked}}
 use Rattle.mdp_farkas.specs.Compare.{0ℚ, 1ℚ}
 use Rattle.mdp_search_bounds.proofs.Outermost.{trivial_of}
 use Rattle.mdp_search_bounds.proofs.trivial.trivial_reach.Goals as goal

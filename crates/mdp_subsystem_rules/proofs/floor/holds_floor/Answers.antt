@@ -1,7 +1,6 @@
 use Rattle.std.proofs.Common.{◌≡◌, ap, ◌∙◌}
-use Rattle.mdp_farkas.specs.Verdict.{verdict_of}
+use Rattle.mdp_farkas.specs.Verdict.{verdict_of, verdict}
 use Rattle.mdp_subsystem_rules.specs.FloorChecks.{floor_checks}
-use Rattle.mdp_farkas.specs.Verdict.{verdict}
 use Rattle.mdp_subsystem_rules.proofs.FloorRules.{floor_rules, floor_sub_min}
 use Rattle.mdp_subsystem_rules.proofs.floor.holds_floor.Goals as goal
 

@@ -1,13 +1,8 @@
 use Rattle.std.proofs.Common.{◌≡◌, ℕ, Bool, List, ◌++◌, length, map, sym, ap, ◌∙◌, subst}
 use Rattle.mdp_spec.specs.Mdp.{states_of}
-use Rattle.mdp_farkas.specs.Verdict.{verdict_of}
-use Rattle.mdp_subsystem_rules.specs.FlowChecks.{kept_check, checks_from, flow_checks}
-use Rattle.mdp_subsystem_rules.specs.Kept.{kept_marks}
-use Rattle.mdp_subsystem_rules.specs.Sums.{FlowSums, AreSums, first_sums}
-use Rattle.mdp_farkas.specs.Verdict.{objection_to, verdict}
-use Rattle.mdp_subsystem_rules.proofs.Kept.{length-kept_marks}
-use Rattle.mdp_subsystem_rules.proofs.Sizes.{sized_first}
-use Rattle.mdp_subsystem_rules.proofs.FlowRules.{flow_rules, flow_sub_max, flow_within}
+use Rattle.mdp_farkas.specs.Verdict.{verdict_of, objection_to, verdict}
+use Rattle.mdp_subsystem_rules.specs.{FlowChecks.{kept_check, checks_from, flow_checks}, Kept.{kept_marks}, Sums.{FlowSums, AreSums, first_sums}}
+use Rattle.mdp_subsystem_rules.proofs.{Kept.{length-kept_marks}, Sizes.{sized_first}, FlowRules.{flow_rules, flow_sub_max, flow_within}}
 use Rattle.mdp_subsystem_rules.proofs.flow.holds_flow.Goals as goal
 
 pub invariant_of-claimed-clause-marks : goal.invariant_of-claimed-clause-marks

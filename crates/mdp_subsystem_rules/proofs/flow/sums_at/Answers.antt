@@ -1,10 +1,7 @@
-use Rattle.std.proofs.Common.{Bool, Option, None, List, [], ◌∷◌, map, ap, ◌∙◌}
-use Rattle.std.proofs.lemmas.Result.{err_from_is_err_and}
-use Rattle.mdp_farkas.specs.Compare.{is_at_least}
-use Rattle.mdp_farkas.specs.Verdict.{Check, objection_to}
+use Rattle.std.proofs.{Common.{Bool, Option, None, List, [], ◌∷◌, map, ap, ◌∙◌}, lemmas.Result.{err_from_is_err_and}}
+use Rattle.mdp_farkas.specs.{Compare.{is_at_least}, Verdict.{Check, objection_to}}
 use Rattle.mdp_claims.specs.declared.rule.Rule.TheVariants.{FlowsReachGoals}
-use Rattle.mdp_subsystem_rules.specs.FlowChecks.{balance_check, arrival_check}
-use Rattle.mdp_subsystem_rules.specs.Sums.{FlowSums}
+use Rattle.mdp_subsystem_rules.specs.{FlowChecks.{balance_check, arrival_check}, Sums.{FlowSums}}
 use Rattle.mdp_farkas.proofs.Objections.{halts, goes_on}
 use Rattle.mdp_subsystem_rules.proofs.flow.sums_at.Goals as goal
 

@@ -1,5 +1,4 @@
-use Rattle.mdp_subsystem_rules.proofs.Flows.{sub_max_of_flow, sub_max_within_of_flow}
-use Rattle.mdp_subsystem_rules.proofs.Policies.{policy_within_of_flow}
+use Rattle.mdp_subsystem_rules.proofs.{Flows.{sub_max_of_flow, sub_max_within_of_flow}, Policies.{policy_within_of_flow}}
 use Rattle.mdp_subsystem_rules.proofs.laws.flow_law.Goals as goal
 
 pub returns-clause-shows : goal.returns-clause-shows

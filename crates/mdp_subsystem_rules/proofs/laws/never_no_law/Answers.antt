@@ -1,5 +1,4 @@
-use Rattle.mdp_subsystem_rules.proofs.FlowRules.{flow_never_no}
-use Rattle.mdp_subsystem_rules.proofs.FloorRules.{floor_never_no}
+use Rattle.mdp_subsystem_rules.proofs.{FlowRules.{flow_never_no}, FloorRules.{floor_never_no}}
 use Rattle.mdp_subsystem_rules.proofs.laws.never_no_law.Goals as goal
 
 pub returns-clause-flow : goal.returns-clause-flow

@@ -1,8 +1,6 @@
 use Rattle.mdp_spec.specs.Mdp.{states_of}
-use Rattle.mdp_subsystem_rules.specs.Flow.{flow_value}
-use Rattle.mdp_subsystem_rules.specs.Visits.{visit_flows}
-use Rattle.mdp_subsystem_rules.proofs.Made.{visits_bound}
-use Rattle.mdp_subsystem_rules.proofs.Policies.{short_of_min, short_of_bound, not_sub_min}
+use Rattle.mdp_subsystem_rules.specs.{Flow.{flow_value}, Visits.{visit_flows}}
+use Rattle.mdp_subsystem_rules.proofs.{Made.{visits_bound}, Policies.{short_of_min, short_of_bound, not_sub_min}}
 use Rattle.mdp_subsystem_rules.proofs.laws.short_law.Goals as goal
 
 pub returns-clause-least : goal.returns-clause-least

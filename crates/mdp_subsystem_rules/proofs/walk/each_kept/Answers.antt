@@ -1,5 +1,4 @@
-use Rattle.std.proofs.Common.{ℕ, ◌+◌, List, [], ◌∷◌, drop, get_or, map, refl, sym, ap, ◌∙◌}
-use Rattle.std.proofs.lemmas.List.{drop_more}
+use Rattle.std.proofs.{Common.{ℕ, ◌+◌, List, [], ◌∷◌, drop, get_or, map, refl, sym, ap, ◌∙◌}, lemmas.List.{drop_more}}
 use Rattle.mdp_farkas.specs.Verdict.{objection_to}
 use Rattle.mdp_farkas.proofs.Objections.{goes_on}
 use Rattle.mdp_subsystem_rules.proofs.walk.each_kept.Goals as goal

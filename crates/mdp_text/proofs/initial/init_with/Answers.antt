@@ -1,5 +1,4 @@
-use Rattle.std.proofs.Common.{ℕ, Option, Some, sym, ap, ◌∙◌, arith, pos}
-use Rattle.std.proofs.lemmas.List.{get_or_default}
+use Rattle.std.proofs.{Common.{ℕ, Option, Some, sym, ap, ◌∙◌, arith, pos}, lemmas.List.{get_or_default}}
 use Rattle.mdp_math.specs.Rational.{ℚ, of_int}
 use Rattle.mdp_spec.specs.Mdp.{value_at}
 use Rattle.mdp_text.specs.Heads.{init_of, init_by}

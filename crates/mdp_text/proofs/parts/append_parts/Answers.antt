@@ -1,5 +1,4 @@
-use Rattle.std.proofs.Common.{drop, ◌+◌, ap, ◌∙◌, sym, ◌++◌}
-use Rattle.std.proofs.lemmas.List.{at_drop_more, at_drop_all}
+use Rattle.std.proofs.{Common.{drop, ◌+◌, ap, ◌∙◌, sym, ◌++◌}, lemmas.List.{at_drop_more, at_drop_all}}
 use Rattle.mdp_text.specs.Parts.{part_text, parts_text}
 use Rattle.mdp_text.proofs.Fronts.{keeps_more, keeps-split, piece_more, pieces_end}
 use Rattle.mdp_text.proofs.parts.append_parts.Goals as goal

@@ -1,6 +1,5 @@
 use Rattle.std.proofs.Common.{◌≡◌, ◌++◌, drop}
-use Rattle.mdp_text.specs.Answer.{Keeps}
-use Rattle.mdp_text.specs.Parts.{parts_text}
+use Rattle.mdp_text.specs.{Answer.{Keeps}, Parts.{parts_text}}
 use Rattle.mdp_text.proofs.parts.append_parts.Given as goal
 
 abbrev pub invariant-loop-part : goal.invariant-loop-part

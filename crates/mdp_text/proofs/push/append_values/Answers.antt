@@ -1,5 +1,4 @@
-use Rattle.std.proofs.Common.{◌≡◌, suc, ◌+◌, ◌∷◌, ◌++◌, drop, ap, ◌∙◌, sym, arith}
-use Rattle.std.proofs.lemmas.List.{at_drop_more, at_drop_all}
+use Rattle.std.proofs.{Common.{◌≡◌, suc, ◌+◌, ◌∷◌, ◌++◌, drop, ap, ◌∙◌, sym, arith}, lemmas.List.{at_drop_more, at_drop_all}}
 use Rattle.mdp_text.specs.Spelling.{line, value_text, value_lines}
 use Rattle.mdp_text.proofs.Fronts.{keeps_more, piece_more, pieces_end}
 use Rattle.mdp_text.proofs.push.append_values.Goals as goal

@@ -1,6 +1,5 @@
 use Rattle.std.proofs.Common.{◌≡◌, ◌++◌, drop}
-use Rattle.mdp_text.specs.Answer.{Keeps}
-use Rattle.mdp_text.specs.Spelling.{value_lines}
+use Rattle.mdp_text.specs.{Answer.{Keeps}, Spelling.{value_lines}}
 use Rattle.mdp_text.proofs.push.append_values.Given as goal
 
 abbrev pub invariant-loop-s : goal.invariant-loop-s

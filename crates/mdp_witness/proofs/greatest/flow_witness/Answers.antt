@@ -5,13 +5,8 @@ use Rattle.mdp_rows.specs.declared.dir.Dir.TheVariants.{Max}
 use Rattle.mdp_farkas.specs.Compare.{is_at_least}
 use Rattle.mdp_farkas.proofs.Comparing.{le_of_at_least}
 use Rattle.mdp_reach.specs.Query as reach
-use Rattle.mdp_witness_trials.specs.EvaluationCode.{plain}
-use Rattle.mdp_witness_trials.proofs.FirstMax.{first-leaves}
-use Rattle.mdp_witness_trials.proofs.Lengths.{sized}
-use Rattle.mdp_witness.specs.Query.{FlowHeld, FromFirst, verdict_on}
-use Rattle.mdp_witness.specs.Code.{plain_flow}
-use Rattle.mdp_witness.proofs.Flowing.{shaped, meets-max, left-meets, left-held}
-use Rattle.mdp_witness.proofs.Passing.{goes-through}
+use Rattle.mdp_witness.specs.{EvaluationCode.{plain}, Query.{FlowHeld, FromFirst, verdict_on}, Code.{plain_flow}}
+use Rattle.mdp_witness.proofs.{FirstMax.{first-leaves}, Lengths.{sized}, Flowing.{shaped, meets-max, left-meets, left-held}, Passing.{goes-through}}
 use Rattle.mdp_witness.proofs.Sized.{visits_each}
 use Rattle.mdp_witness.proofs.greatest.flow_witness.Goals as goal
 

@@ -2,10 +2,8 @@ use Rattle.std.proofs.Common.{sym, ◌∙◌, ap, subst, length, Ok}
 use Rattle.mdp_rows.specs.declared.dir.Dir.TheVariants.{Min}
 use Rattle.mdp_claims.specs.declared.subsystem.FloorCert.{FloorCert}
 use Rattle.mdp_reach.specs.Query.{plain}
-use Rattle.mdp_witness_trials.proofs.Lengths.{sized}
-use Rattle.mdp_witness.specs.Query.{FromFirst}
-use Rattle.mdp_witness.specs.Code.{plain_floor}
-use Rattle.mdp_witness.proofs.Flooring.{shaped, meets-min, left-holds, left-found, values_each, ranks_each}
+use Rattle.mdp_witness.proofs.{Lengths.{sized}, Flooring.{shaped, meets-min, left-holds, left-found, values_each, ranks_each}}
+use Rattle.mdp_witness.specs.{Query.{FromFirst}, Code.{plain_floor}}
 use Rattle.mdp_witness.proofs.least.floor_witness.Goals as goal
 
 pub invariant_of-query : goal.invariant_of-query

@@ -1,13 +1,11 @@
-use Rattle.std.proofs.Common.{◌≡◌, ◌<◌, ◌∙◌, ◌∷◌, [], ◌++◌, List, Vec, length, sym, ap, ap₂, arith}
+use Rattle.std.proofs.{Common.{◌≡◌, ◌<◌, ◌∙◌, ◌∷◌, [], ◌++◌, List, Vec, length, sym, ap, ap₂, arith}, lemmas.List.{get_or_default}}
 use Rattle.std.specs.Global.{Global}
-use Rattle.std.proofs.lemmas.List.{get_or_default}
 use Rattle.mdp_math.specs.Rational.{lt_ℚ}
 use Rattle.mdp_math.proofs.Order.{0ℚ}
 use Rattle.mdp_spec.specs.Mdp.{value_at}
 use Rattle.mdp_claims.specs.declared.subsystem.Flow.{Flow}
-use Rattle.mdp_witness.proofs.OneMore.{flows-more, flows-skip, flow-is}
+use Rattle.mdp_witness.proofs.{OneMore.{flows-more, flows-skip, flow-is}, listing.flows_of.Goals.{then-is_positive+in_ok-push, else-is_positive}}
 use Rattle.mdp_witness.proofs.listing.flows_of.Goals as goal
-use Rattle.mdp_witness.proofs.listing.flows_of.Goals.{then-is_positive+in_ok-push, else-is_positive}
 
 pub loop-s-preserved : goal.loop-s-preserved
 loop-s-preserved c =

@@ -1,8 +1,7 @@
 use Rattle.std.proofs.Common.{◌∙◌, ◌∷◌, [], ◌++◌, List, ℕ, Vec, sym, ap}
 use Rattle.std.specs.Global.{Global}
-use Rattle.mdp_witness.proofs.OneMore.{listed-more, listed-skip}
+use Rattle.mdp_witness.proofs.{OneMore.{listed-more, listed-skip}, listing.listed.Goals.{then-at+in_ok-push, else-at}}
 use Rattle.mdp_witness.proofs.listing.listed.Goals as goal
-use Rattle.mdp_witness.proofs.listing.listed.Goals.{then-at+in_ok-push, else-at}
 
 pub loop-s-preserved : goal.loop-s-preserved
 loop-s-preserved c = elim c.if-at.branch [

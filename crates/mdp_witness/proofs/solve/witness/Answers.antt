@@ -1,15 +1,11 @@
 use Rattle.std.proofs.Common.{◌≡◌, ◌<◌, ◌∙◌, ℕ, List, Bool, Some, None, true, false, length, sym, ap, subst}
 use Rattle.mdp_math.specs.Rational.{ℚ}
-use Rattle.mdp_spec.specs.Mdp.{value_at}
-use Rattle.mdp_spec.specs.Bounds.{SubMax, SubMin}
+use Rattle.mdp_spec.specs.{Mdp.{value_at}, Bounds.{SubMax, SubMin}}
 use Rattle.mdp_farkas.specs.Compare.{is_at_least}
 use Rattle.mdp_reach.specs.Query as reach
-use Rattle.mdp_witness_trials.proofs.Lengths.{sized}
-use Rattle.mdp_witness.specs.Query.{EndsSo, FromFirst}
-use Rattle.mdp_witness.specs.Code.{plain}
+use Rattle.mdp_witness.proofs.{Lengths.{sized}, Ending.{ends-wide, ends-below, ends-found, told}, Passing.{goes-through, if_found, if_below}}
+use Rattle.mdp_witness.specs.{Query.{EndsSo, FromFirst}, Code.{plain}}
 use Rattle.mdp_witness.specs.Shown.{kept_in, HasShape, Holds, PolicyReaches, IsNeededMax, IsNeededMin, AreNeeded, MarksAreExactMax, MarksAreExactMin, IsBestBelow}
-use Rattle.mdp_witness.proofs.Ending.{ends-wide, ends-below, ends-found, told}
-use Rattle.mdp_witness.proofs.Passing.{goes-through, if_found, if_below}
 use Rattle.mdp_witness.proofs.solve.witness.Goals as goal
 
 pub value_of-value-requires : goal.value_of-value-requires

@@ -1,6 +1,5 @@
 use Rattle.std.proofs.Common.{Bool, refl, ap, ◌∙◌}
-use Rattle.mdp_farkas.specs.Reward.{rank_fall_checks}
-use Rattle.mdp_farkas.specs.Verdict.{objection_to}
+use Rattle.mdp_farkas.specs.{Reward.{rank_fall_checks}, Verdict.{objection_to}}
 use Rattle.mdp_bounds.specs.Reward.{lower_on_each, finite_checks}
 use Rattle.mdp_bounds.proofs.Parts.{both, handed}
 use Rattle.mdp_bounds.proofs.column.Column.finite_lower.Goals as goal

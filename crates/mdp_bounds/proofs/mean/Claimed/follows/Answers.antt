@@ -2,8 +2,7 @@ use Rattle.std.proofs.Common.{List, ap, ◌∙◌}
 use Rattle.mdp_math.specs.Rational.{ℚ}
 use Rattle.mdp_rows.specs.declared.dir.Dir.{Dir}
 use Rattle.mdp_farkas.specs.Verdict.{objection_to}
-use Rattle.mdp_bounds.specs.Reach.{covering}
-use Rattle.mdp_bounds.specs.Mean.{gains_follow}
+use Rattle.mdp_bounds.specs.{Reach.{covering}, Mean.{gains_follow}}
 use Rattle.mdp_bounds.proofs.mean.Claimed.follows.Goals as goal
 
 pub returns : goal.returns

@@ -1,14 +1,11 @@
 use Rattle.std.proofs.Common.{◌≡◌, ℕ, [], ◌∷◌, ◌++◌, List, refl}
 use Rattle.std.specs.Prelude.{Result, Ok, Err}
-use Rattle.mdp_math.specs.Rational.{ℚ}
-use Rattle.mdp_math.specs.Result.{◌>>=◌}
+use Rattle.mdp_math.specs.{Rational.{ℚ}, Result.{◌>>=◌}}
 use Rattle.mdp_spec.specs.Mdp.{Mdp}
 use Rattle.mdp_rows.specs.declared.dir.Dir.{Dir}
-use Rattle.mdp_farkas.specs.Reach.{choice_exists}
-use Rattle.mdp_farkas.specs.Verdict.{objection_to}
+use Rattle.mdp_farkas.specs.{Reach.{choice_exists}, Verdict.{objection_to}}
 use Rattle.mdp_claims.specs.declared.verdict.Objection.{Objection}
-use Rattle.mdp_bounds.specs.Reach.{covering, followed}
-use Rattle.mdp_bounds.specs.Mean.{gains_cover, gains_follow, mean_bounds_at}
+use Rattle.mdp_bounds.specs.{Reach.{covering, followed}, Mean.{gains_cover, gains_follow, mean_bounds_at}}
 use Rattle.mdp_bounds.proofs.Parts.{both, handed}
 use Rattle.mdp_bounds.proofs.mean.Claimed.state_at.Goals as goal
 

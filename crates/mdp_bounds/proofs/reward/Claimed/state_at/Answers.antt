@@ -1,11 +1,9 @@
 use Rattle.std.proofs.Common.{◌≡◌, ℕ, Bool, [], ◌∷◌, ◌++◌, List, Option, refl}
 use Rattle.std.specs.Prelude.{Result, Ok, Err}
-use Rattle.mdp_math.specs.Rational.{ℚ}
-use Rattle.mdp_math.specs.Result.{◌>>=◌}
+use Rattle.mdp_math.specs.{Rational.{ℚ}, Result.{◌>>=◌}}
 use Rattle.mdp_spec.specs.Mdp.{Mdp}
 use Rattle.mdp_rows.specs.declared.dir.Dir.{Dir}
-use Rattle.mdp_farkas.specs.Reach.{choice_exists}
-use Rattle.mdp_farkas.specs.Verdict.{objection_to}
+use Rattle.mdp_farkas.specs.{Reach.{choice_exists}, Verdict.{objection_to}}
 use Rattle.mdp_claims.specs.declared.verdict.Objection.{Objection}
 use Rattle.mdp_bounds.specs.Reward.{order_check, lower_checks, upper_value_checks, sign_checks, reward_bounds_at}
 use Rattle.mdp_bounds.proofs.Parts.{both, handed}

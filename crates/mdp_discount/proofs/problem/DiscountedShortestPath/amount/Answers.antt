@@ -1,6 +1,5 @@
 use Rattle.std.proofs.Common.{◌≡◌, ◌∙◌, ℕ, ◌<◌, ◌≤◌, sym, ap, subst}
-use Rattle.mdp_policy_iteration.specs.Problem.{amount}
-use Rattle.mdp_policy_iteration.specs.Code.{move_at}
+use Rattle.mdp_policy_iteration.specs.{Problem.{amount}, Code.{move_at}}
 use Rattle.mdp_discount.specs.Problem.{0ℚ, discount_problem}
 use Rattle.mdp_discount.proofs.Nodes.{state-can, state-move, end-move, is-end}
 use Rattle.mdp_discount.proofs.problem.DiscountedShortestPath.amount.Goals as goal

@@ -1,9 +1,8 @@
 use Rattle.std.proofs.Common.{◌≡◌, ◌∙◌, ℕ, ◌<◌, ◌≤◌, true, sym, subst}
 use Rattle.mdp_spec.specs.Mdp.{states_of, row_at}
 use Rattle.mdp_policy_iteration.specs.Code.{fits_at}
-use Rattle.mdp_discount.proofs.MadeRows.{is_some-scaled}
+use Rattle.mdp_discount.proofs.{MadeRows.{is_some-scaled}, Nodes.{state-can, state-fits, end-fits, is-end}}
 use Rattle.mdp_discount.specs.Problem.{discount_problem}
-use Rattle.mdp_discount.proofs.Nodes.{state-can, state-fits, end-fits, is-end}
 use Rattle.mdp_discount.proofs.problem.DiscountedShortestPath.fits.Goals as goal
 
 pub scaled-requires-clause-choice : goal.scaled-requires-clause-choice

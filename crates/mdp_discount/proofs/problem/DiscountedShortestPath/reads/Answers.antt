@@ -1,5 +1,4 @@
-use Rattle.mdp_discount.proofs.Nodes.{has-choice}
-use Rattle.mdp_discount.proofs.Reading.{discount-reads}
+use Rattle.mdp_discount.proofs.{Nodes.{has-choice}, Reading.{discount-reads}}
 use Rattle.mdp_discount.proofs.problem.DiscountedShortestPath.reads.Goals as goal
 
 pub row-requires-clause-state : goal.row-requires-clause-state

@@ -1,11 +1,8 @@
 use Rattle.std.proofs.Common.{◌∙◌, ℕ, ◌+◌, ◌<◌, List, sym, ap, subst}
-use Rattle.std.specs.Option.{is_some}
-use Rattle.std.specs.List.{All}
-use Rattle.mdp_spec.specs.Mdp.{Entry, states_of, row_at}
-use Rattle.mdp_spec.specs.Row.{IsRow}
+use Rattle.std.specs.{Option.{is_some}, List.{All}}
+use Rattle.mdp_spec.specs.{Mdp.{Entry, states_of, row_at}, Row.{IsRow}}
 use Rattle.mdp_elim.proofs.GivenRows.{targets_below}
-use Rattle.mdp_discount.proofs.ScaledRows.{discounted-row}
-use Rattle.mdp_discount.proofs.Nodes.{node-count, state-can, state-fits, goes-state, goes-row}
+use Rattle.mdp_discount.proofs.{ScaledRows.{discounted-row}, Nodes.{node-count, state-can, state-fits, goes-state, goes-row}}
 use Rattle.mdp_discount.proofs.MadeRows.{is_some-scaled, scaled-is}
 use Rattle.mdp_discount.proofs.problem.DiscountedShortestPath.row.Goals as goal
 

@@ -1,5 +1,4 @@
-use Rattle.std.proofs.Common.{◌∙◌, ℕ, ◌<◌, length, sym, ap, arith}
-use Rattle.std.proofs.lemmas.List.{get_or_default}
+use Rattle.std.proofs.{Common.{◌∙◌, ℕ, ◌<◌, length, sym, ap, arith}, lemmas.List.{get_or_default}}
 use Rattle.mdp_spec.specs.Mdp.{value_at}
 use Rattle.mdp_discount.specs.Problem.{0ℚ}
 use Rattle.mdp_discount.proofs.Nodes.{has-choice, node-count, written-none, written-some}

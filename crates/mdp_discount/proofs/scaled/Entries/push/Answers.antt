@@ -1,6 +1,5 @@
 use Rattle.std.proofs.Common.{◌∙◌, ◌++◌, List, sym, ap, ap₂}
-use Rattle.mdp_spec.specs.Mdp.{Entry}
-use Rattle.mdp_spec.specs.Row.{entries}
+use Rattle.mdp_spec.specs.{Mdp.{Entry}, Row.{entries}}
 use Rattle.mdp_discount.proofs.Products.{entries-more, kept-one}
 use Rattle.mdp_discount.proofs.scaled.Entries.push.Goals as goal
 

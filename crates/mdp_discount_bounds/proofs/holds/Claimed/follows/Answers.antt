@@ -1,8 +1,7 @@
 use Rattle.std.proofs.Common.{Bool, [], ◌∷◌, List, Option, ap, ◌∙◌}
 use Rattle.mdp_math.specs.Rational.{ℚ}
 use Rattle.mdp_rows.specs.declared.dir.Dir.{Dir}
-use Rattle.mdp_farkas.specs.Reach.{other}
-use Rattle.mdp_farkas.specs.Verdict.{at_choice, objection_to}
+use Rattle.mdp_farkas.specs.{Reach.{other}, Verdict.{at_choice, objection_to}}
 use Rattle.mdp_claims.specs.declared.rule.Rule.TheVariants.{DiscountedOnPolicy}
 use Rattle.mdp_bounds.specs.Says.{covering_rewards}
 use Rattle.mdp_discount_bounds.specs.Checks.{policy_check}

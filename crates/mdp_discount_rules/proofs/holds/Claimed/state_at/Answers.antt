@@ -1,7 +1,5 @@
-use Rattle.std.proofs.Common.{Bool, Option, [], ◌∷◌, ◌++◌, List, ap, ◌∙◌}
-use Rattle.std.proofs.lemmas.Result.{err_from_is_err_and}
-use Rattle.mdp_farkas.specs.Reach.{choice_exists}
-use Rattle.mdp_farkas.specs.Verdict.{Check, at_choice, at_choices, objection_to}
+use Rattle.std.proofs.{Common.{Bool, Option, [], ◌∷◌, ◌++◌, List, ap, ◌∙◌}, lemmas.Result.{err_from_is_err_and}}
+use Rattle.mdp_farkas.specs.{Reach.{choice_exists}, Verdict.{Check, at_choice, at_choices, objection_to}}
 use Rattle.mdp_claims.specs.declared.rule.Rule.TheVariants.{DiscountedOnPolicy}
 use Rattle.mdp_farkas.proofs.Objections.{halts, goes_on}
 use Rattle.mdp_discount_rules.specs.Checks.{covers_check, reached_check}

@@ -1,6 +1,5 @@
-use Rattle.std.proofs.Common.{ℕ, Bool, Option, [], ◌∷◌, List, None, ap, ◌∙◌}
+use Rattle.std.proofs.{Common.{ℕ, Bool, Option, [], ◌∷◌, List, None, ap, ◌∙◌}, lemmas.Result.{err_from_is_err_and}}
 use Rattle.std.specs.List.{slice_index, flat_map, range_with_len}
-use Rattle.std.proofs.lemmas.Result.{err_from_is_err_and}
 use Rattle.mdp_farkas.specs.Verdict.{Check, objection_to}
 use Rattle.mdp_claims.specs.declared.rule.Rule.TheVariants.{RemainderIsGreatest}
 use Rattle.mdp_farkas.proofs.Objections.{halts, goes_on}

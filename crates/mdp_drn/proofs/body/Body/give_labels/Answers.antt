@@ -1,10 +1,6 @@
-use Rattle.std.proofs.Common.{◌∙◌, subst, Result}
-use Rattle.std.proofs.lemmas.Result.{err_from_is_err_and}
+use Rattle.std.proofs.{Common.{◌∙◌, subst, Result}, lemmas.Result.{err_from_is_err_and}}
 use Rattle.mdp_rows.specs.Draft.{Draft}
-use Rattle.mdp_drn.specs.Outcome.{Refusal}
-use Rattle.mdp_drn.specs.Body.{with_labels}
-use Rattle.mdp_drn.specs.BodyView.{view}
-use Rattle.mdp_drn.specs.Feeding.{Fails}
+use Rattle.mdp_drn.specs.{Outcome.{Refusal}, Body.{with_labels}, BodyView.{view}, Feeding.{Fails}}
 use Rattle.mdp_drn.proofs.LinesRead.LabelsOneByOne.{names, name-at, one_given, one_refused, judged-same, judged-ok}
 use Rattle.mdp_drn.proofs.body.Body.give_labels.Goals as goal
 

@@ -1,7 +1,6 @@
 use Rattle.std.proofs.Common.{◌≡◌, map, drop, IsTrue}
 use Rattle.mdp_rows.specs.Draft.{has_state}
-use Rattle.mdp_drn.specs.Body.{with_labels}
-use Rattle.mdp_drn.specs.BodyView.{IsBody, IsSameBeside}
+use Rattle.mdp_drn.specs.{Body.{with_labels}, BodyView.{IsBody, IsSameBeside}}
 use Rattle.mdp_drn.proofs.body.Body.give_labels.Given as goal
 
 abbrev pub invariant-loop-label : goal.invariant-loop-label

@@ -1,11 +1,7 @@
-use Rattle.std.proofs.Common.{◌≡◌, false, sym, ◌∙◌, ap, arith}
+use Rattle.std.proofs.{Common.{◌≡◌, false, sym, ◌∙◌, ap, arith}, lemmas.List.Elements.{All-drop}, lemmas.Grind.{common_steps}}
 use Rattle.std.specs.List.{prefix_len}
-use Rattle.std.proofs.lemmas.List.Elements.{All-drop}
-use Rattle.mdp_drn.specs.Lines.{is_blank, is_line_feed, without_blanks_before}
-use Rattle.mdp_drn.specs.Body.{bracket_at}
+use Rattle.mdp_drn.specs.{Lines.{is_blank, is_line_feed, without_blanks_before}, Body.{bracket_at, state_read}}
 use Rattle.mdp_drn.proofs.LinesRead.LabelNames.{label_names, behind_plain}
-use Rattle.std.proofs.lemmas.Grind.{common_steps}
-use Rattle.mdp_drn.specs.Body.{state_read}
 use Rattle.mdp_drn.proofs.body.Body.read_state.Goals as goal
 
 pub returns-clause-names : goal.returns-clause-names

@@ -1,11 +1,6 @@
-use Rattle.std.proofs.Common.{◌≡◌, List, ℕ, Result, false, drop, sym, ap, ◌∙◌, subst}
+use Rattle.std.proofs.{Common.{◌≡◌, List, ℕ, Result, false, drop, sym, ap, ◌∙◌, subst}, lemmas.List.{take_rest}, lemmas.List.Elements.{All-drop}}
 use Rattle.std.specs.List.{prefix_len}
-use Rattle.std.proofs.lemmas.List.{take_rest}
-use Rattle.std.proofs.lemmas.List.Elements.{All-drop}
-use Rattle.mdp_drn.specs.Lines.{is_blank, is_line_feed, without_blanks_before}
-use Rattle.mdp_drn.specs.Outcome.{Refusal}
-use Rattle.mdp_drn.specs.Body.{Body, state_line, action_line}
-use Rattle.mdp_drn.specs.BodyView.{view}
+use Rattle.mdp_drn.specs.{Lines.{is_blank, is_line_feed, without_blanks_before}, Outcome.{Refusal}, Body.{Body, state_line, action_line}, BodyView.{view}}
 use Rattle.mdp_drn.specs.Feeding.{Answers}
 use Rattle.mdp_drn.proofs.LinesRead.LineKinds.{line-of_state, line-of_action, line-of_entry}
 use Rattle.mdp_drn.proofs.body.Body.take_line.Goals as goal

@@ -1,5 +1,4 @@
-use Rattle.std.proofs.Common.{arith}
-use Rattle.std.proofs.lemmas.Grind.{common_steps}
+use Rattle.std.proofs.{Common.{arith}, lemmas.Grind.{common_steps}}
 use Rattle.mdp_drn.proofs.body.Body.take_state.Goals as goal
 
 pub returns-in_err-give_labels-clause-taken : goal.returns-in_err-give_labels-clause-taken

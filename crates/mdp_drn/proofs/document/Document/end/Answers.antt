@@ -1,8 +1,6 @@
 use Rattle.std.proofs.Common.{◌≡◌, Result, sym, ap, subst}
 use Rattle.mdp_spec.specs.Mdp.{Mdp}
-use Rattle.mdp_drn.specs.Outcome.{◌>>=◌, Refusal}
-use Rattle.mdp_drn.specs.Reading.{Document, at_end}
-use Rattle.mdp_drn.specs.Feeding.{Gives}
+use Rattle.mdp_drn.specs.{Outcome.{◌>>=◌, Refusal}, Reading.{Document, at_end}, Feeding.{Gives}}
 use Rattle.mdp_drn.proofs.PiecesFed.FeedSteps.{fails_then}
 use Rattle.mdp_drn.proofs.document.Document.end.Goals as goal
 

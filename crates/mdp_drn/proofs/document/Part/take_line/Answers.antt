@@ -1,8 +1,5 @@
-use Rattle.std.proofs.Common.{◌≡◌, Option, Ok, sym, ap, subst, ◌∙◌, arith}
-use Rattle.mdp_drn.specs.declared.document.Part.{Part}
-use Rattle.mdp_drn.specs.DocumentView.{IsPart, IsBehind, part_in, part_behind}
-use Rattle.mdp_drn.specs.Reading.{kept_line}
-use Rattle.std.proofs.lemmas.Grind.{common_steps}
+use Rattle.std.proofs.{Common.{◌≡◌, Option, Ok, sym, ap, subst, ◌∙◌, arith}, lemmas.Grind.{common_steps}}
+use Rattle.mdp_drn.specs.{declared.document.Part.{Part}, DocumentView.{IsPart, IsBehind, part_in, part_behind}, Reading.{kept_line}}
 use Rattle.mdp_drn.proofs.document.Part.take_line.Goals as goal
 
 pub take_header_line-requires-clause-header : goal.take_header_line-requires-clause-header

@@ -1,7 +1,5 @@
 use Rattle.std.proofs.Common.{List, ℕ, [], ◌∷◌, ◌++◌, sym, ap, ◌∙◌, subst}
-use Rattle.mdp_drn.specs.Reading.{at_line}
-use Rattle.mdp_drn.specs.Feeding.{Held, HasRead, Fails}
-use Rattle.mdp_drn.specs.DocumentView.{document_in}
+use Rattle.mdp_drn.specs.{Reading.{at_line}, Feeding.{Held, HasRead, Fails}, DocumentView.{document_in}}
 use Rattle.mdp_drn.proofs.PiecesFed.FeedSteps.{refused-stays, line-taken, line-refused}
 use Rattle.mdp_drn.proofs.feed.Feed.close_line.Goals as goal
 

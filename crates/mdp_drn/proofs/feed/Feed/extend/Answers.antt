@@ -1,9 +1,7 @@
-use Rattle.std.proofs.Common.{◌≡◌, List, ℕ, ◌++◌, false, cond, Result, Ok, Err, refl, sym, ◌∙◌, subst, arith}
+use Rattle.std.proofs.{Common.{◌≡◌, List, ℕ, ◌++◌, false, cond, Result, Ok, Err, refl, sym, ◌∙◌, subst, arith}, lemmas.Grind.{common_steps}}
 use Rattle.std.specs.Result.{is_ok, is_err}
-use Rattle.mdp_drn.specs.Feeding.{Held, HasRead}
-use Rattle.mdp_drn.specs.DocumentView.{document_in}
+use Rattle.mdp_drn.specs.{Feeding.{Held, HasRead}, DocumentView.{document_in}}
 use Rattle.mdp_drn.proofs.PiecesFed.FeedSteps.{refused-stays, long-tail, more-tail}
-use Rattle.std.proofs.lemmas.Grind.{common_steps}
 use Rattle.mdp_drn.proofs.feed.Feed.extend.Goals as goal
 
 pub returns-then-is_some-clause-fed : goal.returns-then-is_some-clause-fed

@@ -1,10 +1,6 @@
 use Rattle.std.proofs.Common.{◌≡◌, ℕ, List, Result, sym, subst}
 use Rattle.mdp_spec.specs.Mdp.{Mdp}
-use Rattle.mdp_drn.specs.Outcome.{Refusal}
-use Rattle.mdp_drn.specs.Ending.{ended}
-use Rattle.mdp_drn.specs.Reading.{outcome}
-use Rattle.mdp_drn.specs.DocumentView.{document_in}
-use Rattle.mdp_drn.specs.Feeding.{Held, HasRead, Fails, Gives}
+use Rattle.mdp_drn.specs.{Outcome.{Refusal}, Ending.{ended}, Reading.{outcome}, DocumentView.{document_in}, Feeding.{Held, HasRead, Fails, Gives}}
 use Rattle.mdp_drn.proofs.PiecesFed.FeedSteps.{end-refused, end-standing}
 use Rattle.mdp_drn.proofs.feed.Feed.finish.Goals as goal
 

@@ -1,7 +1,5 @@
-use Rattle.std.proofs.Common.{◌≡◌, ℕ, ◌==◌, Bool, true, List, [], ◌∷◌, ◌++◌, length, sym, ◌∙◌, subst, append_assoc, arith}
-use Rattle.std.proofs.lemmas.Bool.Decides.{nat_tests}
-use Rattle.mdp_drn.specs.Feeding.{Held, HasRead}
-use Rattle.mdp_drn.specs.DocumentView.{document_in}
+use Rattle.std.proofs.{Common.{◌≡◌, ℕ, ◌==◌, Bool, true, List, [], ◌∷◌, ◌++◌, length, sym, ◌∙◌, subst, append_assoc, arith}, lemmas.Bool.Decides.{nat_tests}}
+use Rattle.mdp_drn.specs.{Feeding.{Held, HasRead}, DocumentView.{document_in}}
 use Rattle.mdp_drn.proofs.PiecesFed.FeedSteps.{refused-stays, whole-taken, whole-refused}
 use Rattle.mdp_drn.proofs.feed.Feed.take_line.Goals as goal
 

@@ -1,5 +1,4 @@
-use Rattle.std.proofs.Common.{arith}
-use Rattle.std.proofs.lemmas.Grind.{common_steps}
+use Rattle.std.proofs.{Common.{arith}, lemmas.Grind.{common_steps}}
 use Rattle.mdp_drn.specs.Header.{entry_line}
 use Rattle.mdp_drn.proofs.header.Header.take_entry.Goals as goal
 

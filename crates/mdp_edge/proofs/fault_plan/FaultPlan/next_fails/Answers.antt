@@ -1,5 +1,4 @@
-use Rattle.std.proofs.Common.{arith}
-use Rattle.std.proofs.lemmas.Grind.{common_steps}
+use Rattle.std.proofs.{Common.{arith}, lemmas.Grind.{common_steps}}
 use Rattle.mdp_edge.proofs.fault_plan.FaultPlan.next_fails.Goals as goal
 
 pub returns-clause-fails : goal.returns-clause-fails

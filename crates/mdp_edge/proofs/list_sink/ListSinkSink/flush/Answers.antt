@@ -1,7 +1,6 @@
 use Rattle.std.proofs.Common.{true, false, subst}
 use Rattle.std.specs.Prelude.{◌↔◌, IsTrue}
-use Rattle.mdp_edge.specs.Kinds.{Stored}
-use Rattle.mdp_edge.specs.Plan.{FailsNext}
+use Rattle.mdp_edge.specs.{Kinds.{Stored}, Plan.{FailsNext}}
 use Rattle.mdp_edge.proofs.list_sink.ListSinkSink.flush.Goals as goal
 
 pub returns-then-next_fails-clause-fails : goal.returns-then-next_fails-clause-fails

@@ -1,8 +1,6 @@
-use Rattle.std.proofs.Common.{true, false, refl, subst}
-use Rattle.std.proofs.lemmas.List.{take_rest, drop-drop}
+use Rattle.std.proofs.{Common.{true, false, refl, subst}, lemmas.List.{take_rest, drop-drop}}
 use Rattle.std.specs.Prelude.{◌↔◌, IsTrue}
-use Rattle.mdp_edge.specs.Kinds.{Listed}
-use Rattle.mdp_edge.specs.Plan.{FailsNext}
+use Rattle.mdp_edge.specs.{Kinds.{Listed}, Plan.{FailsNext}}
 use Rattle.mdp_edge.proofs.list_source.ListSourceSource.read.Goals as goal
 
 pub returns-then-next_fails-clause-fails : goal.returns-then-next_fails-clause-fails

@@ -1,12 +1,9 @@
-use Rattle.std.proofs.Common.{◌≡◌, ◌∙◌, ◌<◌, ◌+◌, ℕ, List, None, Some, Err, get_or, subst, sym, ap, rules, arith}
+use Rattle.std.proofs.{Common.{◌≡◌, ◌∙◌, ◌<◌, ◌+◌, ℕ, List, None, Some, Err, get_or, subst, sym, ap, rules, arith}, lemmas.List.{get_or_default}}
 use Rattle.std.specs.List.{All, Contains, remove}
-use Rattle.std.proofs.lemmas.List.{get_or_default}
 use Rattle.smallvec.specs.SmallVec.{SmallVec}
 use Rattle.mdp_wide.specs.declared.unfinished.Unfinished.TheVariants as error
 use Rattle.mdp_elim.specs.Equation as spec
-use Rattle.mdp_elim.specs.Entries.{each}
-use Rattle.mdp_elim.specs.Elimination.{substituted}
-use Rattle.mdp_elim.specs.Predecessors.{no_states, IsLinked, LeadsTo, at}
+use Rattle.mdp_elim.specs.{Entries.{each}, Elimination.{substituted}, Predecessors.{no_states, IsLinked, LeadsTo, at}}
 use Rattle.mdp_elim.proofs.Equations.{eliminated-none_pivot}
 use Rattle.mdp_elim.proofs.Putting.{linked_suc, rest_linked, rest_complete, taken_smaller, pivot_below, whole, whole_linked, whole_none}
 use Rattle.mdp_elim.proofs.elimination.System.eliminate.Goals as goal

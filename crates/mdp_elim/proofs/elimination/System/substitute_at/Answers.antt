@@ -1,15 +1,11 @@
-use Rattle.std.proofs.Common.{◌≡◌, ◌∙◌, ◌<◌, ◌+◌, ◌⊎◌, ℕ, sym, ap, subst, List, length, Some, arith}
+use Rattle.std.proofs.{Common.{◌≡◌, ◌∙◌, ◌<◌, ◌+◌, ◌⊎◌, ℕ, sym, ap, subst, List, length, Some, arith}, Math.ListN.{set}}
+use Rattle.std.proofs.{lemmas.List.{with_items_is, length-set, get_or_default}, lemmas.Result.{on_ok_weaker}}
 use Rattle.std.specs.List.{All}
-use Rattle.std.proofs.Math.ListN.{set}
-use Rattle.std.proofs.lemmas.List.{with_items_is, length-set, get_or_default}
-use Rattle.std.proofs.lemmas.Result.{on_ok_weaker}
 use Rattle.smallvec.specs.SmallVec.{SmallVec}
 use Rattle.mdp_spec.specs.Mdp.{Entry}
 use Rattle.mdp_elim.specs.Equation as spec
-use Rattle.mdp_elim.specs.Elimination.{substituted}
-use Rattle.mdp_elim.specs.Predecessors.{IsLinked, ListsMore, LeadsTo, IsListed, at}
-use Rattle.mdp_elim.proofs.RowSums.{between-below}
-use Rattle.mdp_elim.proofs.Putting.{put_at, put_linked}
+use Rattle.mdp_elim.specs.{Elimination.{substituted}, Predecessors.{IsLinked, ListsMore, LeadsTo, IsListed, at}}
+use Rattle.mdp_elim.proofs.{RowSums.{between-below}, Putting.{put_at, put_linked}}
 use Rattle.mdp_elim.proofs.elimination.System.substitute_at.Goals as goal
 
 pub list_new-requires : goal.list_new-requires

@@ -1,16 +1,13 @@
-use Rattle.std.proofs.Common.{◌≡◌, None, Some, List, subst, sym, arith}
+use Rattle.std.proofs.{Common.{◌≡◌, None, Some, List, subst, sym, arith}, lemmas.Result.{MatchResult-from_err}, lemmas.List.{with_items_is}}
 use Rattle.mdp_spec.specs.Mdp.{Entry}
-use Rattle.std.proofs.lemmas.Result.{MatchResult-from_err}
 use Rattle.std.specs.Vec.{with_items}
-use Rattle.std.proofs.lemmas.List.{with_items_is}
 use Rattle.mdp_math.proofs.Order.{1ℚ}
 use Rattle.mdp_num.specs.Written.{written_sub}
 use Rattle.mdp_elim.specs.Equation as spec
-use Rattle.mdp_elim.specs.Entries.{each, divided_entry}
-use Rattle.mdp_elim.specs.Elimination.{divided_rest}
+use Rattle.mdp_elim.specs.{Entries.{each, divided_entry}, Elimination.{divided_rest}}
 use Rattle.mdp_elim.proofs.Equations.{one_less-nonzero, divided_rest-none, divided_rest-none_entries, divided_rest-none_first, divided_rest-none_second, divided_rest-some}
-use Rattle.mdp_elim.proofs.equation.Equation.divide_by.Goals as goal
 use Rattle.mdp_elim.proofs.equation.Equation.divide_by.Goals.{After-divisor-2-1, After-divisor-3-1}
+use Rattle.mdp_elim.proofs.equation.Equation.divide_by.Goals as goal
 
 -- what it divides by
 divisor_is : (c : After-divisor-2-1) → Some c.in_ok-divisor.divisor ≡ written_sub 1ℚ c.args.own.now

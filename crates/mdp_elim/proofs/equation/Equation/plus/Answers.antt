@@ -1,8 +1,7 @@
 use Rattle.std.proofs.Common.{◌≡◌, None, Some, Err, subst, rules}
 use Rattle.mdp_wide.specs.declared.unfinished.Unfinished.TheVariants as error
 use Rattle.mdp_elim.specs.Equation as spec
-use Rattle.mdp_elim.specs.Entries.{plus_row}
-use Rattle.mdp_elim.specs.Elimination.{plus_equation}
+use Rattle.mdp_elim.specs.{Entries.{plus_row}, Elimination.{plus_equation}}
 use Rattle.mdp_elim.proofs.Equations.{plus_equation-none_entries, plus_equation-none_first, plus_equation-none_second, plus_equation-some}
 use Rattle.mdp_elim.proofs.equation.Equation.plus.Goals as goal
 

@@ -1,15 +1,10 @@
-use Rattle.std.proofs.Common.{◌≡◌, ◌∙◌, ℕ, Ok, Result, List, length, map, sym, ap, ap₂, subst, arith}
-use Rattle.std.proofs.lemmas.List.{with_items_is}
+use Rattle.std.proofs.{Common.{◌≡◌, ◌∙◌, ℕ, Ok, Result, List, length, map, sym, ap, ap₂, subst, arith}, lemmas.List.{with_items_is}}
 use Rattle.std.proofs.lemmas.Result.{on_ok_weaker}
 use Rattle.mdp_math.specs.Rational.{ℚ}
-use Rattle.mdp_elim.specs.Elimination.{solution}
-use Rattle.mdp_elim.proofs.KeptSolution.{solved-solution}
-use Rattle.mdp_elim.specs.Equation as spec
-use Rattle.mdp_elim.specs.Predecessors.{at}
-use Rattle.mdp_elim.specs.System.{system}
+use Rattle.mdp_elim.specs.{Elimination.{solution}, Predecessors.{at}, System.{system}}
 use Rattle.mdp_elim.specs.Kept.{Kept, CanServe, AreSolved, LeadToSmaller, StaySolved, StayOutside, values_by}
-use Rattle.mdp_elim.proofs.Leaving.{system-len}
-use Rattle.mdp_elim.proofs.Others.{serve-solved, serve-outside, outside-kept}
+use Rattle.mdp_elim.proofs.{KeptSolution.{solved-solution}, Leaving.{system-len}, Others.{serve-solved, serve-outside, outside-kept}}
+use Rattle.mdp_elim.specs.Equation as spec
 use Rattle.mdp_elim.proofs.keeping.Kept.solve_again.Goals as goal
 
 pub solve_states-requires-clause-count : goal.solve_states-requires-clause-count

@@ -1,7 +1,5 @@
-use Rattle.std.proofs.Common.{[], ◌∷◌, ◌++◌, List}
-use Rattle.std.proofs.lemmas.Result.{err_from_is_err_and}
-use Rattle.mdp_farkas.specs.Mean.{gain_check, relative_check, policy_gain_check, policy_bias_check}
-use Rattle.mdp_farkas.specs.Verdict.{Check, at_choices}
+use Rattle.std.proofs.{Common.{[], ◌∷◌, ◌++◌, List}, lemmas.Result.{err_from_is_err_and}}
+use Rattle.mdp_farkas.specs.{Mean.{gain_check, relative_check, policy_gain_check, policy_bias_check}, Verdict.{Check, at_choices}}
 use Rattle.mdp_farkas.proofs.Objections.{halts, goes_on}
 use Rattle.mdp_farkas.proofs.mean.Claimed.rules_at.Goals as goal
 

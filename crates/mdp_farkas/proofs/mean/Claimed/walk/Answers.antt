@@ -1,7 +1,5 @@
-use Rattle.std.proofs.Common.{[], ◌∷◌, List}
-use Rattle.std.proofs.lemmas.Result.{err_from_is_err_and}
-use Rattle.mdp_farkas.specs.Mean.{state_checks, spread_check}
-use Rattle.mdp_farkas.specs.Verdict.{Check}
+use Rattle.std.proofs.{Common.{[], ◌∷◌, List}, lemmas.Result.{err_from_is_err_and}}
+use Rattle.mdp_farkas.specs.{Mean.{state_checks, spread_check}, Verdict.{Check}}
 use Rattle.mdp_farkas.proofs.Objections.{halts, goes_on}
 use Rattle.mdp_farkas.proofs.mean.Claimed.walk.Goals as goal
 

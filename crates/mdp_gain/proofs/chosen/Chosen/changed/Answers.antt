@@ -1,11 +1,7 @@
-use Rattle.std.proofs.Common.{◌∙◌, ℕ, Bool, List, length, sym, ap, arith}
-use Rattle.std.proofs.lemmas.List.FromFn.{length-map-range_with_len}
-use Rattle.std.proofs.lemmas.Result.{IfOk-weaker}
-use Rattle.mdp_unichain.specs.Component.{IsPolicy}
-use Rattle.mdp_unichain.specs.Classes.{AreClasses}
+use Rattle.std.proofs.{Common.{◌∙◌, ℕ, Bool, List, length, sym, ap, arith}, lemmas.List.FromFn.{length-map-range_with_len}, lemmas.Result.{IfOk-weaker}}
+use Rattle.mdp_unichain.specs.{Component.{IsPolicy}, Classes.{AreClasses}}
 use Rattle.mdp_gain.specs.Code.{component_in}
-use Rattle.mdp_gain.proofs.Flagging.{all-below, changed-is}
-use Rattle.mdp_gain.proofs.Given.{count-is}
+use Rattle.mdp_gain.proofs.{Flagging.{all-below, changed-is}, Given.{count-is}}
 use Rattle.mdp_gain.proofs.chosen.Chosen.changed.Goals as goal
 
 pub flagged_parts-requires-clause-flags : goal.flagged_parts-requires-clause-flags

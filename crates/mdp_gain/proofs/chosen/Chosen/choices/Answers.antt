@@ -1,7 +1,6 @@
 use Rattle.std.proofs.Common.{arith}
 use Rattle.mdp_gain.specs.Code.{component_in}
-use Rattle.mdp_gain.proofs.Allowing.{all_allowed}
-use Rattle.mdp_gain.proofs.Given.{count-is}
+use Rattle.mdp_gain.proofs.{Allowing.{all_allowed}, Given.{count-is}}
 use Rattle.mdp_gain.proofs.chosen.Chosen.choices.Goals as goal
 
 pub allow_at-requires-clause-state : goal.allow_at-requires-clause-state

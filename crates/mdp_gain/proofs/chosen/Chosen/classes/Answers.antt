@@ -1,15 +1,12 @@
 use Rattle.std.proofs.Common.{◌≡◌, ◌∙◌, ℕ, List, length, sym, ap, subst, map, arith}
-use Rattle.std.specs.List.{range_with_len}
-use Rattle.std.specs.Prelude.{slice_index}
+use Rattle.std.specs.{List.{range_with_len}, Prelude.{slice_index}}
 use Rattle.mdp_graph.specs.Sets.{marked}
 use Rattle.mdp_ends.specs.Walks.{AreComponents}
 use Rattle.mdp_parts.specs.Allowed.{allowed_at}
-use Rattle.mdp_unichain.specs.Component.{count}
-use Rattle.mdp_unichain.specs.Classes.{leaves, has_flag}
+use Rattle.mdp_unichain.specs.{Component.{count}, Classes.{leaves, has_flag}}
 use Rattle.mdp_unichain.proofs.ClassesFound.{number-below, are_classes}
 use Rattle.mdp_gain.specs.Code.{component_in}
-use Rattle.mdp_gain.proofs.Flagging.{all-below}
-use Rattle.mdp_gain.proofs.Given.{count-is, part-of}
+use Rattle.mdp_gain.proofs.{Flagging.{all-below}, Given.{count-is, part-of}}
 use Rattle.mdp_gain.proofs.chosen.Chosen.classes.Goals as goal
 
 pub left-requires-clause-parts : goal.left-requires-clause-parts

@@ -1,11 +1,9 @@
 use Rattle.std.proofs.Common.{◌∙◌, Bool, ◌&&◌, ◌==◌, not, List, sym, ap}
-use Rattle.std.specs.List.{list_any}
-use Rattle.std.specs.Prelude.{slice_index}
+use Rattle.std.specs.{List.{list_any}, Prelude.{slice_index}}
 use Rattle.mdp_spec.specs.Mdp.{Entry}
 use Rattle.mdp_unichain.specs.Component.{row_by}
 use Rattle.mdp_gain.specs.Code.{component_in}
-use Rattle.mdp_gain.proofs.Flagging.{any-targets}
-use Rattle.mdp_gain.proofs.Given.{policy-below}
+use Rattle.mdp_gain.proofs.{Flagging.{any-targets}, Given.{policy-below}}
 use Rattle.mdp_gain.proofs.chosen.Chosen.leaves.Goals as goal
 
 pub row-row-requires-clause-choice : goal.row-row-requires-clause-choice

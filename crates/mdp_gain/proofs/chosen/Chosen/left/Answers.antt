@@ -1,12 +1,8 @@
-use Rattle.std.proofs.Common.{◌∙◌, Bool, List, length, map, refl, sym, ap, arith}
+use Rattle.std.proofs.{Common.{◌∙◌, Bool, List, length, map, refl, sym, ap, arith}, lemmas.List.FromFn.{length-map-range_with_len}, lemmas.Result.{IfOk-weaker}}
 use Rattle.std.specs.List.{range_with_len}
-use Rattle.std.proofs.lemmas.List.FromFn.{length-map-range_with_len}
-use Rattle.std.proofs.lemmas.Result.{IfOk-weaker}
-use Rattle.mdp_unichain.specs.Component.{count}
-use Rattle.mdp_unichain.specs.Classes.{leaves}
+use Rattle.mdp_unichain.specs.{Component.{count}, Classes.{leaves}}
 use Rattle.mdp_gain.specs.Code.{component_in}
-use Rattle.mdp_gain.proofs.Flagging.{flagged-is}
-use Rattle.mdp_gain.proofs.Given.{count-is}
+use Rattle.mdp_gain.proofs.{Flagging.{flagged-is}, Given.{count-is}}
 use Rattle.mdp_gain.proofs.chosen.Chosen.left.Goals as goal
 
 pub flagged_parts-requires-clause-flags : goal.flagged_parts-requires-clause-flags

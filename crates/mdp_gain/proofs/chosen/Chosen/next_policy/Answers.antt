@@ -1,8 +1,6 @@
 use Rattle.std.proofs.Common.{List, ℕ, Option, None, Bool, inl, refl, sym, subst}
 use Rattle.std.specs.Prelude.{IfOk}
-use Rattle.mdp_unichain.specs.Classes.{Picks}
-use Rattle.mdp_unichain.specs.Component.{IsPolicy}
-use Rattle.mdp_unichain.specs.Next.{IsExactNext}
+use Rattle.mdp_unichain.specs.{Classes.{Picks}, Component.{IsPolicy}, Next.{IsExactNext}}
 use Rattle.mdp_gain.specs.Code.{component_in}
 use Rattle.mdp_gain.proofs.chosen.Chosen.next_policy.Goals as goal
 

@@ -1,11 +1,9 @@
 use Rattle.std.proofs.Common.{◌∙◌, ℕ, List, map, sym, ap}
 use Rattle.std.specs.List.{range_with_len}
-use Rattle.mdp_unichain.specs.Component.{count}
-use Rattle.mdp_unichain.specs.Classes.{shares_part, is_in_changed_class}
+use Rattle.mdp_unichain.specs.{Component.{count}, Classes.{shares_part, is_in_changed_class}}
 use Rattle.mdp_unichain.proofs.Picking.{IsFirst, none_changed, picked_class}
 use Rattle.mdp_gain.specs.Code.{component_in}
-use Rattle.mdp_gain.proofs.Flagging.{find-first, find-none}
-use Rattle.mdp_gain.proofs.Given.{is-component}
+use Rattle.mdp_gain.proofs.{Flagging.{find-first, find-none}, Given.{is-component}}
 use Rattle.mdp_gain.proofs.chosen.Chosen.picked.Goals as goal
 
 pub class_of-requires-clause-state : goal.class_of-requires-clause-state

@@ -1,9 +1,6 @@
-use Rattle.std.proofs.Common.{◌∙◌, sym}
-use Rattle.std.proofs.lemmas.Result.{err_from_is_err_and}
-use Rattle.mdp_unichain.specs.Chain.{AllLeadTo, IsReference}
-use Rattle.mdp_unichain.specs.Improvement.{IsImproved}
-use Rattle.mdp_unichain.proofs.Improving.{state-below}
-use Rattle.mdp_unichain.proofs.Compares.{improves_exactly}
+use Rattle.std.proofs.{Common.{◌∙◌, sym}, lemmas.Result.{err_from_is_err_and}}
+use Rattle.mdp_unichain.specs.{Chain.{AllLeadTo, IsReference}, Improvement.{IsImproved}}
+use Rattle.mdp_unichain.proofs.{Improving.{state-below}, Compares.{improves_exactly}}
 use Rattle.mdp_gain.specs.Code.{component_in, values_in}
 use Rattle.mdp_policy_iteration.proofs.Answering.{says_of, says_same}
 use Rattle.mdp_gain.proofs.Rounds.{values_refused, improved_refused, makes_err, round_done, round_next}

@@ -2,8 +2,7 @@ use Rattle.std.proofs.Common.{◌∙◌, ℕ, List, length, sym, ap}
 use Rattle.mdp_graph.specs.Choices.{AreLeast}
 use Rattle.mdp_ends.specs.Toward.{IsToward}
 use Rattle.mdp_gain.specs.Code.{joined}
-use Rattle.mdp_gain.proofs.NextPolicy.{some_target, exact_next}
-use Rattle.mdp_gain.proofs.Given.{count-is}
+use Rattle.mdp_gain.proofs.{NextPolicy.{some_target, exact_next}, Given.{count-is}}
 use Rattle.mdp_gain.proofs.chosen.Chosen.toward_class.Goals as goal
 
 pub toward-requires-clause-some : goal.toward-requires-clause-some

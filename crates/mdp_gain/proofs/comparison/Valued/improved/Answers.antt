@@ -1,8 +1,7 @@
 use Rattle.std.proofs.Common.{◌∙◌, ◌+◌, ℕ, Result, Ok, sym, ap, arith, ◌≡◌, subst}
 use Rattle.mdp_policy_iteration.specs.Places.{Place, up_to}
 use Rattle.mdp_policy_iteration.proofs.Answering.{up_to-more}
-use Rattle.mdp_unichain.specs.Component.{count}
-use Rattle.mdp_unichain.specs.Written.{improved_at}
+use Rattle.mdp_unichain.specs.{Component.{count}, Written.{improved_at}}
 use Rattle.mdp_gain.specs.Code.{component_in, values_in}
 use Rattle.mdp_gain.proofs.Answering.{up_to-stops}
 use Rattle.mdp_gain.proofs.comparison.Valued.improved.Goals as goal

@@ -1,7 +1,6 @@
 use Rattle.std.proofs.Common.{◌≡◌, map}
 use Rattle.std.specs.List.{range_with_len}
-use Rattle.mdp_unichain.specs.Component.{is_state}
-use Rattle.mdp_unichain.specs.Evaluation.{active}
+use Rattle.mdp_unichain.specs.{Component.{is_state}, Evaluation.{active}}
 use Rattle.mdp_gain.specs.Code.{component_in}
 use Rattle.mdp_gain.proofs.component.EndComponent.active_states.Given as goal
 

@@ -1,5 +1,4 @@
-use Rattle.std.proofs.Common.{◌∙◌, sym, arith}
-use Rattle.std.proofs.lemmas.Result.{err_from_is_err_and, IfErr-at_err}
+use Rattle.std.proofs.{Common.{◌∙◌, sym, arith}, lemmas.Result.{err_from_is_err_and, IfErr-at_err}}
 use Rattle.mdp_wide.specs.declared.too_wide.Kind.TheVariants.{Compare}
 use Rattle.mdp_gain.specs.Code.{component_in}
 use Rattle.mdp_policy_iteration.proofs.Answering.{placed-err, says, answers_err}

@@ -1,6 +1,5 @@
-use Rattle.std.proofs.Common.{◌∙◌, ℕ, sym, ap, arith, Option, Some}
+use Rattle.std.proofs.Common.{◌∙◌, ℕ, sym, ap, arith, Option, Some, eqb}
 use Rattle.mdp_ends.specs.Ends.{part_of}
-use Rattle.std.proofs.Common.{eqb}
 use Rattle.std.specs.Option.{option_eq}
 use Rattle.mdp_gain.proofs.Given.{state-below, parts-len, member-is, number-eq}
 use Rattle.mdp_gain.proofs.component.EndComponent.holds.Goals as goal

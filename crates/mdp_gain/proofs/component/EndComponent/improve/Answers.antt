@@ -1,9 +1,6 @@
 use Rattle.std.proofs.Common.{◌≡◌, ℕ, ◌+◌, List, Ok, Err, refl, sym, subst, arith, rules}
-use Rattle.mdp_policy_iteration.specs.Path.{Round}
-use Rattle.mdp_policy_iteration.specs.Errors.{PathError}
-use Rattle.mdp_unichain.specs.Chain.{IsReference}
-use Rattle.mdp_unichain.specs.Component.{is_state, row_by, IsPolicy}
-use Rattle.mdp_unichain.specs.Path.{Found, IsStart}
+use Rattle.mdp_policy_iteration.specs.{Path.{Round}, Errors.{PathError}}
+use Rattle.mdp_unichain.specs.{Chain.{IsReference}, Component.{is_state, row_by, IsPolicy}, Path.{Found, IsStart}}
 use Rattle.mdp_gain.specs.Code.{component_in, values_in, Ends, HasBiases, HasEntries}
 use Rattle.mdp_gain.specs.declared.round.RoundEnd.TheVariants as end
 use Rattle.mdp_gain.proofs.Rounds.{made_at, turned, goes_on, ends_done, ends_by, error_entries}

@@ -1,10 +1,6 @@
 use Rattle.std.proofs.Common.{◌≡◌, ℕ, ◌-◌, ◌^◌, min, Result}
-use Rattle.mdp_policy_iteration.specs.Path.{Refusal}
-use Rattle.mdp_policy_iteration.specs.Laws.{first}
-use Rattle.mdp_unichain.specs.Chain.{IsReference}
-use Rattle.mdp_unichain.specs.Component.{is_state, row_by}
-use Rattle.mdp_unichain.specs.Iteration.{EndsWith}
-use Rattle.mdp_unichain.specs.Path.{Found, Makes, IsStart}
+use Rattle.mdp_policy_iteration.specs.{Path.{Refusal}, Laws.{first}}
+use Rattle.mdp_unichain.specs.{Chain.{IsReference}, Component.{is_state, row_by}, Iteration.{EndsWith}, Path.{Found, Makes, IsStart}}
 use Rattle.mdp_unichain.proofs.Ending.{better_left}
 use Rattle.mdp_gain.specs.Code.{component_in}
 use Rattle.mdp_gain.proofs.component.EndComponent.improve.Given as goal

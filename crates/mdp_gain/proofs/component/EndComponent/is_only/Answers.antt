@@ -1,6 +1,5 @@
 use Rattle.std.proofs.Common.{sym, ◌∙◌, arith}
-use Rattle.mdp_gain.specs.Code.{component_in}
-use Rattle.mdp_gain.specs.Only.{stays}
+use Rattle.mdp_gain.specs.{Code.{component_in}, Only.{stays}}
 use Rattle.mdp_gain.proofs.Alls.{all_below, not_all_below, each_more}
 use Rattle.mdp_gain.proofs.component.EndComponent.is_only.Goals as goal
 

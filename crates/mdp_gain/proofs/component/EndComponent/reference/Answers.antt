@@ -1,12 +1,9 @@
 use Rattle.std.proofs.Common.{◌∙◌, ℕ, Option, sym, ap, subst}
 use Rattle.std.specs.Option.{unwrap_or}
-use Rattle.mdp_unichain.specs.Chain.{IsReference}
-use Rattle.mdp_unichain.specs.Component.{count, is_state, row_by}
-use Rattle.mdp_unichain.specs.Classes.{is_in_class}
+use Rattle.mdp_unichain.specs.{Chain.{IsReference}, Component.{count, is_state, row_by}, Classes.{is_in_class}}
 use Rattle.mdp_unichain.proofs.Picking.{some_in_class, reference-first}
 use Rattle.mdp_gain.specs.Code.{component_in}
-use Rattle.mdp_gain.proofs.Flagging.{find-or}
-use Rattle.mdp_gain.proofs.Given.{is-component}
+use Rattle.mdp_gain.proofs.{Flagging.{find-or}, Given.{is-component}}
 use Rattle.mdp_gain.proofs.component.EndComponent.reference.Goals as goal
 
 pub returns : goal.returns

@@ -1,6 +1,5 @@
 use Rattle.std.proofs.Common.{◌∙◌, ℕ, Option, map, ◌==◌, refl, ap, arith}
-use Rattle.std.specs.List.{range_with_len}
-use Rattle.std.specs.Option.{unwrap_or}
+use Rattle.std.specs.{List.{range_with_len}, Option.{unwrap_or}}
 use Rattle.mdp_unichain.proofs.Picking.{IsFirst}
 use Rattle.mdp_gain.proofs.Starting.{first_state, target-len, some_target, choices-len, first_start}
 use Rattle.mdp_gain.proofs.component.EndComponent.start.Goals as goal

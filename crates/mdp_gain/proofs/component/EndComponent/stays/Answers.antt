@@ -1,7 +1,6 @@
 use Rattle.std.proofs.Common.{◌∙◌, ◌||◌, not, Bool, sym, ap}
 use Rattle.mdp_unichain.specs.Component.{choice_at}
-use Rattle.mdp_gain.specs.Code.{component_in}
-use Rattle.mdp_gain.specs.Only.{leads_to_only}
+use Rattle.mdp_gain.specs.{Code.{component_in}, Only.{leads_to_only}}
 use Rattle.mdp_gain.proofs.OnlyAlone.{all-targets}
 use Rattle.mdp_gain.proofs.component.EndComponent.stays.Goals as goal
 

@@ -2,8 +2,7 @@ use Rattle.std.proofs.Common.{◌∙◌, ◌+◌, ℕ, Result, Ok, sym, ap, arit
 use Rattle.mdp_math.specs.Rational.{ℚ}
 use Rattle.mdp_policy_iteration.specs.Places.{Place, up_to}
 use Rattle.mdp_policy_iteration.proofs.Answering.{up_to-more}
-use Rattle.mdp_unichain.specs.Component.{count}
-use Rattle.mdp_unichain.specs.Written.{bias_of}
+use Rattle.mdp_unichain.specs.{Component.{count}, Written.{bias_of}}
 use Rattle.mdp_gain.specs.Code.{component_in}
 use Rattle.mdp_gain.proofs.Answering.{up_to-stops}
 use Rattle.mdp_gain.proofs.evaluation.Columns.biases.Goals as goal

@@ -1,13 +1,10 @@
-use Rattle.std.specs.List.{All}
+use Rattle.std.specs.{List.{All}, Result.{result_ok}}
 use Rattle.std.proofs.Common.{◌∙◌, List, sym, ap, ap₂, ◌<◌, subst}
-use Rattle.std.specs.Result.{result_ok}
 use Rattle.mdp_math.specs.Rational.{ℚ}
-use Rattle.mdp_spec.specs.Mdp.{Entry}
-use Rattle.mdp_spec.specs.Written.{written_sum}
+use Rattle.mdp_spec.specs.{Mdp.{Entry}, Written.{written_sum}}
 use Rattle.mdp_unichain.specs.Component.{row_by}
 use Rattle.mdp_gain.specs.Code.{component_in}
-use Rattle.mdp_gain.proofs.Given.{policy-below}
-use Rattle.mdp_gain.proofs.Told.{not_zero}
+use Rattle.mdp_gain.proofs.{Given.{policy-below}, Told.{not_zero}}
 use Rattle.mdp_gain.proofs.evaluation.Columns.ratio.Goals as goal
 
 pub row-row-requires-clause-choice : goal.row-row-requires-clause-choice

@@ -1,6 +1,5 @@
 use Rattle.mdp_policy_iteration.proofs.Results.{IsUpTo, up_to-is}
-use Rattle.mdp_unichain.specs.Component.{count}
-use Rattle.mdp_unichain.specs.Written.{bias_of}
+use Rattle.mdp_unichain.specs.{Component.{count}, Written.{bias_of}}
 use Rattle.mdp_gain.specs.Code.{component_in}
 use Rattle.mdp_gain.proofs.evaluation.Columns.values.Goals as goal
 

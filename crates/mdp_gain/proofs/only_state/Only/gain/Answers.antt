@@ -2,10 +2,8 @@ use Rattle.std.proofs.Common.{Result, sym, subst}
 use Rattle.mdp_math.specs.Rational.{ℚ}
 use Rattle.mdp_unichain.specs.Written.{written_values}
 use Rattle.mdp_unichain.proofs.Improving.{inner-below}
-use Rattle.mdp_gain.specs.Code.{component_in}
-use Rattle.mdp_policy_iteration.specs.Faults.{Answers}
-use Rattle.mdp_gain.specs.Only.{policy_of, values_of}
-use Rattle.mdp_policy_iteration.specs.Errors.{RoundError}
+use Rattle.mdp_gain.specs.{Code.{component_in}, Only.{policy_of, values_of}}
+use Rattle.mdp_policy_iteration.specs.{Faults.{Answers}, Errors.{RoundError}}
 use Rattle.mdp_gain.proofs.OnlyState.{gain-told}
 use Rattle.mdp_gain.proofs.only_state.Only.gain.Goals as goal
 

@@ -1,21 +1,14 @@
-use Rattle.std.proofs.Common.{◌≡◌, ◌∙◌, Ok, Option, Some, None, sym, ap}
+use Rattle.std.proofs.{Common.{◌≡◌, ◌∙◌, Ok, Option, Some, None, sym, ap}, lemmas.Result.{err_from_is_err_and}}
 use Rattle.std.specs.Result.{result_ok}
-use Rattle.std.proofs.lemmas.Result.{err_from_is_err_and}
-use Rattle.mdp_math.specs.Rational.{ℚ}
-use Rattle.mdp_math.specs.Result.{◌>>=◌}
-use Rattle.mdp_math.specs.Written.{written_add}
+use Rattle.mdp_math.specs.{Rational.{ℚ}, Result.{◌>>=◌}, Written.{written_add}}
 use Rattle.mdp_math.proofs.Order.{0ℚ}
 use Rattle.mdp_wide.specs.declared.too_wide.Kind.TheVariants.{Compare}
-use Rattle.mdp_policy_iteration.specs.Path.{comparing}
-use Rattle.mdp_policy_iteration.specs.Places.{at_place}
+use Rattle.mdp_policy_iteration.specs.{Path.{comparing}, Places.{at_place}}
 use Rattle.mdp_unichain.proofs.Improving.{state-below}
 use Rattle.mdp_unichain.specs.Component.{count}
-use Rattle.mdp_gain.specs.Code.{component_in, choice_over}
-use Rattle.mdp_gain.specs.OnlyTerms.{zeros}
-use Rattle.mdp_gain.proofs.OnlySums.{zeros-length}
-use Rattle.mdp_gain.specs.Only.{IsOnly, policy_of}
+use Rattle.mdp_gain.specs.{Code.{component_in, choice_over}, OnlyTerms.{zeros}, Only.{IsOnly, policy_of}}
+use Rattle.mdp_gain.proofs.{OnlySums.{zeros-length}, OnlyState.{answers_mapped, improved-is}}
 use Rattle.mdp_policy_iteration.proofs.Answering.{placed-err, placed-ok, says, answers_err}
-use Rattle.mdp_gain.proofs.OnlyState.{answers_mapped, improved-is}
 use Rattle.mdp_gain.proofs.only_state.Only.improved.Goals as goal
 
 pub returns-in_err-present : goal.returns-in_err-present

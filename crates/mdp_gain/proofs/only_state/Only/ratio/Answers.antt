@@ -1,13 +1,10 @@
 use Rattle.std.proofs.Common.{◌∙◌, sym, ap}
 use Rattle.std.specs.Result.{result_ok}
 use Rattle.mdp_math.specs.Rational.{ℚ}
-use Rattle.mdp_spec.specs.Row.{entries}
-use Rattle.mdp_spec.specs.Written.{written_sum}
+use Rattle.mdp_spec.specs.{Row.{entries}, Written.{written_sum}}
 use Rattle.mdp_unichain.specs.Component.{count}
 use Rattle.mdp_unichain.proofs.Improving.{state-below}
-use Rattle.mdp_gain.specs.Code.{component_in}
-use Rattle.mdp_gain.specs.Only.{IsOnly}
-use Rattle.mdp_gain.specs.OnlyTerms.{zeros}
+use Rattle.mdp_gain.specs.{Code.{component_in}, Only.{IsOnly}, OnlyTerms.{zeros}}
 use Rattle.mdp_gain.proofs.OnlySums.{zeros-cover, one-not_zero}
 use Rattle.mdp_gain.proofs.only_state.Only.ratio.Goals as goal
 

@@ -1,9 +1,7 @@
 use Rattle.std.proofs.lemmas.Result.{err_from_is_err_and}
-use Rattle.mdp_gain.specs.Code.{component_in}
-use Rattle.mdp_gain.specs.Only.{values_of}
+use Rattle.mdp_gain.specs.{Code.{component_in}, Only.{values_of}}
 use Rattle.mdp_policy_iteration.proofs.Answering.{says_of, says_same}
-use Rattle.mdp_gain.proofs.Given.{is-component}
-use Rattle.mdp_gain.proofs.OnlyMakes.{makes-err, values-refused, improved-refused, turn-done, turn-next}
+use Rattle.mdp_gain.proofs.{Given.{is-component}, OnlyMakes.{makes-err, values-refused, improved-refused, turn-done, turn-next}}
 use Rattle.mdp_gain.proofs.only_state.Only.round.Goals as goal
 
 pub returns-in_err-gain : goal.returns-in_err-gain

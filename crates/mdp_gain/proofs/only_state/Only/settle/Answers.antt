@@ -1,8 +1,7 @@
 use Rattle.std.proofs.Common.{◌+◌, Ok, Err, arith, rules}
 use Rattle.mdp_gain.specs.Code.{component_in}
 use Rattle.mdp_gain.specs.declared.only_round.Turn.TheVariants as turn
-use Rattle.mdp_gain.proofs.Given.{is-component}
-use Rattle.mdp_gain.proofs.OnlyPath.{made_as, next-inner, only-fewer, settled-ends, turned-on, error-ends}
+use Rattle.mdp_gain.proofs.{Given.{is-component}, OnlyPath.{made_as, next-inner, only-fewer, settled-ends, turned-on, error-ends}}
 use Rattle.mdp_gain.proofs.only_state.Only.settle.Goals as goal
 
 pub returns-in-Ok-Done : goal.returns-in-Ok-Done

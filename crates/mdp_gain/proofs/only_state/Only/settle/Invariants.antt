@@ -1,12 +1,8 @@
 use Rattle.std.proofs.Common.{◌≡◌, ℕ, ◌-◌, ◌^◌, min, Result}
-use Rattle.mdp_policy_iteration.specs.Path.{Refusal}
-use Rattle.mdp_policy_iteration.specs.Laws.{first}
-use Rattle.mdp_unichain.specs.Component.{IsInner}
-use Rattle.mdp_unichain.specs.Iteration.{EndsWith}
-use Rattle.mdp_unichain.specs.Path.{Found, Makes}
+use Rattle.mdp_policy_iteration.specs.{Path.{Refusal}, Laws.{first}}
+use Rattle.mdp_unichain.specs.{Component.{IsInner}, Iteration.{EndsWith}, Path.{Found, Makes}}
 use Rattle.mdp_unichain.proofs.Ending.{better_left}
-use Rattle.mdp_gain.specs.Code.{component_in}
-use Rattle.mdp_gain.specs.Only.{policy_of}
+use Rattle.mdp_gain.specs.{Code.{component_in}, Only.{policy_of}}
 use Rattle.mdp_gain.proofs.only_state.Only.settle.Given as goal
 
 -- the rest of the path is the rest from round n on

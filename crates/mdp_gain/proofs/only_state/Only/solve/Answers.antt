@@ -1,9 +1,7 @@
 use Rattle.std.proofs.Common.{◌∙◌, ℕ, Option, ap, rules}
 use Rattle.std.specs.Option.{unwrap_or}
 use Rattle.mdp_unichain.proofs.Improving.{state-below}
-use Rattle.mdp_gain.specs.Code.{component_in}
-use Rattle.mdp_gain.specs.Only.{IsOnly}
-use Rattle.mdp_gain.specs.Query.{plain}
+use Rattle.mdp_gain.specs.{Code.{component_in}, Only.{IsOnly}, Query.{plain}}
 use Rattle.mdp_gain.proofs.OnlyPath.{start-inner, answer-ends, error-solves}
 use Rattle.mdp_gain.proofs.only_state.Only.solve.Goals as goal
 

@@ -1,9 +1,6 @@
-use Rattle.std.proofs.lemmas.List.{length-map}
-use Rattle.std.proofs.Common.{◌∙◌, Ok, Err, inr, length, map, sym, ap, arith, rules}
-use Rattle.std.proofs.lemmas.List.FromFn.{length-map-range_with_len}
+use Rattle.std.proofs.{lemmas.List.{length-map}, Common.{◌∙◌, Ok, Err, inr, length, map, sym, ap, arith, rules}, lemmas.List.FromFn.{length-map-range_with_len}}
 use Rattle.mdp_elim.specs.System.{IsSolution}
-use Rattle.mdp_gain.proofs.Given.{model-policy}
-use Rattle.mdp_gain.proofs.Columns.{sides_long, each_long, rows-count, leave, solution-told}
+use Rattle.mdp_gain.proofs.{Given.{model-policy}, Columns.{sides_long, each_long, rows-count, leave, solution-told}}
 use Rattle.mdp_gain.proofs.referred.Referred.columns.Goals as goal
 
 pub invariant_of-rows : goal.invariant_of-rows

@@ -1,14 +1,8 @@
-use Rattle.std.proofs.Common.{◌<◌, ◌&&◌, ℕ, [], length, get_or, not, sym, ap, refl, subst, ◌∙◌, arith, List, Option}
+use Rattle.std.proofs.Common.{◌<◌, ◌&&◌, ℕ, [], length, get_or, not, sym, ap, refl, subst, ◌∙◌, arith, List, Option, is_some, is_none}
 use Rattle.mdp_rows.specs.Preds.{is_among}
-use Rattle.mdp_graph.specs.declared.forest.Way.{Way}
-use Rattle.mdp_graph.specs.Forest.{way_at, attached, IsFound, IsGrown, IsFoundWay, HasFound}
-use Rattle.mdp_graph.proofs.Among.{below-all}
-use Rattle.mdp_graph.proofs.Growing.{forest_grown, found_good, closed_found, still, taken-below}
-use Rattle.mdp_math.proofs.Booleans.{and-left}
-use Rattle.std.proofs.Common.{is_some, is_none}
-use Rattle.mdp_graph.specs.Sets.{marked}
-use Rattle.mdp_math.proofs.Booleans.{and-right}
-use Rattle.mdp_graph.proofs.Pruning.{or-right}
+use Rattle.mdp_graph.specs.{declared.forest.Way.{Way}, Forest.{way_at, attached, IsFound, IsGrown, IsFoundWay, HasFound}, Sets.{marked}}
+use Rattle.mdp_graph.proofs.{Among.{below-all}, Growing.{forest_grown, found_good, closed_found, still, taken-below}, Pruning.{or-right}}
+use Rattle.mdp_math.proofs.Booleans.{and-left, and-right}
 use Rattle.mdp_graph.proofs.falling.Falling.attach.Goals as goal
 
 pub attach_all-requires-clause-below : goal.attach_all-requires-clause-below

@@ -1,8 +1,7 @@
 use Rattle.std.proofs.Common.{refl, sym, ap, ◌∙◌, arith}
 use Rattle.std.specs.List.{range_with_len}
 use Rattle.mdp_rows.specs.Preds.{is_among}
-use Rattle.mdp_graph.proofs.Among.{below-all}
-use Rattle.mdp_graph.proofs.RoundByRound.{first_round, no_forest, range-below}
+use Rattle.mdp_graph.proofs.{Among.{below-all}, RoundByRound.{first_round, no_forest, range-below}}
 use Rattle.mdp_graph.proofs.falling.Falling.first.Goals as goal
 
 pub attach-requires-clause-below : goal.attach-requires-clause-below

@@ -1,10 +1,7 @@
 use Rattle.std.proofs.Common.{sym, ap, subst, ◌∙◌, arith, List, ℕ}
 use Rattle.mdp_rows.specs.Preds.{is_among}
 use Rattle.mdp_graph.specs.Forest.{IsAttaching}
-use Rattle.mdp_graph.proofs.Among.{below-all}
-use Rattle.mdp_graph.proofs.Growing.{forest_uncut}
-use Rattle.mdp_graph.proofs.NextMet.{in_preds}
-use Rattle.mdp_graph.proofs.Pruning.{some-in}
+use Rattle.mdp_graph.proofs.{Among.{below-all}, Growing.{forest_uncut}, NextMet.{in_preds}, Pruning.{some-in}}
 use Rattle.mdp_graph.proofs.RoundByRound.{next_round, uncut_noted, fewer, preds-from, known_ways}
 use Rattle.mdp_graph.proofs.falling.Falling.next.Goals as goal
 

@@ -1,5 +1,4 @@
-use Rattle.mdp_graph.proofs.Among.{below-all}
-use Rattle.mdp_graph.proofs.NextMet.{layer_in, layer_within, next_layers, is_next}
+use Rattle.mdp_graph.proofs.{Among.{below-all}, NextMet.{layer_in, layer_within, next_layers, is_next}}
 use Rattle.mdp_graph.proofs.layers.Layers.next.Goals as goal
 
 pub met_by-requires-clause-layer : goal.met_by-requires-clause-layer

@@ -1,9 +1,7 @@
-use Rattle.std.proofs.Common.{ℕ, ◌+◌, arith, get_or}
+use Rattle.std.proofs.{Common.{ℕ, ◌+◌, arith, get_or}, lemmas.List.{get_or_default}}
 use Rattle.std.specs.Vec.{vec_len}
 use Rattle.mdp_spec.specs.Mdp.{states_of}
-use Rattle.mdp_graph.proofs.FlatWaiting.{one_more, all_there}
-use Rattle.mdp_graph.proofs.Releasing.{all_counted, all_waiting, lists_by_counts}
-use Rattle.std.proofs.lemmas.List.{get_or_default}
+use Rattle.mdp_graph.proofs.{FlatWaiting.{one_more, all_there}, Releasing.{all_counted, all_waiting, lists_by_counts}}
 use Rattle.mdp_graph.proofs.waiting.Waiting.all.Goals as goal
 
 pub loop-count-preserved : goal.loop-count-preserved

@@ -1,6 +1,5 @@
 use Rattle.std.proofs.Common.{arith}
-use Rattle.mdp_graph.proofs.FlatPieces.{place_after}
-use Rattle.mdp_graph.proofs.FlatWaiting.{choice_there, choice_read}
+use Rattle.mdp_graph.proofs.{FlatPieces.{place_after}, FlatWaiting.{choice_there, choice_read}}
 use Rattle.mdp_graph.proofs.waiting.Waiting.at.Goals as goal
 
 pub index-requires : goal.index-requires

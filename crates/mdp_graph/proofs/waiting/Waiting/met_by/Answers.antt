@@ -1,9 +1,7 @@
-use Rattle.std.proofs.Common.{◌++◌, [], take, List, sym, ap, subst, ◌∙◌}
+use Rattle.std.proofs.{Common.{◌++◌, [], take, List, sym, ap, subst, ◌∙◌, arith}, lemmas.List.{take_all}}
 use Rattle.mdp_rows.specs.declared.preds.Pred.{Pred}
 use Rattle.mdp_graph.specs.Waiting.{AreWithin, leading_to}
 use Rattle.mdp_graph.proofs.Releasing.{within_now, within_part, met_none, met_more, leading-more}
-use Rattle.std.proofs.lemmas.List.{take_all}
-use Rattle.std.proofs.Common.{arith}
 use Rattle.mdp_graph.proofs.waiting.Waiting.met_by.Goals as goal
 
 pub release_all-requires-clause-within : goal.release_all-requires-clause-within

@@ -1,9 +1,7 @@
-use Rattle.std.proofs.Common.{ℕ, ◌+◌, arith, sym, ap, ◌∙◌, false, subst, map, length}
-use Rattle.std.proofs.lemmas.List.{length-map, length-set}
+use Rattle.std.proofs.{Common.{ℕ, ◌+◌, arith, sym, ap, ◌∙◌, false, subst, map, length}, lemmas.List.{length-map, length-set}}
 use Rattle.mdp_rows.specs.Pieces.{ArePlaces}
 use Rattle.mdp_graph.specs.Waiting.{count_waiting}
-use Rattle.mdp_graph.proofs.FlatPieces.{place_after}
-use Rattle.mdp_graph.proofs.FlatWaiting.{choice_there, choice_read, choice_set, count_there}
+use Rattle.mdp_graph.proofs.{FlatPieces.{place_after}, FlatWaiting.{choice_there, choice_read, choice_set, count_there}}
 use Rattle.mdp_graph.proofs.Releasing.{some_counted, counted_less, last_waited, released_one, released_before}
 use Rattle.mdp_graph.proofs.waiting.Waiting.release.Goals as goal
 

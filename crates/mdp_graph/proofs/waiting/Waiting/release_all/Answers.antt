@@ -1,13 +1,9 @@
-use Rattle.std.proofs.Common.{◌∷◌, [], take, get_or, ◌&&◌, not, is_none, sym, ap, ◌∙◌, arith}
-use Rattle.std.proofs.lemmas.List.{take_more}
-use Rattle.mdp_rows.specs.Preds.{pair}
-use Rattle.mdp_rows.specs.declared.preds.Pred.{Pred}
-use Rattle.mdp_graph.specs.Waiting.{some_waits}
-use Rattle.mdp_graph.specs.Layers.{rank_at}
+use Rattle.std.proofs.{Common.{◌∷◌, [], take, get_or, ◌&&◌, not, is_none, sym, ap, ◌∙◌, arith}, lemmas.List.{take_more, take_all}}
+use Rattle.mdp_rows.specs.{Preds.{pair}, declared.preds.Pred.{Pred}}
+use Rattle.mdp_graph.specs.{Waiting.{some_waits}, Layers.{rank_at}}
 use Rattle.mdp_graph.proofs.Releasing.{within_now, within_at, met_none, met_more, met_push, met_skip}
 use Rattle.mdp_graph.proofs.waiting.Waiting.release_all.Goals.{then-release+then-is_none+in_ok-push, else-release, else-release-via-then-release+else-is_none, else-release-via-else-release}
 use Rattle.mdp_math.proofs.Booleans.{and-false}
-use Rattle.std.proofs.lemmas.List.{take_all}
 use Rattle.mdp_graph.proofs.waiting.Waiting.release_all.Goals as goal
 
 pub release-requires-clause-state : goal.release-requires-clause-state

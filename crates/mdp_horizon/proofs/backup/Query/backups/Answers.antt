@@ -1,11 +1,7 @@
-use Rattle.std.proofs.Common.{◌≡◌, ℕ, Ok, Result, ap, subst, arith}
-use Rattle.std.proofs.lemmas.Result.{err_from_is_err_and}
+use Rattle.std.proofs.{Common.{◌≡◌, ℕ, Ok, Result, ap, subst, arith}, lemmas.Result.{err_from_is_err_and}}
 use Rattle.mdp_math.specs.Result.{◌>>=◌}
 use Rattle.mdp_spec.specs.Mdp.{states_of}
-use Rattle.mdp_horizon.specs.Choices.{Best}
-use Rattle.mdp_horizon.specs.Written.{Place, Row, in_turn, backup, next_state, no_states, with_state}
-use Rattle.mdp_horizon.specs.Code.{plain_objective}
-use Rattle.mdp_horizon.specs.Answer.{row_of}
+use Rattle.mdp_horizon.specs.{Choices.{Best}, Written.{Place, Row, in_turn, backup, next_state, no_states, with_state}, Code.{plain_objective}, Answer.{row_of}}
 use Rattle.mdp_horizon.proofs.Turns.{in_turn-refused, says_of, says_then, says_same, answers_err}
 use Rattle.mdp_horizon.proofs.backup.Query.backups.Goals as goal
 

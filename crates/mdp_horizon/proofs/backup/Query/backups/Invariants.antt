@@ -1,7 +1,5 @@
 use Rattle.std.proofs.Common.{◌≡◌, Ok}
-use Rattle.mdp_horizon.specs.Written.{in_turn, next_state, no_states}
-use Rattle.mdp_horizon.specs.Code.{plain_objective}
-use Rattle.mdp_horizon.specs.Answer.{row_of}
+use Rattle.mdp_horizon.specs.{Written.{in_turn, next_state, no_states}, Code.{plain_objective}, Answer.{row_of}}
 use Rattle.mdp_horizon.proofs.backup.Query.backups.Given as goal
 
 abbrev pub invariant-loop-s : goal.invariant-loop-s

@@ -1,11 +1,7 @@
-use Rattle.std.proofs.Common.{◌≡◌, ℕ, ◌∙◌, ◌-◌, Ok, length, sym, subst, arith}
-use Rattle.std.proofs.lemmas.Result.{err_from_is_err_and, IfErr-at_err}
+use Rattle.std.proofs.{Common.{◌≡◌, ℕ, ◌∙◌, ◌-◌, Ok, length, sym, subst, arith}, lemmas.Result.{err_from_is_err_and, IfErr-at_err}}
 use Rattle.mdp_spec.specs.Mdp.{choices_at}
-use Rattle.mdp_horizon.specs.Written.{in_turn, first_choice, next_choice}
-use Rattle.mdp_horizon.specs.Code.{plain_objective}
-use Rattle.mdp_horizon.specs.Answer.{shown}
-use Rattle.mdp_horizon.proofs.Turns.{placed-err, says, answers_err}
-use Rattle.mdp_horizon.proofs.Choosing.{first-refused, choice-refused}
+use Rattle.mdp_horizon.specs.{Written.{in_turn, first_choice, next_choice}, Code.{plain_objective}, Answer.{shown}}
+use Rattle.mdp_horizon.proofs.{Turns.{placed-err, says, answers_err}, Choosing.{first-refused, choice-refused}}
 use Rattle.mdp_horizon.proofs.backup.Query.best_choice.Goals as goal
 
 pub returns-in_err-placed : goal.returns-in_err-placed

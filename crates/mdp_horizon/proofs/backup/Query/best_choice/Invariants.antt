@@ -1,7 +1,5 @@
 use Rattle.std.proofs.Common.{◌≡◌, ◌-◌, Ok}
-use Rattle.mdp_horizon.specs.Written.{in_turn, first_choice, next_choice}
-use Rattle.mdp_horizon.specs.Code.{plain_objective}
-use Rattle.mdp_horizon.specs.Answer.{shown}
+use Rattle.mdp_horizon.specs.{Written.{in_turn, first_choice, next_choice}, Code.{plain_objective}, Answer.{shown}}
 use Rattle.mdp_horizon.proofs.backup.Query.best_choice.Given as goal
 
 abbrev pub invariant-loop-c : goal.invariant-loop-c

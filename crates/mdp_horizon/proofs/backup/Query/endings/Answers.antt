@@ -3,8 +3,7 @@ use Rattle.std.specs.List.{range_with_len}
 use Rattle.mdp_math.specs.Rational.{ℚ}
 use Rattle.mdp_math.proofs.Lists.{map_more}
 use Rattle.mdp_spec.specs.Mdp.{Mdp, states_of}
-use Rattle.mdp_horizon.specs.Objective.{Objective, ending}
-use Rattle.mdp_horizon.specs.Code.{plain_objective}
+use Rattle.mdp_horizon.specs.{Objective.{Objective, ending}, Code.{plain_objective}}
 use Rattle.mdp_horizon.proofs.backup.Query.endings.Goals as goal
 
 -- one state more

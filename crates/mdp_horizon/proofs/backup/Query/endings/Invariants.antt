@@ -1,7 +1,6 @@
 use Rattle.std.proofs.Common.{◌≡◌, map}
 use Rattle.std.specs.List.{range_with_len}
-use Rattle.mdp_horizon.specs.Objective.{ending}
-use Rattle.mdp_horizon.specs.Code.{plain_objective}
+use Rattle.mdp_horizon.specs.{Objective.{ending}, Code.{plain_objective}}
 use Rattle.mdp_horizon.proofs.backup.Query.endings.Given as goal
 
 abbrev pub invariant-loop-s : goal.invariant-loop-s

@@ -1,9 +1,6 @@
-use Rattle.std.proofs.Common.{◌<◌, ℕ, arith, sym, ◌∙◌, ap, subst}
-use Rattle.std.proofs.lemmas.Int.{ints}
-use Rattle.std.proofs.lemmas.Nat.Gcd.{dvd_of_mod-eq-zero}
+use Rattle.std.proofs.{Common.{◌<◌, ℕ, arith, sym, ◌∙◌, ap, subst}, lemmas.Int.{ints}, lemmas.Nat.Gcd.{dvd_of_mod-eq-zero}}
 use Rattle.mdp_math.specs.Gcd.{lcm, gcd-pos}
-use Rattle.mdp_math.proofs.Laws.{den-pos}
-use Rattle.mdp_math.proofs.Lcm.{lcm-ge_right, lcm-factor, lcm-multiple}
+use Rattle.mdp_math.proofs.{Laws.{den-pos}, Lcm.{lcm-ge_right, lcm-factor, lcm-multiple}}
 use Rattle.mdp_num.proofs.Values.{result-bits, whole-bits}
 use Rattle.mdp_num.proofs.frac.Frac.common_multiple.Goals as goal
 

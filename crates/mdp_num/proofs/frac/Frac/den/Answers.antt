@@ -1,5 +1,4 @@
-use Rattle.std.proofs.Common.{pos, ◌<ℤ◌, ℤ, sym, subst, arith}
-use Rattle.std.proofs.lemmas.Int.{ints}
+use Rattle.std.proofs.{Common.{pos, ◌<ℤ◌, ℤ, sym, subst, arith}, lemmas.Int.{ints}}
 use Rattle.mdp_math.proofs.Laws.{den-pos}
 use Rattle.mdp_num.proofs.Values.{den-bits, narrow_value}
 use Rattle.mdp_num.proofs.frac.Frac.den.Goals as goal

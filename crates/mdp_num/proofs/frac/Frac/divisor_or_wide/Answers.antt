@@ -1,14 +1,10 @@
-use Rattle.std.proofs.Common.{◌≡◌, ◌<◌, ◌≤◌, ◌^◌, ◌∙◌, subst, ℕ, ap, ap₂, arith, pos, unsigned_abs}
-use Rattle.std.proofs.lemmas.Int.{to_z_pos}
+use Rattle.std.proofs.{Common.{◌≡◌, ◌<◌, ◌≤◌, ◌^◌, ◌∙◌, subst, ℕ, ap, ap₂, arith, pos, unsigned_abs}, lemmas.Int.{to_z_pos}}
 use mir.Syntax.{w128}
-use Rattle.mdp_math.specs.Gcd.{gcd, gcd-le_right}
-use Rattle.mdp_math.specs.Rational.{ℚ}
+use Rattle.mdp_math.specs.{Gcd.{gcd, gcd-le_right}, Rational.{ℚ}}
 use Rattle.mdp_math.proofs.Laws.{den-pos}
 use Rattle.mdp_num.specs.Value.{IsNarrow}
-use Rattle.mdp_num.proofs.Values.{den-bits}
-use Rattle.mdp_num.proofs.Past.{either-past}
+use Rattle.mdp_num.proofs.{Values.{den-bits}, Past.{either-past}, frac.Frac.divisor_or_wide.Goals.{After-divisor_above}}
 use Rattle.mdp_num.proofs.frac.Frac.divisor_or_wide.Goals as goal
-use Rattle.mdp_num.proofs.frac.Frac.divisor_or_wide.Goals.{After-divisor_above}
 
 dens-are : (c : After-divisor_above) → gcd c.unsigned_abs.result c.unsigned_abs-2.result ≡ gcd (ℚ.den c.args.self.now) (ℚ.den c.args.other.now)
 dens-are c = ap₂ gcd (c.unsigned_abs.ensures.value ∙ ap unsigned_abs (den-bits _ _ c.self.view_is c.self.invariant))

@@ -1,5 +1,4 @@
-use Rattle.std.proofs.Common.{◌∙◌}
-use Rattle.std.proofs.lemmas.Int.{to_z_pos}
+use Rattle.std.proofs.{Common.{◌∙◌}, lemmas.Int.{to_z_pos}}
 use mir.Syntax.{w128}
 use Rattle.mdp_num.proofs.Values.{value_of_terms, result-bits}
 use Rattle.mdp_num.proofs.frac.Frac.from_lowest.Goals as goal

@@ -1,9 +1,8 @@
 use Rattle.std.proofs.Common.{pos, unsigned_abs, to_z, of_z, to_z-of_z, sym, ap, ◌∙◌}
 use mir.Syntax.{w128}
 use Rattle.mdp_math.specs.Rational.{ratio}
-use Rattle.mdp_num.proofs.Values.{AreTerms, divisor-bits, quotient-bits, divisor-positive, terms-positive, terms-lowest, value_from_terms}
+use Rattle.mdp_num.proofs.{Values.{AreTerms, divisor-bits, quotient-bits, divisor-positive, terms-positive, terms-lowest, value_from_terms}, Sums.{ratio-terms}}
 use Rattle.mdp_num.specs.Inside.{abs-pos}
-use Rattle.mdp_num.proofs.Sums.{ratio-terms}
 use Rattle.mdp_num.proofs.frac.Frac.lowest.Goals as goal
 
 pub divided-requires : goal.divided-requires

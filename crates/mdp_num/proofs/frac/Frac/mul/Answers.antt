@@ -1,12 +1,10 @@
 use Rattle.std.proofs.Common.{rules, ◌∙◌, ap, ap₂, ◌*ℤ◌, to_z, of_z}
 use mir.Syntax.{w128}
-use Rattle.mdp_math.specs.Rational.{◌*ℚ◌}
+use Rattle.mdp_math.specs.{Rational.{◌*ℚ◌}, Written.{narrow, written_mul}}
 use Rattle.mdp_num.proofs.Values.{AreTerms, product-terms, terms-positive, terms-lowest, result-bits, written_kept, num-bits, den-bits, quotient-bits, divisor-positive}
-use Rattle.mdp_math.proofs.Laws.{den-pos}
-use Rattle.mdp_math.specs.Written.{narrow, written_mul}
-use Rattle.mdp_math.proofs.Written.{written_mul-past_num, written_mul-past_den}
-use Rattle.mdp_num.proofs.frac.Frac.mul.Goals as goal
 use Rattle.mdp_num.proofs.frac.Frac.mul.Goals.{In_ok-den}
+use Rattle.mdp_math.proofs.{Laws.{den-pos}, Written.{written_mul-past_num, written_mul-past_den}}
+use Rattle.mdp_num.proofs.frac.Frac.mul.Goals as goal
 
 pub divided-requires : goal.divided-requires
 divided-requires c = divisor-positive _ _ _ (den-pos c.args.other.now) (result-bits _ c.cross_divisor-left.type_inv ∙ c.cross_divisor-left.ensures)

@@ -1,5 +1,4 @@
-use Rattle.std.proofs.Common.{arith, subst, ◌∙◌, ap, sym, pos, ◌-ℤ◌, ◌<◌, ◌^◌, unsigned_abs, neg_ℤ, ◌≡◌, ℤ, to_z, of_z}
-use Rattle.std.proofs.lemmas.Int.{ints}
+use Rattle.std.proofs.{Common.{arith, subst, ◌∙◌, ap, sym, pos, ◌-ℤ◌, ◌<◌, ◌^◌, unsigned_abs, neg_ℤ, ◌≡◌, ℤ, to_z, of_z}, lemmas.Int.{ints}}
 use mir.Syntax.{w128}
 use Rattle.mdp_math.specs.Rational.{ℚ, neg_ℚ}
 use Rattle.mdp_math.proofs.Laws.{num-neg, den-neg}

@@ -1,9 +1,7 @@
 use Rattle.std.proofs.Common.{◌∙◌}
 use Rattle.mdp_math.specs.Rational.{ℚ}
-use Rattle.mdp_math.proofs.Laws.{den-pos}
-use Rattle.mdp_math.proofs.Written.{written_compare-some}
-use Rattle.mdp_num.proofs.Values.{num-bits}
-use Rattle.mdp_num.proofs.Orders.{cmp_magnitudes, cmp_negated, cmp_across_zero, cmp_zero_across, is_below_zero, is_from_zero}
+use Rattle.mdp_math.proofs.{Laws.{den-pos}, Written.{written_compare-some}}
+use Rattle.mdp_num.proofs.{Values.{num-bits}, Orders.{cmp_magnitudes, cmp_negated, cmp_across_zero, cmp_zero_across, is_below_zero, is_from_zero}}
 use Rattle.mdp_num.proofs.frac.Frac.order.Goals as goal
 
 pub returns-in-Ok : goal.returns-in-Ok

@@ -1,5 +1,4 @@
-use Rattle.std.proofs.Common.{◌%◌, ℕ, ℤ, to_z-of_z, arith, sym, ◌∙◌, ap, subst}
-use Rattle.std.proofs.lemmas.Int.{ints}
+use Rattle.std.proofs.{Common.{◌%◌, ℕ, ℤ, to_z-of_z, arith, sym, ◌∙◌, ap, subst}, lemmas.Int.{ints}}
 use Rattle.std.specs.Prelude.{FitsSigned}
 use mir.Syntax.{w64}
 use Rattle.mdp_math.specs.Rational.{ratio}

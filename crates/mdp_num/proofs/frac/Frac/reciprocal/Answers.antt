@@ -1,10 +1,7 @@
 use Rattle.std.proofs.Common.{ℕ, ℤ, pos, ◌<◌, unsigned_abs, int_lt, sym, ap, ap₂, ◌∙◌, subst}
-use Rattle.mdp_math.specs.Gcd.{gcd, gcd_comm}
-use Rattle.mdp_math.specs.Rational.{ℚ, ratio}
-use Rattle.mdp_math.specs.Written.{signed}
+use Rattle.mdp_math.specs.{Gcd.{gcd, gcd_comm}, Rational.{ℚ, ratio}, Written.{signed}}
 use Rattle.mdp_math.proofs.Laws.{coprime}
-use Rattle.mdp_num.proofs.Values.{num-bits, den-bits}
-use Rattle.mdp_num.proofs.Signs.{num-nonzero, reciprocal_is}
+use Rattle.mdp_num.proofs.{Values.{num-bits, den-bits}, Signs.{num-nonzero, reciprocal_is}}
 use Rattle.mdp_num.proofs.frac.Frac.reciprocal.Goals as goal
 
 pub from_lowest-requires-clause-some : goal.from_lowest-requires-clause-some

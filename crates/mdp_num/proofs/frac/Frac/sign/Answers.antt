@@ -1,11 +1,9 @@
-use Rattle.std.proofs.Common.{◌≡◌, ◌≤ℤ◌, ℤ, pos, neg_ℤ, ap, ◌∙◌, sym, subst, ◌↔◌, ◌<ℤ◌, arith, to_z, of_z, to_z-of_z}
-use Rattle.std.proofs.lemmas.Int.{ints, fits_signed_from_abs}
+use Rattle.std.proofs.{Common.{◌≡◌, ◌≤ℤ◌, ℤ, pos, neg_ℤ, ap, ◌∙◌, sym, subst, ◌↔◌, ◌<ℤ◌, arith, to_z, of_z, to_z-of_z}, lemmas.Int.{ints, fits_signed_from_abs}}
 use Rattle.std.specs.Int.{int_signum}
 use mir.Syntax.{w32}
 use Rattle.mdp_math.specs.Rational.{◌<ℚ◌}
 use Rattle.mdp_math.proofs.Order.{0ℚ}
-use Rattle.mdp_num.proofs.Values.{num-bits, narrow_value, result-bits}
-use Rattle.mdp_num.proofs.Signs.{sign-zero, sign-positive, sign-negative}
+use Rattle.mdp_num.proofs.{Values.{num-bits, narrow_value, result-bits}, Signs.{sign-zero, sign-positive, sign-negative}}
 use Rattle.mdp_num.proofs.frac.Frac.sign.Goals as goal
 
 -- a number from -1 to 1, from its 32 bits

@@ -1,8 +1,6 @@
-use Rattle.std.proofs.Common.{arith, ◌∙◌, ap, sym, pos, to_z-of_z}
-use Rattle.std.proofs.lemmas.Int.{ints}
+use Rattle.std.proofs.{Common.{arith, ◌∙◌, ap, sym, pos, to_z-of_z}, lemmas.Int.{ints}}
 use mir.Syntax.{w64}
-use Rattle.mdp_math.specs.Gcd.{gcd-one_right}
-use Rattle.mdp_math.specs.Rational.{of_int}
+use Rattle.mdp_math.specs.{Gcd.{gcd-one_right}, Rational.{of_int}}
 use Rattle.mdp_math.proofs.Laws.{num-of_int, den-of_int}
 use Rattle.mdp_num.proofs.Values.{result-bits, value_from_terms}
 use Rattle.mdp_num.proofs.frac.Frac.whole.Goals as goal

@@ -2,8 +2,7 @@ use Rattle.std.proofs.Common.{sym, ◌∙◌, arith}
 use Rattle.mdp_rows.specs.Preds.{pair}
 use Rattle.mdp_graph.proofs.NextMet.{in_preds}
 use Rattle.mdp_parts.specs.Losing.{IsPruned}
-use Rattle.mdp_parts.proofs.Forbidding.{forbidden_sizes}
-use Rattle.mdp_parts.proofs.Pruning.{pruned_none, losing_kept, one_pruned, pred_at, pred_within, into_more}
+use Rattle.mdp_parts.proofs.{Forbidding.{forbidden_sizes}, Pruning.{pruned_none, losing_kept, one_pruned, pred_at, pred_within, into_more}}
 use Rattle.mdp_parts.proofs.losing.Losing.forbid_into.Goals.{then-at+in_ok-look_at, else-at}
 use Rattle.mdp_parts.proofs.losing.Losing.forbid_into.Goals as goal
 

@@ -1,11 +1,8 @@
-use Rattle.std.proofs.Common.{◌∙◌, length, sym, ap, arith}
-use Rattle.std.proofs.lemmas.Result.{err_from_is_err_and, IfErr-at_err}
+use Rattle.std.proofs.{Common.{◌∙◌, length, sym, ap, arith}, lemmas.Result.{err_from_is_err_and, IfErr-at_err}}
 use Rattle.mdp_spec.specs.Mdp.{choices_at}
 use Rattle.mdp_wide.specs.declared.too_wide.Kind.TheVariants.{Compare}
-use Rattle.mdp_policy_iteration.specs.Path.{comparing}
-use Rattle.mdp_policy_iteration.specs.Places.{at_place}
+use Rattle.mdp_policy_iteration.specs.{Path.{comparing}, Places.{at_place}, Code.{shown}}
 use Rattle.mdp_policy.specs.Written.{next_choice, own}
-use Rattle.mdp_policy_iteration.specs.Code.{shown}
 use Rattle.mdp_policy_iteration.proofs.Answering.{placed-err, says, answers_err}
 use Rattle.mdp_policy.proofs.Turns.{in_turn-refused}
 use Rattle.mdp_policy.proofs.compare.Comparison.best.Goals as goal

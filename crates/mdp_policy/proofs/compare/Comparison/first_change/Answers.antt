@@ -1,13 +1,10 @@
-use Rattle.std.proofs.Common.{◌∙◌, ℕ, Option, None, Result, Ok, sym, ap, arith}
-use Rattle.std.proofs.lemmas.Result.{err_from_is_err_and}
+use Rattle.std.proofs.{Common.{◌∙◌, ℕ, Option, None, Result, Ok, sym, ap, arith}, lemmas.Result.{err_from_is_err_and}}
 use Rattle.mdp_math.specs.Result.{◌>>=◌}
 use Rattle.mdp_spec.specs.Mdp.{states_of}
 use Rattle.mdp_policy_iteration.specs.Places.{Place}
-use Rattle.mdp_policy.specs.Written.{taken_at, change_at, next_state}
-use Rattle.mdp_policy.specs.declared.value.Change.{Change}
+use Rattle.mdp_policy.specs.{Written.{taken_at, change_at, next_state}, declared.value.Change.{Change}}
 use Rattle.mdp_policy_iteration.proofs.Answering.{says_of, Says-then, says_same, answers_err}
-use Rattle.mdp_policy.proofs.Turns.{in_turn-refused}
-use Rattle.mdp_policy.proofs.Choosing.{found_first}
+use Rattle.mdp_policy.proofs.{Turns.{in_turn-refused}, Choosing.{found_first}}
 use Rattle.mdp_policy.proofs.compare.Comparison.first_change.Goals as goal
 
 pub returns-in_err-taken : goal.returns-in_err-taken

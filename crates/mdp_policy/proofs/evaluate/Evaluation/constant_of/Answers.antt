@@ -1,6 +1,5 @@
-use Rattle.std.proofs.Common.{◌∙◌, ℕ, ◌<◌, length, sym, ap, subst}
+use Rattle.std.proofs.{Common.{◌∙◌, ℕ, ◌<◌, length, sym, ap, subst}, lemmas.List.FromFn.{length-map-range_with_len}}
 use Rattle.std.specs.List.{All}
-use Rattle.std.proofs.lemmas.List.FromFn.{length-map-range_with_len}
 use Rattle.mdp_policy.proofs.Solving.{under_way-len}
 use Rattle.mdp_policy.proofs.evaluate.Evaluation.constant_of.Goals as goal
 

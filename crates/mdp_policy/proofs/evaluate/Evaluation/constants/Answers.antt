@@ -1,13 +1,10 @@
-use Rattle.std.proofs.Common.{◌∙◌, ◌+◌, Ok, sym, ap, arith, slice_index}
-use Rattle.std.proofs.lemmas.Result.{err_from_is_err_and}
+use Rattle.std.proofs.{Common.{◌∙◌, ◌+◌, Ok, sym, ap, arith, slice_index}, lemmas.Result.{err_from_is_err_and}}
 use Rattle.std.specs.Result.{result_ok}
 use Rattle.mdp_spec.specs.Mdp.{states_of}
 use Rattle.mdp_wide.specs.declared.too_wide.Kind.TheVariants.{Evaluate}
-use Rattle.mdp_policy_iteration.specs.Path.{evaluating}
-use Rattle.mdp_policy_iteration.specs.Places.{at_place}
-use Rattle.mdp_policy_iteration.proofs.Answering.{up_to-more, up_to-refused}
+use Rattle.mdp_policy_iteration.specs.{Path.{evaluating}, Places.{at_place}}
+use Rattle.mdp_policy_iteration.proofs.Answering.{up_to-more, up_to-refused, placed-ok, placed-err, says, answers_err}
 use Rattle.mdp_policy.specs.Written.{constant}
-use Rattle.mdp_policy_iteration.proofs.Answering.{placed-ok, placed-err, says, answers_err}
 use Rattle.mdp_policy.proofs.evaluate.Evaluation.constants.Goals as goal
 
 pub constant_of-requires-clause-values : goal.constant_of-requires-clause-values

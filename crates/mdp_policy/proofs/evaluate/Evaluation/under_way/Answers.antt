@@ -1,5 +1,4 @@
-use Rattle.std.proofs.Common.{◌∙◌, ◌++◌, ◌∷◌, [], List, Bool, sym, ap₂, zero-add}
-use Rattle.std.proofs.lemmas.List.FromFn.{map-range_with_len_more}
+use Rattle.std.proofs.{Common.{◌∙◌, ◌++◌, ◌∷◌, [], List, Bool, sym, ap₂, zero-add}, lemmas.List.FromFn.{map-range_with_len_more}}
 use Rattle.mdp_policy.proofs.evaluate.Evaluation.under_way.Goals as goal
 
 pub loop-s-preserved : goal.loop-s-preserved

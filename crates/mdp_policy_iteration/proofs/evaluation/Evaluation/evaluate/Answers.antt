@@ -4,9 +4,7 @@ use Rattle.mdp_spec.specs.Mdp.{value_at}
 use Rattle.mdp_rows.specs.Preds.{is_among}
 use Rattle.mdp_elim.specs.System.{is_active}
 use Rattle.mdp_elim.specs.Kept as elimination
-use Rattle.mdp_policy_iteration.specs.Problem.{count}
-use Rattle.mdp_policy_iteration.specs.Path.{evaluating, fits}
-use Rattle.mdp_policy_iteration.specs.Evaluated.{Evaluation, StopsWith, equations_of}
+use Rattle.mdp_policy_iteration.specs.{Problem.{count}, Path.{evaluating, fits}, Evaluated.{Evaluation, StopsWith, equations_of}}
 use Rattle.mdp_policy_iteration.proofs.Results.{all_pass-at}
 use Rattle.mdp_policy_iteration.proofs.EvaluatedAgain.{written_back, kept-len, filled-elsewhere, others-fit, others-marked, others-stop, others-constant, others-filled, serves-elimination}
 use Rattle.mdp_policy_iteration.proofs.evaluation.Evaluation.evaluate.Goals as goal

@@ -1,5 +1,4 @@
-use Rattle.std.proofs.Common.{◌≡◌, ◌∙◌, false, length, ap, arith}
-use Rattle.std.proofs.lemmas.List.{length-replicate}
+use Rattle.std.proofs.{Common.{◌≡◌, ◌∙◌, false, length, ap, arith}, lemmas.List.{length-replicate}}
 use Rattle.mdp_policy_iteration.proofs.evaluation.Evaluation.new.Goals as goal
 
 pub returns : goal.returns

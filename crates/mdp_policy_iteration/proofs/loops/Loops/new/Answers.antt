@@ -1,5 +1,4 @@
-use Rattle.std.proofs.Common.{ℕ, List, ◌≡◌, ◌<◌, ◌∷◌, [], ap, subst, sym, ◌∙◌, length, slice_index, arith}
-use Rattle.std.proofs.lemmas.List.FromFn.{length-range_with_len}
+use Rattle.std.proofs.{Common.{ℕ, List, ◌≡◌, ◌<◌, ◌∷◌, [], ap, subst, sym, ◌∙◌, length, slice_index, arith}, lemmas.List.FromFn.{length-range_with_len}}
 use Rattle.mdp_math.specs.Rational.{ℚ}
 use Rattle.mdp_policy_iteration.proofs.AllNodes.{all, at}
 use Rattle.mdp_policy_iteration.proofs.loops.Loops.new.Goals as goal

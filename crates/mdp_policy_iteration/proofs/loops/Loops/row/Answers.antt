@@ -1,8 +1,7 @@
 use Rattle.std.proofs.Common.{◌≡◌, ◌+◌, ◌-◌, ◌<◌, ◌∷◌, [], ◌∙◌, ℕ, suc, List, length, take, drop, subst, sym, ap, ap₂, arith, slice_index, pos}
 use Rattle.std.proofs.Math.Seq.{drop-cons}
 use Rattle.mdp_math.specs.Rational.{ℚ, of_int}
-use Rattle.mdp_spec.specs.Mdp.{Entry}
-use Rattle.mdp_spec.specs.Row.{entries, IsDistribution}
+use Rattle.mdp_spec.specs.{Mdp.{Entry}, Row.{entries, IsDistribution}}
 use Rattle.mdp_policy_iteration.proofs.Chain.{loop}
 use Rattle.mdp_policy_iteration.proofs.loops.Loops.row.Goals as goal
 

@@ -1,6 +1,5 @@
-use Rattle.std.proofs.Common.{◌≡◌, ◌<◌, ◌∙◌, ◌∷◌, [], ℕ, List, sym, subst, arith, length}
+use Rattle.std.proofs.{Common.{◌≡◌, ◌<◌, ◌∙◌, ◌∷◌, [], ℕ, List, sym, subst, arith, length}, lemmas.List.Elements.{All-nil, All-cons}}
 use Rattle.std.specs.List.{All}
-use Rattle.std.proofs.lemmas.List.Elements.{All-nil, All-cons}
 use Rattle.mdp_policy_iteration.specs.Problem.{rows_of}
 use Rattle.mdp_policy_iteration.proofs.Chain.{rows-len, row-at, row-stops, can_take}
 use Rattle.mdp_policy_iteration.proofs.policy_chain.PolicyChainRowsOf.row.Goals as goal

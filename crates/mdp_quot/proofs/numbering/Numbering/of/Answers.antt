@@ -1,6 +1,5 @@
-use Rattle.std.proofs.Common.{sym, ◌∙◌, arith, replicate, None, rules}
+use Rattle.std.proofs.Common.{sym, ◌∙◌, arith, replicate, None, rules, ◌≡◌, ℕ, subst}
 use Rattle.mdp_quot.proofs.NodesFound.{if_below, part-below, nothing_numbered}
-use Rattle.std.proofs.Common.{◌≡◌, ℕ, subst}
 use Rattle.mdp_spec.specs.Mdp.{states_of}
 use Rattle.mdp_quot.specs.Numbering.{IsNumbering}
 use Rattle.mdp_quot.proofs.numbering.Numbering.of.Goals as goal

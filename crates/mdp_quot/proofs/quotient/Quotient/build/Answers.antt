@@ -2,11 +2,9 @@ use Rattle.std.proofs.Common.{◌≡◌, ℕ, ◌<◌, List, sym, ap, ◌∙◌,
 use Rattle.std.specs.List.{All}
 use Rattle.mdp_rows.specs.declared.preds.Pred.{Pred}
 use Rattle.mdp_ends.specs.Quotient.{nodes_in}
-use Rattle.mdp_quot.specs.Quotient.{Quotient, IsQuotient}
-use Rattle.mdp_quot.specs.QuotientView.{quotient_in}
-use Rattle.mdp_quot.proofs.NodesFound.{nodes_all_below}
+use Rattle.mdp_quot.specs.{Quotient.{Quotient, IsQuotient}, QuotientView.{quotient_in}}
+use Rattle.mdp_quot.proofs.{NodesFound.{nodes_all_below}, QuotientFound.{lists-choices, quotient_laid, shaped}}
 use Rattle.mdp_ends.proofs.Exits.{IsChoice}
-use Rattle.mdp_quot.proofs.QuotientFound.{lists-choices, quotient_laid, shaped}
 use Rattle.mdp_quot.proofs.quotient.Quotient.build.Goals as goal
 
 below_by : (ns ns' : List ℕ) (n n' : ℕ) → ns' ≡ ns → n' ≡ n → All (λ k. k < n) ns → All (λ k. k < n') ns'

@@ -1,8 +1,7 @@
 use Rattle.std.proofs.Common.{◌-◌, ◌<◌, ℕ, get_or, length, ap, arith}
 use Rattle.mdp_rows.specs.Preds.{pair}
 use Rattle.mdp_quot.specs.Laws.{AreSelected}
-use Rattle.mdp_quot.proofs.Selected.{are_selected}
-use Rattle.mdp_quot.proofs.LiftedFound.{exit-in, exit-taken, read-exit, taken_none, taken_more}
+use Rattle.mdp_quot.proofs.{Selected.{are_selected}, LiftedFound.{exit-in, exit-taken, read-exit, taken_none, taken_more}}
 use Rattle.mdp_quot.proofs.quotient.Quotient.exit_states.Goals.{then-taken-gt0, else-taken-gt0}
 use Rattle.mdp_quot.proofs.quotient.Quotient.exit_states.Goals as goal
 

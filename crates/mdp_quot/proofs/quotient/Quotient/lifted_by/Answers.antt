@@ -1,5 +1,4 @@
-use Rattle.std.proofs.Common.{ℕ, ◌++◌, ◌∷◌, [], List, get_or, sym, ap₂, ◌∙◌, arith}
-use Rattle.std.proofs.lemmas.List.FromFn.{map-range_with_len_more}
+use Rattle.std.proofs.{Common.{ℕ, ◌++◌, ◌∷◌, [], List, get_or, sym, ap₂, ◌∙◌, arith}, lemmas.List.FromFn.{map-range_with_len_more}}
 use Rattle.mdp_ends.specs.Toward.{lifted_choice}
 use Rattle.mdp_quot.proofs.quotient.Quotient.lifted_by.Goals as goal
 

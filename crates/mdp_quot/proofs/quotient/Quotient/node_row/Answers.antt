@@ -1,12 +1,8 @@
-use Rattle.std.proofs.Common.{◌≡◌, ◌∙◌, ◌<◌, sym, ap, subst, arith, length, get_or, List}
+use Rattle.std.proofs.{Common.{◌≡◌, ◌∙◌, ◌<◌, sym, ap, subst, arith, length, get_or, List}, lemmas.List.{length-map}}
 use Rattle.std.specs.List.{All}
-use Rattle.mdp_spec.specs.Mdp.{Entry}
-use Rattle.mdp_spec.specs.Row.{IsRow}
-use Rattle.mdp_quot.specs.Quotient.{Quotient, rows_at}
-use Rattle.mdp_quot.specs.QuotientView.{quotient_in}
-use Rattle.mdp_quot.specs.declared.node.Node.{Node}
+use Rattle.mdp_spec.specs.{Mdp.{Entry}, Row.{IsRow}}
+use Rattle.mdp_quot.specs.{Quotient.{Quotient, rows_at}, QuotientView.{quotient_in}, declared.node.Node.{Node}}
 use Rattle.mdp_quot.proofs.QuotientFound.{targets_below, row_in-at, rows_laid}
-use Rattle.std.proofs.lemmas.List.{length-map}
 use Rattle.mdp_quot.proofs.quotient.Quotient.node_row.Goals as goal
 
 pub returns-clause-in_range : goal.returns-clause-in_range

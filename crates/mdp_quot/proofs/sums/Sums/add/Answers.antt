@@ -1,10 +1,7 @@
-use Rattle.std.proofs.Common.{◌≡◌, sym, ap, ap₂, ◌∙◌, List}
-use Rattle.std.specs.Prelude.{slice_set}
-use Rattle.std.proofs.lemmas.List.{get_or_default}
-use Rattle.mdp_math.proofs.Order.{0ℚ}
-use Rattle.std.specs.Result.{result_ok}
+use Rattle.std.proofs.{Common.{◌≡◌, sym, ap, ap₂, ◌∙◌, List}, lemmas.List.{get_or_default}}
+use Rattle.std.specs.{Prelude.{slice_set}, Result.{result_ok}}
+use Rattle.mdp_math.proofs.{Order.{0ℚ}, Written.{written_add-some}}
 use Rattle.mdp_math.specs.Rational.{ℚ, ◌+ℚ◌}
-use Rattle.mdp_math.proofs.Written.{written_add-some}
 use Rattle.mdp_spec.specs.Mdp.{value_at}
 use Rattle.mdp_quot.specs.declared.sums.Sums.{Sums}
 use Rattle.mdp_quot.proofs.sums.Sums.add.Goals as goal

@@ -1,9 +1,7 @@
-use Rattle.std.proofs.Common.{◌≡◌, ◌<◌, length, slice_index, ap, ◌∙◌, subst, arith, None}
+use Rattle.std.proofs.{Common.{◌≡◌, ◌<◌, length, slice_index, ap, ◌∙◌, subst, arith, None}, lemmas.List.{get_or_default}}
 use Rattle.std.specs.Prelude.{slice_set}
-use Rattle.std.proofs.lemmas.List.{get_or_default}
-use Rattle.mdp_math.specs.Rational.{ℚ, ◌+ℚ◌}
+use Rattle.mdp_math.specs.{Rational.{ℚ, ◌+ℚ◌}, Written.{written_add}}
 use Rattle.mdp_math.proofs.Order.{0ℚ}
-use Rattle.mdp_math.specs.Written.{written_add}
 use Rattle.mdp_spec.specs.Mdp.{value_at}
 use Rattle.mdp_quot.proofs.Summing.{clear_sums, add_fits, entry_more, take_all}
 use Rattle.mdp_quot.proofs.sums.Sums.add_row.Goals as goal

@@ -1,10 +1,8 @@
-use Rattle.std.proofs.lemmas.List.{length-map}
-use Rattle.std.proofs.Common.{ℕ, ◌≡◌, ◌<◌, List, length, map, sym, ap₂, ◌∙◌, subst, refl, ap}
-use Rattle.std.specs.List.{All}
+use Rattle.std.proofs.{lemmas.List.{length-map}, Common.{ℕ, ◌≡◌, ◌<◌, List, length, map, sym, ap₂, ◌∙◌, subst, refl, ap}}
 use Rattle.std.proofs.lemmas.List.Sorted.{IsNonDecreasingBy-from_sort}
+use Rattle.std.specs.List.{All}
 use Rattle.mdp_math.specs.Rational.{ℚ}
-use Rattle.mdp_spec.specs.Mdp.{Entry, value_at}
-use Rattle.mdp_spec.specs.Row.{entries, IsRow, IsDistribution}
+use Rattle.mdp_spec.specs.{Mdp.{Entry, value_at}, Row.{entries, IsRow, IsDistribution}}
 use Rattle.mdp_quot.specs.Sums.{IsClear}
 use Rattle.mdp_quot.proofs.Summing.{sorted-below, sorted-row, sums_cleared, merged_is, nodes_below, probs_nonneg}
 use Rattle.mdp_quot.proofs.sums.Sums.merge.Goals as goal

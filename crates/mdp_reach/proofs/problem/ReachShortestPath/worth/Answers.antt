@@ -1,8 +1,7 @@
 use Rattle.std.proofs.Common.{◌∙◌, ◌<◌, List, sym, subst, ap₂, arith}
 use Rattle.std.specs.List.{All}
 use Rattle.mdp_math.specs.Rational.{ℚ}
-use Rattle.mdp_spec.specs.Mdp.{Entry}
-use Rattle.mdp_spec.specs.Written.{written_sum}
+use Rattle.mdp_spec.specs.{Mdp.{Entry}, Written.{written_sum}}
 use Rattle.mdp_reach.proofs.Nodes.{reach-count, reach-choice, reach-written}
 use Rattle.mdp_reach.proofs.problem.ReachShortestPath.worth.Goals as goal
 

@@ -1,5 +1,4 @@
-use Rattle.std.proofs.Common.{◌≡◌, ◌<◌, ◌≤◌, ◌∙◌, List, [], get_or, length, ap, subst, arith}
-use Rattle.std.proofs.lemmas.List.{get_or_default}
+use Rattle.std.proofs.{Common.{◌≡◌, ◌<◌, ◌≤◌, ◌∙◌, List, [], get_or, length, ap, subst, arith}, lemmas.List.{get_or_default}}
 use Rattle.mdp_rows.specs.declared.preds.Pred.{Pred}
 use Rattle.mdp_readers.specs.Found.{is_taker, AreAdded}
 use Rattle.mdp_readers.proofs.Searching.{search-in_range, searched-one, searched-all}

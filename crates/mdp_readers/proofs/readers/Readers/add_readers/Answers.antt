@@ -1,5 +1,4 @@
-use Rattle.std.proofs.Common.{ℕ, ◌||◌, [], List, sym, ap, ◌∙◌, arith, get_or, take}
-use Rattle.std.proofs.lemmas.List.Folds.{list_any_more}
+use Rattle.std.proofs.{Common.{ℕ, ◌||◌, [], List, sym, ap, ◌∙◌, arith, get_or, take}, lemmas.List.Folds.{list_any_more}}
 use Rattle.mdp_rows.specs.declared.preds.Pred.{Pred}
 use Rattle.mdp_readers.specs.Found.{has_one, reads_one}
 use Rattle.mdp_readers.proofs.Marking.{none_added, more_added, all_added}

@@ -1,7 +1,6 @@
-use Rattle.std.proofs.Common.{◌≡◌, ◌<◌, ◌∙◌, ◌∷◌, ◌++◌, [], List, ℕ, get_or, length, map, sym, ap, arith}
-use Rattle.std.proofs.Common.{Vec, Global}
-use Rattle.std.specs.Prelude.{slice_set}
+use Rattle.std.proofs.Common.{◌≡◌, ◌<◌, ◌∙◌, ◌∷◌, ◌++◌, [], List, ℕ, get_or, length, map, sym, ap, arith, Vec, Global}
 use Rattle.std.proofs.lemmas.List.{get_or-map, map-set, length-map}
+use Rattle.std.specs.Prelude.{slice_set}
 use Rattle.mdp_rows.specs.declared.preds.Pred.{Pred}
 use Rattle.mdp_readers.proofs.Pushing.{one_pushed}
 use Rattle.mdp_readers.proofs.readers.Readers.push.Goals as goal

@@ -1,7 +1,6 @@
 use Rattle.std.proofs.Common.{◌<◌, sym, subst, arith}
 use Rattle.std.specs.List.{All}
-use Rattle.mdp_spec.specs.Mdp.{choice_at, row_at}
-use Rattle.mdp_spec.specs.Unit.{reward_of}
+use Rattle.mdp_spec.specs.{Mdp.{choice_at, row_at}, Unit.{reward_of}}
 use Rattle.mdp_policy_iteration.proofs.Reading.{reads-lent}
 use Rattle.mdp_reward.specs.Problem.{may_take, reward_problem}
 use Rattle.mdp_reward.proofs.Nodes.{reward-count, reward-choice}

@@ -1,7 +1,6 @@
 use Rattle.std.proofs.Common.{sym, ◌∙◌}
 use Rattle.mdp_rows.specs.Draft.{after_choice}
-use Rattle.mdp_rows.proofs.Assembled.Refusals.{refused_is, call_again, call_made}
-use Rattle.mdp_rows.proofs.Calls.Kept.{after_choice-kept}
+use Rattle.mdp_rows.proofs.{Assembled.Refusals.{refused_is, call_again, call_made}, Calls.Kept.{after_choice-kept}}
 use Rattle.mdp_rows.proofs.assembly.Assembly.choice.Goals as goal
 
 pub returns-in-Some : goal.returns-in-Some

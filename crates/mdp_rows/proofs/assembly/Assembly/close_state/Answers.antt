@@ -1,6 +1,5 @@
 use Rattle.mdp_rows.specs.Draft.{all_closed}
-use Rattle.mdp_rows.proofs.Assembled.Refusals.{call_again, call_made}
-use Rattle.mdp_rows.proofs.Calls.Kept.{all_closed-kept}
+use Rattle.mdp_rows.proofs.{Assembled.Refusals.{call_again, call_made}, Calls.Kept.{all_closed-kept}}
 use Rattle.mdp_rows.proofs.assembly.Assembly.close_state.Goals as goal
 
 pub returns-in-Some : goal.returns-in-Some

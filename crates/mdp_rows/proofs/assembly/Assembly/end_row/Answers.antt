@@ -1,13 +1,8 @@
-use Rattle.std.proofs.Common.{inr, length, ap, sym, subst, ◌∙◌, ◌-◌}
-use Rattle.std.proofs.lemmas.Result.{err_from_is_err_and}
+use Rattle.std.proofs.{Common.{inr, length, ap, sym, subst, ◌∙◌, ◌-◌}, lemmas.Result.{err_from_is_err_and}}
 use Rattle.std.specs.Vec.{with_items}
-use Rattle.mdp_rows.specs.ChoiceTable.{ChoiceTable}
-use Rattle.mdp_rows.specs.FlatDraft.{IsDraft}
-use Rattle.mdp_rows.specs.Draft.{kept}
-use Rattle.mdp_rows.specs.Given.{row_of}
+use Rattle.mdp_rows.specs.{ChoiceTable.{ChoiceTable}, FlatDraft.{IsDraft}, Draft.{kept}, Given.{row_of}}
 use Rattle.mdp_rows.proofs.Assembled.Closing.{is_closing, closes_as, closing_len, closing_items, closing_distribution, closing_row, is_with_closing, unmarked}
-use Rattle.mdp_rows.proofs.Assembled.Drafts.{nothing_to_close, row_refused, row_kept, is_with_row}
-use Rattle.mdp_rows.proofs.Assembled.Outcomes.{at_ok, at_err}
+use Rattle.mdp_rows.proofs.{Assembled.Drafts.{nothing_to_close, row_refused, row_kept, is_with_row}, Assembled.Outcomes.{at_ok, at_err}}
 use Rattle.mdp_rows.proofs.assembly.Assembly.end_row.Goals as goal
 
 pub returns-in_default : goal.returns-in_default

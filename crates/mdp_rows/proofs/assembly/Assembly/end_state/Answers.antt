@@ -1,8 +1,6 @@
 use Rattle.std.proofs.Common.{inl, inr, refl, List, ℕ, [], ◌∷◌, ◌++◌, length, ap, sym, subst, ◌∙◌, arith}
-use Rattle.mdp_rows.proofs.Assembled.Drafts.{no_state_to_close, state_refused, state_kept, is_with_state, is_with_room}
-use Rattle.mdp_rows.specs.Labelling.{Labelling}
-use Rattle.mdp_rows.specs.FlatDraft.{IsDraft}
-use Rattle.mdp_rows.proofs.Assembled.Outcomes.{at_ok, at_err}
+use Rattle.mdp_rows.proofs.{Assembled.Drafts.{no_state_to_close, state_refused, state_kept, is_with_state, is_with_room}, Assembled.Outcomes.{at_ok, at_err}}
+use Rattle.mdp_rows.specs.{Labelling.{Labelling}, FlatDraft.{IsDraft}}
 use Rattle.mdp_rows.proofs.assembly.Assembly.end_state.Goals as goal
 
 pub returns-in_default : goal.returns-in_default

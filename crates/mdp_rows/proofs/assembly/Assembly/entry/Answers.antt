@@ -1,6 +1,5 @@
 use Rattle.mdp_rows.specs.Draft.{after_entry}
-use Rattle.mdp_rows.proofs.Assembled.Refusals.{call_again, call_made}
-use Rattle.mdp_rows.proofs.Calls.Kept.{after_entry-kept}
+use Rattle.mdp_rows.proofs.{Assembled.Refusals.{call_again, call_made}, Calls.Kept.{after_entry-kept}}
 use Rattle.mdp_rows.proofs.assembly.Assembly.entry.Goals as goal
 
 pub returns-in-Some : goal.returns-in-Some

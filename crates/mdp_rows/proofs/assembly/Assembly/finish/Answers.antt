@@ -1,7 +1,6 @@
 use Rattle.std.proofs.Common.{◌∙◌}
 use Rattle.mdp_rows.specs.Draft.{finished}
-use Rattle.mdp_rows.proofs.Assembled.Finished.{all_go, again_as, none_again}
-use Rattle.mdp_rows.proofs.Calls.Closes.{all_are_closed}
+use Rattle.mdp_rows.proofs.{Assembled.Finished.{all_go, again_as, none_again}, Calls.Closes.{all_are_closed}}
 use Rattle.mdp_rows.proofs.assembly.Assembly.finish.Goals as goal
 
 pub returns-in-Err-clause-again : goal.returns-in-Err-clause-again

@@ -1,6 +1,5 @@
 use Rattle.mdp_rows.specs.Draft.{after_label}
-use Rattle.mdp_rows.proofs.Assembled.Refusals.{call_again, call_made}
-use Rattle.mdp_rows.proofs.Calls.Kept.{after_label-kept}
+use Rattle.mdp_rows.proofs.{Assembled.Refusals.{call_again, call_made}, Calls.Kept.{after_label-kept}}
 use Rattle.mdp_rows.proofs.assembly.Assembly.label.Goals as goal
 
 pub returns-in-Some : goal.returns-in-Some

@@ -1,9 +1,7 @@
-use Rattle.std.proofs.Common.{length, inr, arith, sym, ◌∙◌, ap}
-use Rattle.std.proofs.lemmas.Result.{err_from_is_err_and}
+use Rattle.std.proofs.{Common.{length, inr, arith, sym, ◌∙◌, ap}, lemmas.Result.{err_from_is_err_and}}
 use Rattle.mdp_rows.proofs.Assembled.Drafts.{names_in}
 use Rattle.mdp_rows.proofs.Assembled.Entries.{no_state_for_choice, past_choices, choice_is_opened, is_with_choice, is_with_sums, sums_refused}
-use Rattle.mdp_rows.proofs.Assembled.Finished.{or_memory}
-use Rattle.mdp_rows.proofs.Assembled.Sums.{sums_len}
+use Rattle.mdp_rows.proofs.{Assembled.Finished.{or_memory}, Assembled.Sums.{sums_len}}
 use Rattle.mdp_rows.proofs.assembly.Assembly.open_choice.Goals as goal
 
 pub returns-in_default : goal.returns-in_default

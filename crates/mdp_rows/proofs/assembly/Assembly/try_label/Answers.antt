@@ -1,6 +1,5 @@
 use Rattle.std.proofs.Common.{ℕ, ap, inr, refl, ◌∙◌, arith}
-use Rattle.mdp_rows.specs.Draft.{with_place}
-use Rattle.mdp_rows.specs.Labelling.{Labelling}
+use Rattle.mdp_rows.specs.{Draft.{with_place}, Labelling.{Labelling}}
 use Rattle.mdp_rows.proofs.Assembled.Labels.{no_state_for_label, past_calls, past_names, label_taken, is_named, is_labelled}
 use Rattle.mdp_rows.proofs.Assembled.Outcomes.{at_ok, at_err}
 use Rattle.mdp_rows.proofs.assembly.Assembly.try_label.Goals as goal

@@ -1,8 +1,5 @@
 use Rattle.mdp_rows.specs.Draft.{after_choice}
-use Rattle.mdp_rows.proofs.Calls.{after, stays_good}
-use Rattle.mdp_rows.proofs.Calls.Opens.{choice_opens}
-use Rattle.mdp_rows.proofs.SoundCalls.{after_choice-sound}
-use Rattle.mdp_rows.proofs.Calls.Kept.{IsKept, after_choice-kept}
+use Rattle.mdp_rows.proofs.{Calls.{after, stays_good}, Calls.Opens.{choice_opens}, SoundCalls.{after_choice-sound}, Calls.Kept.{IsKept, after_choice-kept}}
 use Rattle.mdp_rows.proofs.builder.Builder.choice.Goals as goal
 
 pub invariant_of-self : goal.invariant_of-self

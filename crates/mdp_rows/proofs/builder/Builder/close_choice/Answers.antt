@@ -1,8 +1,5 @@
 use Rattle.mdp_rows.specs.Draft.{choice_closed}
-use Rattle.mdp_rows.proofs.Calls.{after, stays_good}
-use Rattle.mdp_rows.proofs.Calls.Closes.{row_is_closed}
-use Rattle.mdp_rows.proofs.SoundCalls.{choice_closed-sound}
-use Rattle.mdp_rows.proofs.Calls.Kept.{IsKept, choice_closed-kept}
+use Rattle.mdp_rows.proofs.{Calls.{after, stays_good}, Calls.Closes.{row_is_closed}, SoundCalls.{choice_closed-sound}, Calls.Kept.{IsKept, choice_closed-kept}}
 use Rattle.mdp_rows.proofs.builder.Builder.close_choice.Goals as goal
 
 pub invariant_of-self : goal.invariant_of-self

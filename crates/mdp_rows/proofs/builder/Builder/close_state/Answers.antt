@@ -1,8 +1,5 @@
 use Rattle.mdp_rows.specs.Draft.{all_closed}
-use Rattle.mdp_rows.proofs.Calls.{after, stays_good}
-use Rattle.mdp_rows.proofs.Calls.Closes.{all_are_closed}
-use Rattle.mdp_rows.proofs.SoundCalls.{all_closed-sound}
-use Rattle.mdp_rows.proofs.Calls.Kept.{IsKept, all_closed-kept}
+use Rattle.mdp_rows.proofs.{Calls.{after, stays_good}, Calls.Closes.{all_are_closed}, SoundCalls.{all_closed-sound}, Calls.Kept.{IsKept, all_closed-kept}}
 use Rattle.mdp_rows.proofs.builder.Builder.close_state.Goals as goal
 
 pub invariant_of-self : goal.invariant_of-self

@@ -1,8 +1,5 @@
 use Rattle.mdp_rows.specs.Draft.{after_entry}
-use Rattle.mdp_rows.proofs.Calls.{after, stays_good}
-use Rattle.mdp_rows.proofs.Calls.Opens.{entry_keeps}
-use Rattle.mdp_rows.proofs.SoundCalls.{after_entry-sound}
-use Rattle.mdp_rows.proofs.Calls.Kept.{IsKept, after_entry-kept}
+use Rattle.mdp_rows.proofs.{Calls.{after, stays_good}, Calls.Opens.{entry_keeps}, SoundCalls.{after_entry-sound}, Calls.Kept.{IsKept, after_entry-kept}}
 use Rattle.mdp_rows.proofs.builder.Builder.entry.Goals as goal
 
 pub invariant_of-self : goal.invariant_of-self

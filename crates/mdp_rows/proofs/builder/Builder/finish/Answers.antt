@@ -1,6 +1,5 @@
 use Rattle.std.proofs.Common.{◌≡◌, subst}
-use Rattle.std.specs.Prelude.{Err}
-use Rattle.std.specs.Option.{IfSome}
+use Rattle.std.specs.{Prelude.{Err}, Option.{IfSome}}
 use Rattle.mdp_rows.specs.Draft.{Draft}
 use Rattle.mdp_rows.proofs.SoundCalls.{after_finish-sound}
 use Rattle.mdp_rows.proofs.builder.Builder.finish.Goals as goal

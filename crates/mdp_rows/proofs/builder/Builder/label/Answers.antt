@@ -1,8 +1,5 @@
 use Rattle.mdp_rows.specs.Draft.{after_label}
-use Rattle.mdp_rows.proofs.Calls.{after, stays_good}
-use Rattle.mdp_rows.proofs.Calls.Opens.{label_keeps}
-use Rattle.mdp_rows.proofs.SoundCalls.{after_label-sound}
-use Rattle.mdp_rows.proofs.Calls.Kept.{IsKept, after_label-kept}
+use Rattle.mdp_rows.proofs.{Calls.{after, stays_good}, Calls.Opens.{label_keeps}, SoundCalls.{after_label-sound}, Calls.Kept.{IsKept, after_label-kept}}
 use Rattle.mdp_rows.proofs.builder.Builder.label.Goals as goal
 
 pub invariant_of-self : goal.invariant_of-self

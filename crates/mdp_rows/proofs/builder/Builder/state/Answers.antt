@@ -1,8 +1,5 @@
 use Rattle.mdp_rows.specs.Draft.{after_state}
-use Rattle.mdp_rows.proofs.Calls.{after, stays_good}
-use Rattle.mdp_rows.proofs.Calls.Opens.{state_opens}
-use Rattle.mdp_rows.proofs.SoundCalls.{after_state-sound}
-use Rattle.mdp_rows.proofs.Calls.Kept.{IsKept, after_state-kept}
+use Rattle.mdp_rows.proofs.{Calls.{after, stays_good}, Calls.Opens.{state_opens}, SoundCalls.{after_state-sound}, Calls.Kept.{IsKept, after_state-kept}}
 use Rattle.mdp_rows.proofs.builder.Builder.state.Goals as goal
 
 pub invariant_of-self : goal.invariant_of-self

@@ -1,13 +1,8 @@
 use Rattle.std.proofs.Common.{◌≡◌, List, ℕ, Option, sym, ap, ◌∙◌}
-use Rattle.std.specs.Str.{bytes_eq}
-use Rattle.std.specs.Global.{Vec}
-use Rattle.std.specs.List.{position}
+use Rattle.std.specs.{Str.{bytes_eq}, Global.{Vec}, List.{position}}
 use Rattle.mdp_spec.specs.Labels.{place_of}
-use Rattle.mdp_rows.specs.ChoiceTable.{ChoiceTable}
-use Rattle.mdp_rows.specs.FlatChoices.{table_in}
-use Rattle.mdp_rows.specs.declared.choices.Choices.TheInside.{Inside}
-use Rattle.mdp_rows.proofs.Flat.Choices.{names_are}
-use Rattle.mdp_rows.proofs.Flat.Names.{position-map}
+use Rattle.mdp_rows.specs.{ChoiceTable.{ChoiceTable}, FlatChoices.{table_in}, declared.choices.Choices.TheInside.{Inside}}
+use Rattle.mdp_rows.proofs.{Flat.Choices.{names_are}, Flat.Names.{position-map}}
 use Rattle.mdp_rows.proofs.choices.Choices.place.Goals as goal
 
 found : (a : Inside) (v : ChoiceTable) (name : List ℕ) (names : List (Vec ℕ)) (o : Option ℕ) → table_in a ≡ v → names ≡ a.names.items

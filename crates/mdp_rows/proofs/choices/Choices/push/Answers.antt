@@ -1,7 +1,6 @@
 use Rattle.std.proofs.Common.{◌∙◌, refl, arith, List, ◌++◌, ap}
 use Rattle.mdp_math.specs.Rational.{ℚ}
-use Rattle.mdp_rows.proofs.Flat.Choices.{choices_len, entries_are, same_choices, one_more, are_one_more}
-use Rattle.mdp_rows.proofs.Flat.RowsGrown.{on_err_of}
+use Rattle.mdp_rows.proofs.{Flat.Choices.{choices_len, entries_are, same_choices, one_more, are_one_more}, Flat.RowsGrown.{on_err_of}}
 use Rattle.mdp_rows.proofs.choices.Choices.push.Goals as goal
 
 pub returns-in_err-reserve-clause-unchanged : goal.returns-in_err-reserve-clause-unchanged

@@ -1,5 +1,4 @@
-use Rattle.std.proofs.Common.{◌≡◌, ℕ, ◌+◌, ◌*◌, length, get_or, pos, arith, ap, ◌∙◌}
-use Rattle.std.proofs.lemmas.List.{get_or_default}
+use Rattle.std.proofs.{Common.{◌≡◌, ℕ, ◌+◌, ◌*◌, length, get_or, pos, arith, ap, ◌∙◌}, lemmas.List.{get_or_default}}
 use Rattle.mdp_math.specs.Rational.{of_int}
 use Rattle.mdp_rows.proofs.Flat.Choices.{reward_there, reward_is}
 use Rattle.mdp_rows.proofs.choices.Choices.reward.Goals as goal

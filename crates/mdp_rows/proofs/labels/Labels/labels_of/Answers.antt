@@ -1,7 +1,6 @@
 use Rattle.std.proofs.Common.{arith, ap, ◌∙◌}
 use Rattle.mdp_rows.specs.Pieces.{piece}
-use Rattle.mdp_rows.proofs.Flat.Pieces.{next_places, piece_is}
-use Rattle.mdp_rows.proofs.Flat.Labels.{states_are, of_state_is}
+use Rattle.mdp_rows.proofs.{Flat.Pieces.{next_places, piece_is}, Flat.Labels.{states_are, of_state_is}}
 use Rattle.mdp_rows.proofs.labels.Labels.labels_of.Goals as goal
 
 pub index-requires : goal.index-requires

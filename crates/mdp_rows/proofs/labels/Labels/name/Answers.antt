@@ -1,9 +1,6 @@
-use Rattle.std.proofs.Common.{ℕ, List, [], get_or, arith, sym, ap, ◌∙◌}
+use Rattle.std.proofs.{Common.{ℕ, List, [], get_or, arith, sym, ap, ◌∙◌}, lemmas.Option.{get_or_from_slice_get}}
 use Rattle.std.specs.Global.{Vec}
-use Rattle.std.proofs.lemmas.Option.{get_or_from_slice_get}
-use Rattle.mdp_rows.proofs.Flat.Choices.{name_at}
-use Rattle.mdp_rows.proofs.Flat.Labels.{names_are}
-use Rattle.mdp_rows.proofs.Flat.Names.{same_count}
+use Rattle.mdp_rows.proofs.{Flat.Choices.{name_at}, Flat.Labels.{names_are}, Flat.Names.{same_count}}
 use Rattle.mdp_rows.proofs.labels.Labels.name.Goals as goal
 
 pub index-requires : goal.index-requires

@@ -1,6 +1,5 @@
 use Rattle.std.proofs.Common.{[], arith}
-use Rattle.mdp_rows.proofs.Flat.Labels.{names_are}
-use Rattle.mdp_rows.proofs.Flat.Names.{same_count}
+use Rattle.mdp_rows.proofs.{Flat.Labels.{names_are}, Flat.Names.{same_count}}
 use Rattle.mdp_rows.proofs.labels.Labels.names.Goals as goal
 
 pub returns : goal.returns

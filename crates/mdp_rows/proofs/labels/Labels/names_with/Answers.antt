@@ -1,6 +1,5 @@
 use Rattle.std.proofs.Common.{length, ap, sym, ◌∙◌, arith, length-append, ◌∷◌, []}
-use Rattle.mdp_rows.proofs.Flat.Labels.{names_are}
-use Rattle.mdp_rows.proofs.Flat.Names.{same_count, seen_before, never_seen}
+use Rattle.mdp_rows.proofs.{Flat.Labels.{names_are}, Flat.Names.{same_count, seen_before, never_seen}}
 use Rattle.mdp_rows.proofs.labels.Labels.names_with.Goals as goal
 
 pub returns-in-Some : goal.returns-in-Some

@@ -1,13 +1,8 @@
 use Rattle.std.proofs.Common.{◌≡◌, List, ℕ, Option, sym, ap, ◌∙◌}
-use Rattle.std.specs.Str.{bytes_eq}
-use Rattle.std.specs.Global.{Vec}
-use Rattle.std.specs.List.{position}
+use Rattle.std.specs.{Str.{bytes_eq}, Global.{Vec}, List.{position}}
 use Rattle.mdp_spec.specs.Labels.{place_of}
-use Rattle.mdp_rows.specs.Labelling.{Labelling}
-use Rattle.mdp_rows.specs.FlatLabels.{labels_in}
-use Rattle.mdp_rows.specs.declared.labels.Labels.TheInside.{Inside}
-use Rattle.mdp_rows.proofs.Flat.Labels.{names_are}
-use Rattle.mdp_rows.proofs.Flat.Names.{position-map}
+use Rattle.mdp_rows.specs.{Labelling.{Labelling}, FlatLabels.{labels_in}, declared.labels.Labels.TheInside.{Inside}}
+use Rattle.mdp_rows.proofs.{Flat.Labels.{names_are}, Flat.Names.{position-map}}
 use Rattle.mdp_rows.proofs.labels.Labels.place.Goals as goal
 
 found : (a : Inside) (v : Labelling) (name : List ℕ) (o : Option ℕ) → labels_in a ≡ v → o ≡ position (λ (k : Vec ℕ). bytes_eq name k.items) a.names.keys → o ≡ place_of name v.names

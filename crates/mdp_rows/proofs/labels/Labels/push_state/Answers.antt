@@ -1,8 +1,6 @@
 use Rattle.std.proofs.Common.{ℕ, ◌+◌, ◌<◌, ◌^◌, List, [], ◌∷◌, ◌++◌, length, sum_by, ap, ◌∙◌, refl, arith}
-use Rattle.mdp_rows.specs.FlatLabels.{labels_in}
-use Rattle.mdp_rows.specs.Labelling.{Labelling}
-use Rattle.mdp_rows.proofs.Flat.Labels.{states_are}
-use Rattle.mdp_rows.proofs.Flat.LabelsGrown.{same_labels, few_label_places, labels_grown, are_labels_grown}
+use Rattle.mdp_rows.specs.{FlatLabels.{labels_in}, Labelling.{Labelling}}
+use Rattle.mdp_rows.proofs.{Flat.Labels.{states_are}, Flat.LabelsGrown.{same_labels, few_label_places, labels_grown, are_labels_grown}}
 use Rattle.mdp_rows.proofs.Flat.RowsGrown.{on_err_of}
 use Rattle.mdp_rows.proofs.labels.Labels.push_state.Goals as goal
 

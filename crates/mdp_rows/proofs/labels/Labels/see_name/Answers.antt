@@ -1,13 +1,8 @@
-use Rattle.std.proofs.Common.{◌≡◌, ◌≤◌, ◌^◌, List, ℕ, map, length, refl, ap, sym, subst, ◌∙◌, arith}
-use Rattle.std.specs.Global.{Vec}
-use Rattle.std.specs.List.{position_or_len}
-use Rattle.std.specs.Str.{bytes_eq}
-use Rattle.std.proofs.lemmas.List.{length-map}
+use Rattle.std.proofs.{Common.{◌≡◌, ◌≤◌, ◌^◌, List, ℕ, map, length, refl, ap, sym, subst, ◌∙◌, arith}, lemmas.List.{length-map}}
+use Rattle.std.specs.{Global.{Vec}, List.{position_or_len}, Str.{bytes_eq}}
 use Rattle.mdp_rows.specs.Draft.{with_name}
-use Rattle.mdp_rows.proofs.Flat.Labels.{names_are}
-use Rattle.mdp_rows.proofs.Flat.LabelsGrown.{names_grown, are_labels_named, same_names, names_unchanged}
-use Rattle.mdp_rows.proofs.Flat.Names.{seen_before, place_is, with_name-keys}
-use Rattle.mdp_rows.proofs.Flat.RowsGrown.{on_err_of}
+use Rattle.mdp_rows.proofs.{Flat.Labels.{names_are}, Flat.LabelsGrown.{names_grown, are_labels_named, same_names, names_unchanged}}
+use Rattle.mdp_rows.proofs.{Flat.Names.{seen_before, place_is, with_name-keys}, Flat.RowsGrown.{on_err_of}}
 use Rattle.mdp_rows.proofs.labels.Labels.see_name.Goals as goal
 
 pub returns-in-Some-clause-place : goal.returns-in-Some-clause-place

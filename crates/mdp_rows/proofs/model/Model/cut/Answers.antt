@@ -1,9 +1,6 @@
 use Rattle.std.proofs.Common.{ℕ, List, sym, ap, ap₂, ◌∙◌}
-use Rattle.mdp_spec.specs.Mdp.{Mdp}
-use Rattle.mdp_spec.specs.Sub.{sub_of}
-use Rattle.mdp_rows.specs.Draft.{Draft, new_draft}
-use Rattle.mdp_rows.specs.Replay.{with_states}
-use Rattle.mdp_rows.specs.declared.rule.RowRule.TheVariants.{Exact}
+use Rattle.mdp_spec.specs.{Mdp.{Mdp}, Sub.{sub_of}}
+use Rattle.mdp_rows.specs.{Draft.{Draft, new_draft}, Replay.{with_states}, declared.rule.RowRule.TheVariants.{Exact}}
 use Rattle.mdp_rows.proofs.CutModels.{sub_comes_out}
 use Rattle.mdp_rows.proofs.model.Model.cut.Goals as goal
 

@@ -1,5 +1,4 @@
-use Rattle.std.specs.Prelude.{◌≡◌, false, take}
-use Rattle.std.specs.List.{list_any}
+use Rattle.std.specs.{Prelude.{◌≡◌, false, take}, List.{list_any}}
 use Rattle.mdp_rows.specs.Negative.{any_negative}
 use Rattle.mdp_rows.proofs.model.Model.negative.Given as goal
 

@@ -1,6 +1,5 @@
 use Rattle.std.proofs.Common.{length, arith, sym, ap, ◌∙◌}
-use Rattle.mdp_spec.specs.Mdp.{Choice}
-use Rattle.mdp_spec.specs.Unit.{reward_of}
+use Rattle.mdp_spec.specs.{Mdp.{Choice}, Unit.{reward_of}}
 use Rattle.mdp_rows.proofs.Flat.Models.{states_are, names_are, choices_after}
 use Rattle.mdp_rows.proofs.model.Model.reward.Goals as goal
 

@@ -1,6 +1,5 @@
-use Rattle.std.proofs.Common.{◌==◌, ◌++◌, ◌∷◌, [], Bool, List, map, sym, ap, ap₂, ◌∙◌, arith}
+use Rattle.std.proofs.{Common.{◌==◌, ◌++◌, ◌∷◌, [], Bool, List, map, sym, ap, ap₂, ◌∙◌, arith}, lemmas.List.{map_more, take_all}}
 use Rattle.std.specs.List.{list_any}
-use Rattle.std.proofs.lemmas.List.{map_more, take_all}
 use Rattle.mdp_spec.specs.Mdp.{State, no_state}
 use Rattle.mdp_rows.proofs.model.Model.values_of.Goals as goal
 

@@ -1,5 +1,4 @@
-use Rattle.std.proofs.Common.{sym, ◌∙◌}
-use Rattle.std.proofs.lemmas.List.FromFn.{length-map-range_with_len}
+use Rattle.std.proofs.{Common.{sym, ◌∙◌}, lemmas.List.FromFn.{length-map-range_with_len}}
 use Rattle.mdp_rows.proofs.policy_rows.PolicyRowsRowsOf.count.Goals as goal
 
 pub returns : goal.returns

@@ -1,5 +1,4 @@
-use Rattle.std.proofs.Common.{arith, sym, ◌∙◌, zero-add}
-use Rattle.std.proofs.lemmas.List.FromFn.{length-map-range_with_len, get_or-map-range_with_len}
+use Rattle.std.proofs.{Common.{arith, sym, ◌∙◌, zero-add}, lemmas.List.FromFn.{length-map-range_with_len, get_or-map-range_with_len}}
 use Rattle.mdp_rows.proofs.policy_rows.PolicyRowsRowsOf.row.Goals as goal
 
 pub bounds-self-s : goal.bounds-self-s

@@ -1,6 +1,5 @@
 use Rattle.std.proofs.Common.{ℕ, ◌<◌, get_or, arith, sym, subst}
-use Rattle.mdp_math.proofs.Laws.{den-pos}
-use Rattle.mdp_math.proofs.Lcm.{lcm-pos}
+use Rattle.mdp_math.proofs.{Laws.{den-pos}, Lcm.{lcm-pos}}
 use Rattle.mdp_rows.proofs.row.Row.denominators.Goals as goal
 
 pub loop-i-init : goal.loop-i-init

@@ -1,5 +1,4 @@
-use Rattle.std.proofs.Common.{sym, ◌∙◌}
-use Rattle.std.proofs.lemmas.Result.{err_from_is_err_and}
+use Rattle.std.proofs.{Common.{sym, ◌∙◌}, lemmas.Result.{err_from_is_err_and}}
 use Rattle.mdp_rows.proofs.ShortSums.{written_sum-next, written_sum-step}
 use Rattle.mdp_rows.proofs.row.Row.long_sum.Goals as goal
 

@@ -1,6 +1,5 @@
 use Rattle.std.proofs.Common.{◌≡◌, drop}
-use Rattle.mdp_spec.specs.Row.{entries}
-use Rattle.mdp_spec.specs.Written.{written_sum}
+use Rattle.mdp_spec.specs.{Row.{entries}, Written.{written_sum}}
 use Rattle.mdp_rows.proofs.row.Row.long_sum.Given as goal
 
 abbrev pub invariant-loop-i : goal.invariant-loop-i

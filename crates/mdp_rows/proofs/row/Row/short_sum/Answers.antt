@@ -1,9 +1,7 @@
-use Rattle.std.proofs.Common.{mul-pos, ◌∙◌, Some, ℤ, unsigned_abs, to_z, to_z-of_z, sym, ap, arith}
+use Rattle.std.proofs.{Common.{mul-pos, ◌∙◌, Some, ℤ, unsigned_abs, to_z, to_z-of_z, sym, ap, arith}, lemmas.Int.{ints, fits_signed_from_abs}}
 use mir.Syntax.{w128}
-use Rattle.std.proofs.lemmas.Int.{ints, fits_signed_from_abs}
 use Rattle.mdp_math.specs.Rational.{ℚ, ratio}
-use Rattle.mdp_spec.specs.Row.{entries}
-use Rattle.mdp_spec.specs.Written.{written_sum}
+use Rattle.mdp_spec.specs.{Row.{entries}, Written.{written_sum}}
 use Rattle.mdp_rows.proofs.ShortSums.{sum-read, product-is, written_sum-step, written_sum-end}
 use Rattle.mdp_rows.proofs.row.Row.short_sum.Goals as goal
 

@@ -1,7 +1,6 @@
 use Rattle.std.proofs.Common.{◌≡◌, ◌<◌, ◌*◌, ◌^◌, unsigned_abs, drop}
 use Rattle.mdp_math.specs.Rational.{ratio}
-use Rattle.mdp_spec.specs.Row.{entries}
-use Rattle.mdp_spec.specs.Written.{written_sum}
+use Rattle.mdp_spec.specs.{Row.{entries}, Written.{written_sum}}
 use Rattle.mdp_rows.proofs.row.Row.short_sum.Given as goal
 
 abbrev pub invariant-loop-i : goal.invariant-loop-i

@@ -1,10 +1,7 @@
 use Rattle.std.proofs.Common.{◌≡◌, ℕ, ◌+◌, ◌<◌, ◌^◌, List, [], ◌∷◌, ◌++◌, length, sum_by, ap, ap₂, ◌∙◌, refl, arith}
 use Rattle.mdp_spec.specs.Mdp.{Entry}
-use Rattle.mdp_rows.specs.Draft.{kept}
-use Rattle.mdp_rows.specs.Given.{row_of}
-use Rattle.mdp_rows.specs.FlatRows.{rows_in}
-use Rattle.mdp_rows.proofs.Flat.Rows.{rows_len}
-use Rattle.mdp_rows.proofs.Flat.RowsGrown.{same_rows, same_are_rows, rows_grown, are_rows_grown, few_targets, on_err_of}
+use Rattle.mdp_rows.specs.{Draft.{kept}, Given.{row_of}, FlatRows.{rows_in}}
+use Rattle.mdp_rows.proofs.{Flat.Rows.{rows_len}, Flat.RowsGrown.{same_rows, same_are_rows, rows_grown, are_rows_grown, few_targets, on_err_of}}
 use Rattle.mdp_rows.proofs.rows.Rows.push_row.Goals as goal
 
 pub invariant_of-self : goal.invariant_of-self

@@ -1,6 +1,5 @@
 use Rattle.std.proofs.Common.{arith}
-use Rattle.mdp_rows.proofs.Flat.Rows.{rows_len, lent}
-use Rattle.mdp_rows.proofs.Flat.Pieces.{next_places}
+use Rattle.mdp_rows.proofs.{Flat.Rows.{rows_len, lent}, Flat.Pieces.{next_places}}
 use Rattle.mdp_rows.proofs.rows.Rows.row.Goals as goal
 
 pub index-requires : goal.index-requires

@@ -1,5 +1,4 @@
-use Rattle.std.proofs.Common.{ℕ, ap, ◌∙◌, subst, sym, ◌<◌}
-use Rattle.std.proofs.lemmas.List.{get_or_default}
+use Rattle.std.proofs.{Common.{ℕ, ap, ◌∙◌, subst, sym, ◌<◌}, lemmas.List.{get_or_default}}
 use Rattle.mdp_math.specs.Rational.{ℚ}
 use Rattle.mdp_math.proofs.Order.{0ℚ}
 use Rattle.mdp_spec.specs.Mdp.{value_at}

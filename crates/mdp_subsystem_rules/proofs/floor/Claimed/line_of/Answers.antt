@@ -1,6 +1,5 @@
-use Rattle.std.proofs.Common.{◌≡◌, ℕ, ◌<◌, false, length, get_or, subst, sym}
+use Rattle.std.proofs.{Common.{◌≡◌, ℕ, ◌<◌, false, length, get_or, subst, sym}, lemmas.List.Sorted.{searched}}
 use Rattle.std.specs.Prelude.{Option, MatchOption}
-use Rattle.std.proofs.lemmas.List.Sorted.{searched}
 use Rattle.mdp_subsystem_rules.specs.Kept.{is_listed}
 use Rattle.mdp_subsystem_rules.proofs.Kept.{ascends-le, place_of_search}
 use Rattle.mdp_subsystem_rules.proofs.floor.Claimed.line_of.Goals as goal

@@ -1,9 +1,7 @@
-use Rattle.std.proofs.Common.{List, [], ◌∷◌, ◌++◌}
-use Rattle.std.proofs.lemmas.Result.{err_from_is_err_and}
+use Rattle.std.proofs.{Common.{List, [], ◌∷◌, ◌++◌}, lemmas.Result.{err_from_is_err_and}}
 use Rattle.mdp_farkas.specs.Verdict.{Check}
 use Rattle.mdp_farkas.proofs.Objections.{halts, goes_on}
-use Rattle.mdp_subsystem_rules.specs.FloorChecks.{value_checks, cover_checks, rank_checks, line_rank, line_values}
-use Rattle.mdp_subsystem_rules.specs.FlowChecks.{kept_check}
+use Rattle.mdp_subsystem_rules.specs.{FloorChecks.{value_checks, cover_checks, rank_checks, line_rank, line_values}, FlowChecks.{kept_check}}
 use Rattle.mdp_subsystem_rules.proofs.floor.Claimed.state_at.Goals as goal
 
 pub returns-in_err-covers_at : goal.returns-in_err-covers_at

@@ -1,8 +1,6 @@
-use Rattle.std.proofs.Common.{Bool, Option, None, List, [], ◌∷◌, ap, ◌∙◌}
-use Rattle.std.proofs.lemmas.Result.{err_from_is_err_and}
+use Rattle.std.proofs.{Common.{Bool, Option, None, List, [], ◌∷◌, ap, ◌∙◌}, lemmas.Result.{err_from_is_err_and}}
 use Rattle.mdp_math.specs.Rational.{ℚ}
-use Rattle.mdp_farkas.specs.Compare.{is_at_least}
-use Rattle.mdp_farkas.specs.Verdict.{Check, objection_to}
+use Rattle.mdp_farkas.specs.{Compare.{is_at_least}, Verdict.{Check, objection_to}}
 use Rattle.mdp_farkas.proofs.Objections.{halts, goes_on}
 use Rattle.mdp_claims.specs.declared.rule.Rule.TheVariants.{StartReachesThreshold}
 use Rattle.mdp_subsystem_rules.specs.FloorChecks.{each_line, start_check}

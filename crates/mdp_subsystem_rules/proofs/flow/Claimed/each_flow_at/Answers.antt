@@ -1,10 +1,7 @@
-use Rattle.std.proofs.Common.{List, ◌∷◌, drop, ◌+◌, refl, sym, ap, ◌∙◌, subst}
-use Rattle.std.proofs.lemmas.Result.{err_from_is_err_and}
-use Rattle.std.proofs.lemmas.List.{drop_more}
+use Rattle.std.proofs.{Common.{List, ◌∷◌, drop, ◌+◌, refl, sym, ap, ◌∙◌, subst}, lemmas.Result.{err_from_is_err_and}, lemmas.List.{drop_more}}
 use Rattle.mdp_spec.specs.Mdp.{states_of}
 use Rattle.mdp_claims.specs.declared.subsystem.Flow.{Flow}
-use Rattle.mdp_subsystem_rules.specs.FlowChecks.{checks_at, each_flow}
-use Rattle.mdp_subsystem_rules.specs.Sums.{FlowSums, AreSums, after_flow, after_flows}
+use Rattle.mdp_subsystem_rules.specs.{FlowChecks.{checks_at, each_flow}, Sums.{FlowSums, AreSums, after_flow, after_flows}}
 use Rattle.mdp_farkas.specs.Verdict.{objection_to}
 use Rattle.mdp_farkas.proofs.Objections.{halts, goes_on}
 use Rattle.mdp_subsystem_rules.proofs.Sizes.{sized_after}

@@ -1,7 +1,6 @@
 use Rattle.std.proofs.Common.{◌≡◌, drop}
 use Rattle.mdp_spec.specs.Mdp.{states_of}
-use Rattle.mdp_subsystem_rules.specs.FlowChecks.{each_flow}
-use Rattle.mdp_subsystem_rules.specs.Sums.{AreSums, after_flows}
+use Rattle.mdp_subsystem_rules.specs.{FlowChecks.{each_flow}, Sums.{AreSums, after_flows}}
 use Rattle.mdp_farkas.specs.Verdict.{objection_to}
 use Rattle.mdp_subsystem_rules.proofs.flow.Claimed.each_flow_at.Given as goal
 

@@ -1,13 +1,10 @@
-use Rattle.std.proofs.Common.{◌≡◌, ℕ, ◌<◌, Bool, List, ◌++◌, length, map, All, sym, ap, ◌∙◌, subst}
-use Rattle.std.proofs.lemmas.Result.{err_from_is_err_and}
+use Rattle.std.proofs.{Common.{◌≡◌, ℕ, ◌<◌, Bool, List, ◌++◌, length, map, All, sym, ap, ◌∙◌, subst}, lemmas.Result.{err_from_is_err_and}}
 use Rattle.mdp_math.specs.Rational.{ℚ}
 use Rattle.mdp_spec.specs.Mdp.{Mdp, states_of}
 use Rattle.mdp_claims.specs.declared.subsystem.Flow.{Flow}
 use Rattle.mdp_farkas.specs.Verdict.{objection_to}
 use Rattle.mdp_farkas.proofs.Objections.{halts, goes_on}
-use Rattle.mdp_subsystem_rules.specs.FlowChecks.{kept_check, each_flow, sum_checks, checks_from}
-use Rattle.mdp_subsystem_rules.specs.Kept.{kept_marks}
-use Rattle.mdp_subsystem_rules.specs.Sums.{FlowSums, AreSums, after_flows}
+use Rattle.mdp_subsystem_rules.specs.{FlowChecks.{kept_check, each_flow, sum_checks, checks_from}, Kept.{kept_marks}, Sums.{FlowSums, AreSums, after_flows}}
 use Rattle.mdp_subsystem_rules.proofs.Sizes.{sized_all}
 use Rattle.mdp_subsystem_rules.proofs.flow.Claimed.walk.Goals as goal
 

@@ -1,6 +1,5 @@
 use Rattle.std.proofs.Common.{◌<◌, ℕ, length, get_or, sym, ◌∙◌, subst, arith}
-use Rattle.mdp_subsystem_rules.proofs.Adding.{row_next}
-use Rattle.mdp_subsystem_rules.proofs.Sizes.{sized_entry}
+use Rattle.mdp_subsystem_rules.proofs.{Adding.{row_next}, Sizes.{sized_entry}}
 use Rattle.mdp_subsystem_rules.proofs.sums.Sums.add_row.Goals as goal
 
 pub add_entry-requires-clause-inflows : goal.add_entry-requires-clause-inflows

@@ -1,7 +1,0 @@
--- What the code has read, as the definitions see it.
-use Rattle.mdp_cert.specs.Cert.{plain_claim}
-use Rattle.mdp_bounds_text.specs.declared.head.Head.{Head}
-use Rattle.mdp_bounds_text.specs.Reading.{BoundsHead}
-
-abbrev pub plain_head : Head → BoundsHead
-plain_head h = record { claim = plain_claim h.claim; states = h.states; init = h.init }

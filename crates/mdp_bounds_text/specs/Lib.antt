@@ -1,7 +1,0 @@
-pub mod Cert
-pub mod Plain
-pub mod Entries
-pub mod Spelling
-pub mod Reading
-pub mod Code
-pub mod Laws

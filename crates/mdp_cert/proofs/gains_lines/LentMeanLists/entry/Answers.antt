@@ -1,0 +1,24 @@
+use Rattle.std.proofs.Common.{arith}
+use Rattle.mdp_cert.proofs.Gains.{inside, entry-at}
+use Rattle.mdp_cert.proofs.gains_lines.LentMeanLists.entry.Goals as goal
+
+pub index-requires : goal.index-requires
+index-requires c = let x = c.args.self.now.cert.now in omega (arith, (inside x.lower.items x.upper.items x.bound.items x.bias.items x.choices.items c.args.state c.requires).lower)
+
+pub index-requires-2 : goal.index-requires-2
+index-requires-2 c = let x = c.args.self.now.cert.now in omega (arith, (inside x.lower.items x.upper.items x.bound.items x.bias.items x.choices.items c.args.state c.requires).upper)
+
+pub index-requires-3 : goal.index-requires-3
+index-requires-3 c = let x = c.args.self.now.cert.now in omega (arith, (inside x.lower.items x.upper.items x.bound.items x.bias.items x.choices.items c.args.state c.requires).bounds)
+
+pub index-requires-4 : goal.index-requires-4
+index-requires-4 c = let x = c.args.self.now.cert.now in omega (arith, (inside x.lower.items x.upper.items x.bound.items x.bias.items x.choices.items c.args.state c.requires).biases)
+
+pub index-requires-5 : goal.index-requires-5
+index-requires-5 c = let x = c.args.self.now.cert.now in omega (arith, (inside x.lower.items x.upper.items x.bound.items x.bias.items x.choices.items c.args.state c.requires).choices)
+
+pub returns : goal.returns
+returns c =
+    let x = c.args.self.now.cert.now in
+    entry-at x.lower.items x.upper.items x.bound.items x.bias.items x.choices.items c.args.state _ _ _ _ _ _ c.requires
+    c.index.ensures c.index-2.ensures c.index-3.ensures c.index-4.ensures c.index-5.ensures

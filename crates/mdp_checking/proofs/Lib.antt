@@ -1,4 +1,0 @@
-mod BoundsExamples
-mod DiscountExamples
-mod KindExamples
-pub mod Accepting

@@ -1,5 +1,0 @@
-pub mod Meanings
-pub mod Kinds
-pub mod Due
-pub mod Shown
-pub mod Laws

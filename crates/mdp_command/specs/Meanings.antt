@@ -1,0 +1,48 @@
+-- What certificates of each kind mean, and the kind that the first line of a text names.
+use Rattle.std.specs.{Prelude.{ℕ, Bool, List, length, take, if◌then◌else◌}, Str.{bytes_eq}}
+use Rattle.mdp_check.specs.Bounds as bounds
+use Rattle.mdp_cert.specs.BoundsCert as bounds_cert
+use Rattle.mdp_cert.specs.BoundsReading as bounds_reading
+use Rattle.mdp_cert.specs.BoundsSpelling as bounds_text
+use Rattle.mdp_discount_bounds.specs.Cert as discount_bounds_cert
+use Rattle.mdp_discount_bounds.specs.Check as discount_bounds
+use Rattle.mdp_discount_text.specs.Reading as discount_bounds_reading
+use Rattle.mdp_discount_rules.specs.Cert as discount_cert
+use Rattle.mdp_discount_rules.specs.Check as discount
+use Rattle.mdp_discount_text.specs.Spelling as discount_text
+use Rattle.mdp_discount_text.specs.Text as discount_reading
+use Rattle.mdp_job.specs.Text.{line}
+use Rattle.mdp_command.specs.{Meaning.{Meaning, exact_meaning}, declared.kind.CertificateKind.{CertificateKind}}
+use Rattle.mdp_command.specs.declared.kind.CertificateKind.TheVariants.{Exact, Discounted, Bounds, DiscountedBounds}
+
+-- of discounted rewards: no policy is better than the values by more than what is left of the remainder after so many steps
+abbrev pub discounted_meaning : Meaning
+discounted_meaning = record { Certificate = discount_cert.Certificate; outcome = discount_reading.outcome; IsBound = discount.IsBound }
+
+-- of bounds: the best values lie between the lower and the upper values
+abbrev pub between_meaning : Meaning
+between_meaning = record { Certificate = bounds_cert.Certificate; outcome = bounds_reading.outcome; IsBound = bounds.IsBoundsTrue }
+
+-- of bounds of discounted rewards: the best ones lie between the values, but for what is left of the remainder after so many steps
+abbrev pub discounted_between_meaning : Meaning
+discounted_between_meaning =
+    record { Certificate = discount_bounds_cert.Certificate; outcome = discount_bounds_reading.outcome; IsBound = discount_bounds.IsBound }
+
+abbrev pub meaning_of : CertificateKind → Meaning
+meaning_of Exact = exact_meaning
+meaning_of Discounted = discounted_meaning
+meaning_of Bounds = between_meaning
+meaning_of DiscountedBounds = discounted_between_meaning
+
+abbrev pub begins_with : List ℕ → List ℕ → Bool
+begins_with front bytes = bytes_eq front (take (length front) bytes)
+
+-- of a certificate of bounds, by the claim in its second line
+abbrev pub bounds_kind : List ℕ → CertificateKind
+bounds_kind bytes = if discount_bounds_reading.is_discount_claim bytes then DiscountedBounds else Bounds
+
+-- by its first line. A text with any other first line is held to be a certificate of best values: that checker refuses it, or knows the line
+abbrev pub kind_of : List ℕ → CertificateKind
+kind_of bytes =
+    if begins_with (line discount_text.version_text) bytes then Discounted
+    else (if begins_with (line bounds_text.version_text) bytes then bounds_kind bytes else Exact)

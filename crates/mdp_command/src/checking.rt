@@ -1,0 +1,119 @@
+ghost use Rattle.std.specs.Prelude.{◌≡◌, ◌⊎◌, false, Err, OnOk, IsTrue};
+ghost use Rattle.mdp_command.specs.{Prelude.{IsAtEnd, no_memory, read_certificate, said, input}, Accepted.{exact}, Read.{IsReadAs, is_of_model}};
+ghost use Rattle.mdp_command.specs.{CheckDue.{said_to_text, IsCheckDue}, Kinds.{as_answer, discounted, between, discounted_between, checker_for}};
+ghost use Rattle.mdp_command.specs.CheckShown.{IsCheckRead};
+
+use crate::files::{read_model, read_second};
+use crate::kind::{CertificateKind, chosen};
+use crate::laws::check_law;
+use crate::saying::answered;
+use mdp_cert::{read_bounds, read_cert};
+use mdp_check::{Answer, check, check_bounds};
+use mdp_discount_bounds::check_discount_bounds;
+use mdp_discount_rules::{DiscountAnswer, check_discount};
+use mdp_discount_text::{read_discount, read_discount_bounds};
+use mdp_edge::Source;
+use mdp_job::Refusal;
+use mdp_rows::{Model, RowRule};
+use std::alloc::Global;
+
+/// The answer to a certificate of discounted rewards as one of the checkers' common answers.
+fn as_answer(answer: DiscountAnswer) -> Answer
+    ensures { result ≡ as_answer answer }
+{
+    match answer {
+        DiscountAnswer::Yes => Answer::Yes,
+        DiscountAnswer::No(fault) => Answer::No(fault),
+        DiscountAnswer::Wide { state, choice } => Answer::Wide { state, choice },
+        DiscountAnswer::NoReward => Answer::NoReward,
+        DiscountAnswer::Size => Answer::Size,
+    }
+}
+
+/// Judges the text of a certificate of best values, of upper bounds or of a subsystem, then holds it against the model.
+fn of_exact(alloc: Global, model: &Model, bytes: &[u8]) -> Result<Vec<u8>, Refusal>
+    ensures due { (said result ≡ Err no_memory) ⊎ (said result ≡ said_to_text exact model.now bytes.now) }
+    ensures not_of_model { is_of_model (said result) ≡ false }
+{
+    let cert = read_cert(alloc, bytes)?;
+    answered(alloc, check(alloc, model, &cert))
+}
+
+/// The same of a certificate of discounted rewards.
+fn of_discounted(alloc: Global, model: &Model, bytes: &[u8]) -> Result<Vec<u8>, Refusal>
+    ensures due { (said result ≡ Err no_memory) ⊎ (said result ≡ said_to_text discounted model.now bytes.now) }
+    ensures not_of_model { is_of_model (said result) ≡ false }
+{
+    let cert = read_discount(alloc, bytes)?;
+    answered(alloc, as_answer(check_discount(model, &cert)))
+}
+
+/// The same of a certificate of bounds.
+fn of_bounds(alloc: Global, model: &Model, bytes: &[u8]) -> Result<Vec<u8>, Refusal>
+    ensures due { (said result ≡ Err no_memory) ⊎ (said result ≡ said_to_text between model.now bytes.now) }
+    ensures not_of_model { is_of_model (said result) ≡ false }
+{
+    let cert = read_bounds(alloc, bytes)?;
+    answered(alloc, check_bounds(alloc, model, &cert))
+}
+
+/// The same of a certificate of bounds of discounted rewards.
+fn of_discounted_bounds(alloc: Global, model: &Model, bytes: &[u8]) -> Result<Vec<u8>, Refusal>
+    ensures due { (said result ≡ Err no_memory) ⊎ (said result ≡ said_to_text discounted_between model.now bytes.now) }
+    ensures not_of_model { is_of_model (said result) ≡ false }
+{
+    let cert = read_discount_bounds(alloc, bytes)?;
+    answered(alloc, as_answer(check_discount_bounds(model, &cert)))
+}
+
+/// The same of a certificate of the wanted kind, or of that which its first line names.
+fn of_text(
+    alloc: Global,
+    wanted: Option<CertificateKind>,
+    model: &Model,
+    bytes: &[u8],
+) -> Result<Vec<u8>, Refusal>
+    ensures due { (said result ≡ Err no_memory) ⊎ (said result ≡ said_to_text (checker_for wanted bytes.now) model.now bytes.now) }
+    ensures not_of_model { is_of_model (said result) ≡ false }
+{
+    match chosen(wanted, bytes) {
+        CertificateKind::Exact => of_exact(alloc, model, bytes),
+        CertificateKind::Discounted => of_discounted(alloc, model, bytes),
+        CertificateKind::Bounds => of_bounds(alloc, model, bytes),
+        CertificateKind::DiscountedBounds => of_discounted_bounds(alloc, model, bytes),
+    }
+}
+
+/// Reads the certificate to its end and judges its text, then holds it against the model.
+fn of_source<C: Source>(
+    alloc: Global,
+    wanted: Option<CertificateKind>,
+    model: &Model,
+    second: &mut C,
+) -> Result<Vec<u8>, Refusal>
+    ensures read { IsReadAs (input C.left C.faults second.old second.new) (IsCheckDue wanted model.now) read_certificate (said result) }
+    ensures not_of_model { is_of_model (said result) ≡ false }
+    ensures end { OnOk (said result) (IsAtEnd (C.left second.new)) }
+{
+    let bytes = read_second(alloc, second)?;
+    of_text(alloc, wanted, model, &bytes)
+}
+
+/// Reads the model to its end and judges its text, then the certificate, then holds the one against the other. The certificate is of the wanted kind, or
+/// of that which its first line names. The second source isn't read where the model is refused.
+pub fn check_files<S: Source, C: Source>(
+    alloc: Global,
+    rule: RowRule,
+    wanted: Option<CertificateKind>,
+    model: &mut S,
+    second: &mut C,
+) -> Result<Vec<u8>, Refusal>
+    ensures read { IsCheckRead wanted rule (input S.left S.faults model.old model.new) (input C.left C.faults second.old second.new) (said result) }
+    ensures unread { IsTrue (is_of_model (said result)) → second.new ≡ second.old }
+    ensures model_end { OnOk (said result) (IsAtEnd (S.left model.new)) }
+    ensures second_end { OnOk (said result) (IsAtEnd (C.left second.new)) }
+{
+    check_law();
+    let model = read_model(alloc, model, rule)?;
+    of_source(alloc, wanted, &model, second)
+}

@@ -1,6 +1,0 @@
-use Rattle.mdp_command_chain.proofs.Due.{chain_once}
-use Rattle.mdp_command_chain.proofs.Printing.{printed_of_due}
-use Rattle.mdp_command_chain.proofs.laws.command_chain_law.Goals as goal
-
-pub returns : goal.returns
-returns c = record { once = chain_once; text = printed_of_due c.written_law.ensures.reads_back c.chain_law.ensures.chain c.chain_law.ensures.trees }

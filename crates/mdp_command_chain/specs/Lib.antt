@@ -1,4 +1,0 @@
-pub mod Due
-pub mod Named
-pub mod Shown
-pub mod Laws

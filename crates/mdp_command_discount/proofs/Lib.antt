@@ -1,4 +1,0 @@
-mod Examples
-pub mod TextLength
-pub mod Printing
-pub mod Solved

@@ -1,3 +1,0 @@
-pub mod Due
-pub mod Shown
-pub mod Laws

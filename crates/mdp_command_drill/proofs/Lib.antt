@@ -1,2 +1,0 @@
-pub mod Drilled
-pub mod Examples

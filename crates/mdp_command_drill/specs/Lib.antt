@@ -1,5 +1,0 @@
-pub mod Due
-pub mod Found
-pub mod Pieces
-pub mod Drilled
-pub mod Laws

@@ -1,0 +1,65 @@
+-- One thing is due to the chain of a policy.
+use Rattle.std.proofs.Common.{◌≡◌, ℕ, ◌⊎◌, inl, inr, Bool, true, false, List, length, Result, Ok, Err, refl, sym, ap, subst, eq-eqb, ◌∙◌, arith}
+use Rattle.std.specs.Prelude.{◌==◌}
+use Rattle.mdp_math.specs.Result.{◌>>=◌}
+use Rattle.mdp_spec.specs.{Mdp.{Mdp, states_of}, Tree.{IsPolicy}}
+use Rattle.mdp_drn.specs.Writing.{text_of}
+use Rattle.mdp_job.specs.Refusal.{PlainRefusal, no_memory}
+use Rattle.mdp_command.specs.{Files.{second_due}, Said.{Said}}
+use Rattle.mdp_policy.specs.Chain.{chain_of, NamesNoChoice}
+use Rattle.mdp_command_policy.specs.{ChainDue.{choices_in, choices_due, IsChoiceDue, IsSizeDue, IsTextDue, IsChainDue}, ChainLaws.{IsDueOnce}}
+
+not_both : {Q : Type 0} (m : Mdp) (policy : List ℕ) → IsPolicy m policy → NamesNoChoice m policy → Q
+not_both m policy is other = let in_range = is.in_range other.state other.below in let past = other.past in absurd (omega (arith, in_range, past))
+
+choice_once : (m : Mdp) (policy : List ℕ) (said again : Said) → IsChoiceDue m policy said → IsChoiceDue m policy again → said ≡ again
+choice_once m policy said again (inl d) (inl e) = d.1 ∙ sym e.1
+choice_once m policy said again (inl d) (inr e) = not_both m policy d.0 e.0
+choice_once m policy said again (inr d) (inl e) = not_both m policy e.0 d.0
+choice_once m policy said again (inr d) (inr e) = d.1 ∙ sym e.1
+
+size_once : (m : Mdp) (policy : List ℕ) (fits : Bool) (said again : Said) → IsSizeDue m policy fits said → IsSizeDue m policy fits again → said ≡ again
+size_once m policy false said again d e = d ∙ sym e
+size_once m policy true said again d e = choice_once m policy said again d e
+
+text_once : (m : Mdp) (read : Result (List ℕ) PlainRefusal) (said again : Said) → IsTextDue m read said → IsTextDue m read again → said ≡ again
+text_once m (Ok policy) said again d e = size_once m policy (length policy == states_of m) said again d e
+text_once m (Err r) said again d e = d ∙ sym e
+
+pub chain_once : IsDueOnce
+chain_once m bytes said again d e = text_once m (choices_due bytes) said again d e
+
+-- ---- what is due to a chain that was made
+
+pub made_due : (m made : Mdp) (policy : List ℕ) (said : Said) → made ≡ chain_of m policy → IsPolicy m policy → (said ≡ Err no_memory) ⊎ (said ≡ Ok (text_of made))
+    → (said ≡ Err no_memory) ⊎ IsSizeDue m policy (length policy == states_of m) said
+made_due m made policy said same is (inl memory) = inl memory
+made_due m made policy said same is (inr e) =
+    let due : IsChoiceDue m policy said = inl (is, e ∙ ap (λ (k : Mdp). let r : Said = Ok (text_of k) in r) same) in
+    inr (subst (λ (fits : Bool). IsSizeDue m policy fits said) (sym (eq-eqb (length policy) (states_of m) is.one_each)) due)
+
+-- ---- what is due to the bytes of a file, from what was read of it
+
+pub refused_is_due : (m : Mdp) (r : PlainRefusal) (bytes : List ℕ) → second_due bytes ≡ Err r → IsChainDue m bytes (Err r)
+refused_is_due m r bytes e = subst (λ (x : Result (List ℕ) PlainRefusal). IsTextDue m (x >>= choices_in) (Err r)) (sym e) refl
+
+pub read_is_due : (m : Mdp) (said : Said) (lent text : List ℕ) → lent ≡ text → (said ≡ Err no_memory) ⊎ IsTextDue m (choices_in lent) said
+    → (said ≡ Err no_memory) ⊎ ((bytes : List ℕ) → second_due bytes ≡ Ok text → IsChainDue m bytes said)
+read_is_due m said lent text same (inl memory) = inl memory
+read_is_due m said lent text same (inr due) =
+    inr (λ bytes e.
+    subst (λ (x : Result (List ℕ) PlainRefusal). IsTextDue m (x >>= choices_in) said) (sym e) (subst (λ (t : List ℕ). IsTextDue m (choices_in t) said) same due))
+
+-- ---- what is due to choices that were read of a text
+
+pub names_due : (m : Mdp) (said : Said) (lent policy : List ℕ) (read : Result (List ℕ) PlainRefusal) → lent ≡ policy → (Ok policy ≡ Err no_memory) ⊎ (Ok policy ≡ read)
+    → (said ≡ Err no_memory) ⊎ IsSizeDue m lent (length lent == states_of m) said → (said ≡ Err no_memory) ⊎ IsTextDue m read said
+names_due m said lent policy read same (inl e) due = cc e
+names_due m said lent policy read same (inr e) (inl memory) = inl memory
+names_due m said lent policy read same (inr e) (inr due) =
+    inr (subst (λ (x : Result (List ℕ) PlainRefusal). IsTextDue m x said) e (subst (λ (p : List ℕ). IsSizeDue m p (length p == states_of m) said) same due))
+
+pub names_refused : (m : Mdp) (said : Said) (r : PlainRefusal) (read : Result (List ℕ) PlainRefusal) → said ≡ Err r → (said ≡ Err no_memory) ⊎ (said ≡ read)
+    → (said ≡ Err no_memory) ⊎ IsTextDue m read said
+names_refused m said r read is (inl e) = inl e
+names_refused m said r read is (inr e) = inr (subst (λ (x : Result (List ℕ) PlainRefusal). IsTextDue m x said) (sym is ∙ e) is)

@@ -1,0 +1,12 @@
+use Rattle.std.proofs.Common.{refl}
+use Rattle.mdp_command.proofs.Working.{pair_refused, pair_worked_as}
+use Rattle.mdp_command_policy.proofs.ChainPrinting.{shown}
+use Rattle.mdp_command_policy.proofs.chaining.chain_file.Goals as goal
+
+pub returns-in-Err-clause-read : goal.returns-in-Err-clause-read
+returns-in-Err-clause-read g c = pair_refused _ _ _ _ _ _ refl c.in-Err.ensures.read
+
+pub returns-in-Ok-clause-read : goal.returns-in-Ok-clause-read
+returns-in-Ok-clause-read g c =
+    pair_worked_as _ _ _ _ _ _ _ c.in-Ok.ensures.read c.of_source.ensures.read
+    (λ bytes other is due. shown c.command_chain_law.ensures.text c.model_law.ensures _ _ _ bytes other is due)

@@ -1,5 +1,0 @@
-pub mod Certificate
-pub mod Due
-pub mod Shown
-pub mod Laws
-pub mod Code

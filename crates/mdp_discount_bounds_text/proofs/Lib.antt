@@ -1,5 +1,0 @@
-pub mod Columns
-pub mod Entries
-pub mod Heads
-pub mod Outcomes
-mod Examples

@@ -1,5 +1,0 @@
-pub mod Entries
-pub mod Spelling
-pub mod Reading
-pub mod Code
-pub mod Laws

@@ -1,0 +1,14 @@
+use Rattle.std.proofs.Common.{◌≡◌, map}
+use Rattle.std.specs.List.{range_with_len}
+use Rattle.mdp_horizon.specs.{Columns.{cover_at, follow_at}, BoundsCode.{plain_objective}, declared.leader.Leader.{Leader}}
+use Rattle.mdp_horizon.proofs.columns.Query.next.Given as goal
+
+abbrev pub invariant-loop-s : goal.invariant-loop-s
+invariant-loop-s l =
+    let one = l.fn.self.one in
+    let o = plain_objective l.fn.self.objective in
+    record {
+      covers : l.made.cover.items ≡ map (cover_at l.fn.self.dir one l.fn.self.model.now o l.cover) (range_with_len 0 l.s);
+      follows : l.made.follow.items ≡ map (λ s. Leader.value (follow_at l.fn.self.dir one l.fn.self.model.now o l.follow s)) (range_with_len 0 l.s);
+      choices : l.made.choices.items ≡ map (λ s. Leader.choice (follow_at l.fn.self.dir one l.fn.self.model.now o l.follow s)) (range_with_len 0 l.s);
+    }

@@ -1,0 +1,34 @@
+-- The types of the code, as contracts see them.
+use Rattle.std.specs.{Prelude.{◌≡◌, ℕ, ◌<◌, ◌^◌, List, map, length, All, Vec, ℤ, unsigned_abs}, List.{range_with_len}, Global.{Global}}
+use Rattle.mdp_spec.specs.Mdp.{Mdp, states_of}
+use Rattle.mdp_horizon.specs.{Objective.{Objective}, Objective.Objective.{until, total}, Scaled.{Scaled}, Columns.{scaled_state}}
+use Rattle.mdp_horizon.specs.{declared.choice.ScaledChoice.{ScaledChoice}, declared.bounds_objective.Objective.{Objective as Asked}}
+use Rattle.mdp_horizon.specs.declared.bounds_objective.Objective.TheVariants.{Until, Total}
+
+abbrev pub plain_choice : ScaledChoice → Scaled
+plain_choice x = record { scale = x.scale; terms = x.terms.items; low = x.low; high = x.high }
+
+abbrev pub plain_choices : List ScaledChoice → List Scaled
+plain_choices xs = map plain_choice xs
+
+-- a choice can be summed over a column of n values: it has a target, each is below n, and its start is in width
+pub record IsReady (n : ℕ) (x : Scaled) : Type 0 where
+  pub some : 0 < length x.terms
+  pub targets : All (λ t. t.target < n) x.terms
+  pub narrow : unsigned_abs x.scale.start < 2 ^ 127
+
+abbrev pub AreReady : ℕ → List ScaledChoice → Type 0
+AreReady n xs = All (λ x. IsReady n (plain_choice x)) xs
+
+abbrev pub plain_objective : Asked → Objective
+plain_objective (Until stay goals) = until stay.now goals.now
+plain_objective (Total name) = total name
+
+-- there is a mark for each state; the name is one of the model's
+abbrev pub IsAsked : Mdp → Objective → Type 0
+IsAsked m (until stay goals) = (length stay ≡ states_of m) × (length goals ≡ states_of m)
+IsAsked m (total r) = r < length m.names
+
+-- the choices of each state
+abbrev pub AreOf : ℤ → Mdp → Objective → List (Vec ScaledChoice Global) → Type 0
+AreOf one m o rows = map (λ v. plain_choices v.items) rows ≡ map (scaled_state one m o) (range_with_len 0 (states_of m))

@@ -1,0 +1,166 @@
+ghost use Rattle.std.specs.Prelude.{◌≡◌, ◌*◌, ◌<◌, ◌≤◌, ◌^◌, ◌<ℤ◌, length, map, pos, unsigned_abs, IfOk};
+ghost use Rattle.mdp_spec.specs.Mdp.{states_of};
+ghost use Rattle.mdp_rows.specs.declared.dir.Dir.TheVariants.{Max, Min};
+ghost use Rattle.mdp_horizon.specs.{Between.{MaxBetween, MinBetween}, Objective.Objective.{until, total}, Answer.{lists}};
+ghost use Rattle.mdp_horizon.specs.{Columns.{shown, cover, follow, table, bounds_of}, Gap.{NoneIsWide, GapIsWithin}, Finite.{AreProbabilities}};
+ghost use Rattle.mdp_horizon.specs.{BoundsCode.{plain_objective, IsAsked}, BoundsAnswer.{plain}};
+
+use crate::bounds::HorizonBounds;
+use crate::bounds_objective::Objective;
+use crate::columns::{Columns, Query};
+use crate::whole::power_of_ten;
+use mdp_num::{Frac, Memory};
+use mdp_rows::{Dir, Marks, Model};
+use std::alloc::{AllocError, Global};
+
+/// A value in units as a fraction; none where it is missing, or too wide as a fraction.
+fn shown(value: Option<i128>, one: i128) -> Option<Frac>
+    requires { pos 0 <ℤ one }
+    ensures { result ≡ shown one value }
+{
+    Frac::try_new(value?, one).ok()
+}
+
+/// A column of values as fractions.
+fn shown_column(
+    alloc: Global,
+    column: &[Option<i128>],
+    one: i128,
+) -> Result<Vec<Option<Frac>>, AllocError>
+    requires { pos 0 <ℤ one }
+    ensures { IfOk result (λ values. values.items ≡ map (shown one) column.now) }
+{
+    let mut values = Vec::with_capacity(alloc, column.len())?;
+    for value in column {
+        values.push(shown(*value, one))?;
+    }
+    Ok(values)
+}
+
+/// The columns with `steps` steps left, and the choices of each step, those of the last step first.
+#[derive(Drop)]
+struct Induction {
+    cover: Vec<Option<i128>>,
+    follow: Vec<Option<i128>>,
+    table: Vec<Vec<u32>>,
+}
+
+/// The columns and the table, from no step left on.
+fn backward(alloc: Global, query: Query<'_>, steps: u32) -> Result<Induction, AllocError>
+    requires one { pos 0 <ℤ query.one }
+    requires asked { IsAsked query.model.now (plain_objective query.objective) }
+    ensures cover { IfOk result (λ found. found.cover.items ≡ cover query.entry.dir query.entry.one query.entry.model.now (plain_objective query.entry.objective) steps) }
+    ensures follow { IfOk result (λ found. found.follow.items ≡ follow query.entry.dir query.entry.one query.entry.model.now (plain_objective query.entry.objective) steps) }
+    ensures table { IfOk result (λ found. lists found.table.items ≡ table query.entry.dir query.entry.one query.entry.model.now (plain_objective query.entry.objective) steps) }
+{
+    let rows = query.scaled_states(alloc)?;
+    let mut cover = query.end_column(alloc)?;
+    let mut follow = query.end_column(alloc)?;
+    let mut table = Vec::new(alloc);
+    for done in 0..steps {
+        let next = query.next(alloc, &rows, &cover, &follow)?;
+        let Columns {
+            cover: covering,
+            follow: following,
+            choices,
+        } = next;
+        cover = covering;
+        follow = following;
+        table.push(choices)?;
+    }
+    table.reverse();
+    Ok(Induction {
+        cover,
+        follow,
+        table,
+    })
+}
+
+/// Lower and upper values, and the table.
+#[tactic(auto, unfolding(crate::specs::Columns::bounds_of))]
+fn bounded(alloc: Global, query: Query<'_>, steps: u32) -> Result<HorizonBounds, Memory>
+    requires one { pos 0 <ℤ query.one }
+    requires asked { IsAsked query.model.now (plain_objective query.objective) }
+    ensures { IfOk result (λ found. plain found ≡ bounds_of query.entry.dir query.entry.one query.entry.model.now (plain_objective query.entry.objective) steps) }
+{
+    let found = backward(alloc, query, steps)?;
+    let cover = shown_column(alloc, &found.cover, query.one)?;
+    let follow = shown_column(alloc, &found.follow, query.one)?;
+    let steps = found.table;
+    match query.dir {
+        Dir::Max => Ok(HorizonBounds {
+            lower: follow,
+            upper: cover,
+            steps,
+        }),
+        Dir::Min => Ok(HorizonBounds {
+            lower: cover,
+            upper: follow,
+            steps,
+        }),
+    }
+}
+
+/// Lower and upper values of the greatest or the least probability of coming to a goal within so many steps by way of states that stay, in units of
+/// 10^-digits, by backward induction in whole numbers that are rounded outward, and a choice of each state for each step, whose policy does no worse
+/// than the lower values (`Max`), or than the upper ones (`Min`). Where no row is wide, lower and upper values are at most 2 units apart for each step.
+/// Each value is there, from 0 to 1.
+pub fn until_bounds(
+    alloc: Global,
+    model: &Model,
+    dir: Dir,
+    stay: &Marks,
+    goals: &Marks,
+    steps: u32,
+    digits: u32,
+) -> Result<HorizonBounds, Memory>
+    requires stay_each { length stay.now ≡ states_of model.now }
+    requires goals_each { length goals.now ≡ states_of model.now }
+    requires digits { digits ≤ 30 }
+    requires table { steps * states_of model.now ≤ 2 ^ 22 }
+    ensures written { IfOk result (λ found. plain found ≡ bounds_of dir (pos (10 ^ digits)) model.now (until stay.now goals.now) steps) }
+    ensures lower { IfOk result (λ found. length found.lower.items ≡ states_of model.now) }
+    ensures upper { IfOk result (λ found. length found.upper.items ≡ states_of model.now) }
+    ensures max { dir ≡ Max → IfOk result (λ found. MaxBetween model.now (until stay.now goals.now) steps (plain found).lower (plain found).upper (plain found).steps) }
+    ensures min { dir ≡ Min → IfOk result (λ found. MinBetween model.now (until stay.now goals.now) steps (plain found).lower (plain found).upper (plain found).steps) }
+    ensures finite { IfOk result (λ found. AreProbabilities (states_of model.now) (plain found).lower × AreProbabilities (states_of model.now) (plain found).upper) }
+    ensures gap { IfOk result (λ found. NoneIsWide dir (pos (10 ^ digits)) model.now (until stay.now goals.now) steps → GapIsWithin (10 ^ digits) (2 * steps) model.now (plain found)) }
+{
+    model.known();
+    let query = Query {
+        dir,
+        model,
+        objective: Objective::Until(stay, goals),
+        one: power_of_ten(digits),
+    };
+    bounded(alloc, query, steps)
+}
+
+/// The same of the greatest or the least total reward of the name of place `name` within so many steps. A value that is too wide is missing.
+pub fn total_bounds(
+    alloc: Global,
+    model: &Model,
+    dir: Dir,
+    name: u32,
+    steps: u32,
+    digits: u32,
+) -> Result<HorizonBounds, Memory>
+    requires name { name < length model.now.names }
+    requires digits { digits ≤ 30 }
+    requires table { steps * states_of model.now ≤ 2 ^ 22 }
+    ensures written { IfOk result (λ found. plain found ≡ bounds_of dir (pos (10 ^ digits)) model.now (total name) steps) }
+    ensures lower { IfOk result (λ found. length found.lower.items ≡ states_of model.now) }
+    ensures upper { IfOk result (λ found. length found.upper.items ≡ states_of model.now) }
+    ensures max { dir ≡ Max → IfOk result (λ found. MaxBetween model.now (total name) steps (plain found).lower (plain found).upper (plain found).steps) }
+    ensures min { dir ≡ Min → IfOk result (λ found. MinBetween model.now (total name) steps (plain found).lower (plain found).upper (plain found).steps) }
+    ensures gap { IfOk result (λ found. NoneIsWide dir (pos (10 ^ digits)) model.now (total name) steps → GapIsWithin (10 ^ digits) (2 * steps) model.now (plain found)) }
+{
+    model.known();
+    let query = Query {
+        dir,
+        model,
+        objective: Objective::Total(name),
+        one: power_of_ten(digits),
+    };
+    bounded(alloc, query, steps)
+}

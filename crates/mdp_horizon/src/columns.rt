@@ -1,0 +1,189 @@
+ghost use Rattle.std.specs.Prelude.{◌≡◌, ◌<◌, ◌≤◌, ◌^◌, length, map, pos, ◌<ℤ◌, unsigned_abs, IfOk};
+ghost use Rattle.mdp_spec.specs.Mdp.{states_of, choices_at};
+ghost use Rattle.mdp_horizon.specs.Objective.{earns};
+ghost use Rattle.mdp_horizon.specs.Columns.{stopped, ended, scaled_state, cover_at, follow_at, end_column, cover_next, follow_next, choices_next, shown};
+ghost use Rattle.mdp_horizon.specs.BoundsCode.{plain_choices, plain_objective, IsAsked, AreOf};
+
+use crate::best::{covered, followed};
+use crate::bounds_objective::Objective;
+use crate::choice::ScaledChoice;
+use crate::leader::Leader;
+use crate::scaling::scaled;
+use mdp_num::Frac;
+use mdp_rows::{Dir, Model};
+use std::alloc::{AllocError, Global};
+
+/// What is asked of a model, in units of which `one` make 1.
+#[derive(Clone, Copy)]
+pub(crate) struct Query<'a> {
+    pub dir: Dir,
+    pub model: &'a Model,
+    pub objective: Objective<'a>,
+    pub one: i128,
+}
+
+/// Two columns of values, and the choices of a step.
+#[derive(Drop)]
+pub(crate) struct Columns {
+    pub cover: Vec<Option<i128>>,
+    pub follow: Vec<Option<i128>>,
+    pub choices: Vec<u32>,
+}
+
+impl Query<'_> {
+    /// The value of state `s`, where nothing more happens at it.
+    fn stopped(self, s: u32) -> Option<i128>
+        requires one { pos 0 <ℤ self.one }
+        requires asked { IsAsked self.model.now (plain_objective self.objective) }
+        requires state { s < states_of self.model.now }
+        ensures { result ≡ stopped self.entry.one (plain_objective self.entry.objective) s }
+    {
+        match self.objective {
+            Objective::Until(stay, goals) => {
+                if goals.at(s) {
+                    Some(self.one)
+                } else if stay.at(s) {
+                    None
+                } else {
+                    Some(0)
+                }
+            }
+            Objective::Total(_) => None,
+        }
+    }
+
+    /// The value of state `s` with no step left.
+    fn ended(self, s: u32) -> i128
+        requires one { pos 0 <ℤ self.one }
+        requires asked { IsAsked self.model.now (plain_objective self.objective) }
+        requires state { s < states_of self.model.now }
+        ensures { result ≡ ended self.entry.one (plain_objective self.entry.objective) s }
+    {
+        match self.objective {
+            Objective::Until(_, goals) if goals.at(s) => self.one,
+            _ => 0,
+        }
+    }
+
+    /// What choice `c` of state `s` earns at once.
+    fn earns(self, s: u32, c: u32) -> Frac
+        requires asked { IsAsked self.model.now (plain_objective self.objective) }
+        requires state { s < states_of self.model.now }
+        requires choice { c < length (choices_at self.model.now s) }
+        ensures { result ≡ earns self.entry.model.now (plain_objective self.entry.objective) s c }
+    {
+        match self.objective {
+            Objective::Until(_, _) => Frac::whole(0),
+            Objective::Total(name) => self.model.reward(name, s, c),
+        }
+    }
+
+    /// The choices of state `s` in whole numbers.
+    fn scaled_state(self, alloc: Global, s: u32) -> Result<Vec<ScaledChoice>, AllocError>
+        requires one { pos 0 <ℤ self.one }
+        requires asked { IsAsked self.model.now (plain_objective self.objective) }
+        requires state { s < states_of self.model.now }
+        ensures { IfOk result (λ xs. plain_choices xs.items ≡ scaled_state self.entry.one self.entry.model.now (plain_objective self.entry.objective) s) }
+    {
+        let mut choices = Vec::with_capacity(alloc, self.model.choices(s) as usize)?;
+        for c in 0..self.model.choices(s) {
+            let start = self.earns(s, c);
+            choices.push(scaled(alloc, &start, self.model.row(s, c), self.one)?)?;
+        }
+        Ok(choices)
+    }
+
+    /// The choices of all states in whole numbers.
+    pub(crate) fn scaled_states(self, alloc: Global) -> Result<Vec<Vec<ScaledChoice>>, AllocError>
+        requires one { pos 0 <ℤ self.one }
+        requires asked { IsAsked self.model.now (plain_objective self.objective) }
+        ensures { IfOk result (λ rows. AreOf self.entry.one self.entry.model.now (plain_objective self.entry.objective) rows.items) }
+    {
+        let mut rows = Vec::with_capacity(alloc, self.model.states() as usize)?;
+        for s in 0..self.model.states() {
+            rows.push(self.scaled_state(alloc, s)?)?;
+        }
+        Ok(rows)
+    }
+
+    /// The values of all states with no step left.
+    pub(crate) fn end_column(self, alloc: Global) -> Result<Vec<Option<i128>>, AllocError>
+        requires one { pos 0 <ℤ self.one }
+        requires asked { IsAsked self.model.now (plain_objective self.objective) }
+        ensures { IfOk result (λ column. column.items ≡ end_column self.entry.dir self.entry.one self.entry.model.now (plain_objective self.entry.objective)) }
+    {
+        let mut column = Vec::with_capacity(alloc, self.model.states() as usize)?;
+        for s in 0..self.model.states() {
+            column.push(Some(self.ended(s)))?;
+        }
+        Ok(column)
+    }
+
+    /// The covering value of state `s`, from the column with a step less.
+    fn cover_at(self, choices: &[ScaledChoice], column: &[Option<i128>], s: u32) -> Option<i128>
+        requires one { pos 0 <ℤ self.one }
+        requires asked { IsAsked self.model.now (plain_objective self.objective) }
+        requires state { s < states_of self.model.now }
+        requires choices { plain_choices choices.now ≡ scaled_state self.one self.model.now (plain_objective self.objective) s }
+        requires column { length column.now ≡ states_of self.model.now }
+        ensures { result ≡ cover_at self.entry.dir self.entry.one self.entry.model.now (plain_objective self.entry.objective) column.now s }
+    {
+        self.model.known();
+        match self.stopped(s) {
+            Some(value) => Some(value),
+            None => covered(self.dir, column, choices),
+        }
+    }
+
+    /// The following value of state `s`, from the column with a step less, and its choice.
+    fn follow_at(self, choices: &[ScaledChoice], column: &[Option<i128>], s: u32) -> Leader
+        requires one { pos 0 <ℤ self.one }
+        requires asked { IsAsked self.model.now (plain_objective self.objective) }
+        requires state { s < states_of self.model.now }
+        requires choices { plain_choices choices.now ≡ scaled_state self.one self.model.now (plain_objective self.objective) s }
+        requires column { length column.now ≡ states_of self.model.now }
+        ensures { result ≡ follow_at self.entry.dir self.entry.one self.entry.model.now (plain_objective self.entry.objective) column.now s }
+    {
+        self.model.known();
+        let count = self.model.choices(s);
+        match self.stopped(s) {
+            Some(value) => Leader {
+                value: Some(value),
+                choice: 0,
+            },
+            None => followed(self.dir, column, choices, count),
+        }
+    }
+
+    /// The columns with one step more.
+    pub(crate) fn next(
+        self,
+        alloc: Global,
+        rows: &[Vec<ScaledChoice>],
+        cover: &[Option<i128>],
+        follow: &[Option<i128>],
+    ) -> Result<Columns, AllocError>
+        requires one { pos 0 <ℤ self.one }
+        requires asked { IsAsked self.model.now (plain_objective self.objective) }
+        requires rows { AreOf self.one self.model.now (plain_objective self.objective) rows.now }
+        requires cover { length cover.now ≡ states_of self.model.now }
+        requires follow { length follow.now ≡ states_of self.model.now }
+        ensures cover { IfOk result (λ made. made.cover.items ≡ cover_next self.entry.dir self.entry.one self.entry.model.now (plain_objective self.entry.objective) cover.now) }
+        ensures follow { IfOk result (λ made. made.follow.items ≡ follow_next self.entry.dir self.entry.one self.entry.model.now (plain_objective self.entry.objective) follow.now) }
+        ensures choices { IfOk result (λ made. made.choices.items ≡ choices_next self.entry.dir self.entry.one self.entry.model.now (plain_objective self.entry.objective) follow.now) }
+    {
+        let mut made = Columns {
+            cover: Vec::new(alloc),
+            follow: Vec::new(alloc),
+            choices: Vec::new(alloc),
+        };
+        for s in 0..self.model.states() {
+            let choices = rows[s as usize].as_slice();
+            let leader = self.follow_at(choices, follow, s);
+            made.cover.push(self.cover_at(choices, cover, s))?;
+            made.follow.push(leader.value)?;
+            made.choices.push(leader.choice)?;
+        }
+        Ok(made)
+    }
+}

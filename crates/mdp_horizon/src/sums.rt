@@ -1,0 +1,109 @@
+ghost use Rattle.std.specs.Prelude.{◌≡◌, ◌<◌, ◌≤◌, ◌^◌, length, pos, ◌<ℤ◌, ◌≤ℤ◌, unsigned_abs, IfOk, IfSome, All};
+ghost use Rattle.mdp_horizon.specs.Scaled.{total_with, farthest_with, total_of, divided, farthest_from, farthest, start_to, trivial, rounded_sum};
+ghost use Rattle.mdp_horizon.specs.{Whole.{whole_at}, BoundsCode.{plain_choice, IsReady}};
+
+use crate::choice::{ScaledChoice, Term};
+use crate::whole::{farther, plus, rounded, times};
+use mdp_rows::Dir;
+
+/// The value of a term's target.
+fn value_of(column: &[Option<i128>], term: Term) -> Option<i128>
+    requires { term.target < length column.now }
+    ensures { result ≡ whole_at column.now term.target }
+{
+    column[term.target as usize]
+}
+
+/// `total`, and the term's weight times the value of its target.
+fn total_with(column: &[Option<i128>], total: i128, term: Term) -> Option<i128>
+    requires { term.target < length column.now }
+    ensures value { result ≡ total_with column.now total term }
+    ensures narrow { IfSome result (λ sum. unsigned_abs sum < 2 ^ 127) }
+{
+    let value = value_of(column, term)?;
+    let product = times(term.weight, value)?;
+    plus(total, product)
+}
+
+/// The value of the term's target, where it lies farther to the side than `far`.
+fn farthest_with(side: Dir, column: &[Option<i128>], far: i128, term: Term) -> Option<i128>
+    requires { term.target < length column.now }
+    ensures { result ≡ farthest_with side column.now far term }
+{
+    let value = value_of(column, term)?;
+    Some(farther(side, far, value))
+}
+
+impl ScaledChoice {
+    /// The start, and for each term its weight times the value of its target.
+    fn total(&self, column: &[Option<i128>]) -> Option<i128>
+        requires targets { All (λ t. t.target < length column.now) self.now.terms.items }
+        requires narrow { unsigned_abs self.now.scale.start < 2 ^ 127 }
+        ensures value { result ≡ total_of column.now self.now.scale.start self.now.terms.items }
+        ensures narrow { IfSome result (λ total. unsigned_abs total < 2 ^ 127) }
+    {
+        let mut total = self.scale.start;
+        for term in &self.terms {
+            total = total_with(column, total, *term)?;
+        }
+        Some(total)
+    }
+
+    /// The sum over the common denominator, rounded; none where a term is too wide.
+    fn divided(&self, side: Dir, column: &[Option<i128>]) -> Option<i128>
+        requires targets { All (λ t. t.target < length column.now) self.now.terms.items }
+        requires narrow { unsigned_abs self.now.scale.start < 2 ^ 127 }
+        ensures { result ≡ divided side column.now (plain_choice self.now) }
+    {
+        if self.scale.common <= 0 {
+            return None;
+        }
+        let total = self.total(column)?;
+        Some(rounded(side, total, self.scale.common))
+    }
+
+    /// The value of a target that lies farthest to the side.
+    fn farthest(&self, side: Dir, column: &[Option<i128>]) -> Option<i128>
+        requires some { 0 < length self.now.terms.items }
+        requires targets { All (λ t. t.target < length column.now) self.now.terms.items }
+        ensures { result ≡ farthest side column.now self.now.terms.items }
+    {
+        let first = self.terms[0];
+        let mut far = value_of(column, first)?;
+        for term in &self.terms {
+            far = farthest_with(side, column, far, *term)?;
+        }
+        Some(far)
+    }
+
+    /// What is earned at once, rounded.
+    fn start(&self, side: Dir) -> Option<i128>
+        ensures { result ≡ start_to side (plain_choice self.now) }
+    {
+        match side {
+            Dir::Max => self.high,
+            Dir::Min => self.low,
+        }
+    }
+
+    /// What is earned at once, rounded, and the value of a target that lies farthest to the side.
+    fn trivial(&self, side: Dir, column: &[Option<i128>]) -> Option<i128>
+        requires some { 0 < length self.now.terms.items }
+        requires targets { All (λ t. t.target < length column.now) self.now.terms.items }
+        ensures { result ≡ trivial side column.now (plain_choice self.now) }
+    {
+        plus(self.start(side)?, self.farthest(side, column)?)
+    }
+
+    /// What the choice earns at once and then by the values of a column, in units, rounded up for `Max` and down for `Min`; the trivial value where a
+    /// term is too wide.
+    pub fn rounded_sum(&self, side: Dir, column: &[Option<i128>]) -> Option<i128>
+        requires { IsReady (length column.now) (plain_choice self.now) }
+        ensures { result ≡ rounded_sum side column.now (plain_choice self.now) }
+    {
+        match self.divided(side, column) {
+            Some(sum) => Some(sum),
+            None => self.trivial(side, column),
+        }
+    }
+}

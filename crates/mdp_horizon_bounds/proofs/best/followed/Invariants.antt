@@ -1,7 +1,0 @@
-use Rattle.std.proofs.Common.{◌≡◌, drop}
-use Rattle.mdp_horizon_bounds.specs.Columns.{followed, followed_from}
-use Rattle.mdp_horizon_bounds.specs.Code.{plain_choices}
-use Rattle.mdp_horizon_bounds.proofs.best.followed.Given as goal
-
-abbrev pub invariant-loop-c : goal.invariant-loop-c
-invariant-loop-c l = followed l.dir l.column (plain_choices l.choices) ≡ followed_from l.dir l.column l.c l.leader (drop l.c (plain_choices l.choices))

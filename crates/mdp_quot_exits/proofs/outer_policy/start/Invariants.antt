@@ -1,7 +1,0 @@
-use Rattle.std.proofs.Common.{◌≡◌, map}
-use Rattle.std.specs.List.{range_with_len}
-use Rattle.mdp_quot_exits.specs.Problem.{component_of, first_choice}
-use Rattle.mdp_quot_exits.proofs.outer_policy.start.Given as goal
-
-abbrev pub invariant-loop-node : goal.invariant-loop-node
-invariant-loop-node l = l.policy.items ≡ map (λ k. first_choice (component_of l.quotient k)) (range_with_len 0 l.node)

@@ -1,6 +1,0 @@
-use Rattle.std.proofs.Common.{◌∙◌, sym}
-use Rattle.mdp_quot_exits.proofs.StepsNodes.{steps-count}
-use Rattle.mdp_quot_exits.proofs.steps_problem.StepsProblemShortestPath.count.Goals as goal
-
-pub returns : goal.returns
-returns c = c.nodes.ensures ∙ sym (steps-count c.args.self.now.quotient.now)

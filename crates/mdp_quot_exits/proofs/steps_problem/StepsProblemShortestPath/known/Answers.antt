@@ -1,5 +1,0 @@
-use Rattle.mdp_quot_exits.proofs.StepsNodes.{steps-known}
-use Rattle.mdp_quot_exits.proofs.steps_problem.StepsProblemShortestPath.known.Goals as goal
-
-pub returns : goal.returns
-returns c = steps-known c.args.self.now.quotient.now c.known.ensures

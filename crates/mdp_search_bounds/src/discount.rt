@@ -1,0 +1,181 @@
+ghost use Rattle.std.specs.Prelude.{◌≡◌, ◌<◌, length, IfOk, IfSome};
+ghost use Rattle.mdp_spec.specs.Mdp.{states_of};
+ghost use Rattle.mdp_discount_rules.specs.Rules.{IsFactor};
+ghost use Rattle.mdp_discount_bounds.specs.Checks.{IsDiscountBounds};
+ghost use Rattle.mdp_search_bounds.specs.DiscountHeld.{HasDiscountSizes, IsHeldDiscount};
+
+use crate::finite::finite_bounds;
+use crate::missing::missing_discount;
+use mdp_discount_bounds::{
+    DiscountBounds, Verdict, discount_bounds_at_state, greatest_magnitude, holds_bounds_discount,
+};
+use mdp_ladder::{Search, all_capped, bounds_by, listed, numbers, simplest_rewards};
+use mdp_near::{NearDiscount, near_discount};
+use mdp_num::{Frac, Memory};
+use mdp_rows::{Dir, Model};
+use std::alloc::{AllocError, Global};
+
+/// The search for bounds of the discounted reward of a name.
+#[derive(Clone, Copy)]
+struct Discounting<'m> {
+    model: &'m Model,
+    name: u32,
+    dir: Dir,
+    factor: &'m Frac,
+    ghost named: { name < length model.now.names },
+    ghost discounted: { IsFactor factor.now },
+}
+
+/// The bounds with the simplest fractions between lower and upper values as both, at the flagged states; where one of the two is missing it stays so.
+fn simplest_bounds(
+    alloc: Global,
+    model: &Model,
+    bounds: &DiscountBounds,
+    is_sought: &[bool],
+) -> Result<DiscountBounds, AllocError>
+    requires { HasDiscountSizes model.now bounds.now }
+    ensures { IfOk result (HasDiscountSizes model.now) }
+{
+    let states = model.states();
+    let lower = simplest_rewards(alloc, states, &bounds.lower, &bounds.upper, is_sought)?;
+    let upper = all_capped(alloc, states, &lower, &bounds.upper)?;
+    let choices = bounds.choices.clone()?;
+    let remainder = greatest_magnitude(&lower, &upper);
+    Ok(DiscountBounds {
+        lower,
+        upper,
+        choices,
+        remainder,
+    })
+}
+
+impl Discounting<'_> {
+    /// The bounds by one number for all states, where the rules say yes to them.
+    fn finite(self, alloc: Global) -> Result<Option<DiscountBounds>, Memory>
+        ensures { IfOk result (λ found. IfSome found (IsHeldDiscount self.entry.dir self.entry.model.now self.entry.name self.entry.factor.now)) }
+    {
+        let none = missing_discount(alloc, self.model)?;
+        let choices = none.choices;
+        let bounds = finite_bounds(
+            alloc,
+            self.model,
+            self.name,
+            self.factor,
+            &none.lower,
+            &none.upper,
+            choices,
+        )?;
+        if self.holds(&bounds) {
+            Ok(Some(bounds))
+        } else {
+            Ok(None)
+        }
+    }
+}
+
+impl Search for Discounting<'_> {
+    type Near = NearDiscount;
+
+    type Cert = DiscountBounds;
+
+    ghost is_sized = { λ p bounds. HasDiscountSizes p.model.now bounds };
+
+    ghost is_held = { λ p bounds. IsHeldDiscount p.dir p.model.now p.name p.factor.now bounds };
+
+    fn model(&self) -> &Model {
+        self.model
+    }
+
+    fn near(&self, alloc: Global, digits: u32) -> Result<NearDiscount, Memory> {
+        near_discount(alloc, self.model, self.name, self.dir, self.factor, digits)
+    }
+
+    fn proposed(&self, alloc: Global, near: &NearDiscount) -> Result<DiscountBounds, Memory> {
+        let model = self.model;
+        let lower = listed(alloc, model.states(), &near.lower)?;
+        let upper = listed(alloc, model.states(), &near.upper)?;
+        let choices = numbers(alloc, model.states(), &near.choices)?;
+        let bounds = finite_bounds(
+            alloc,
+            model,
+            self.name,
+            self.factor,
+            &lower,
+            &upper,
+            choices,
+        )?;
+        Ok(bounds)
+    }
+
+    fn simplest(
+        &self,
+        alloc: Global,
+        near: &NearDiscount,
+        is_sought: &[bool],
+    ) -> Result<DiscountBounds, Memory> {
+        let bounds = self.proposed(alloc, near)?;
+        let exact = simplest_bounds(alloc, self.model, &bounds, is_sought)?;
+        Ok(exact)
+    }
+
+    fn holds_at(&self, bounds: &DiscountBounds, s: u32) -> bool {
+        s >= self.model.states()
+            || discount_bounds_at_state(
+                self.model,
+                self.name,
+                self.dir,
+                self.factor,
+                &bounds.lower,
+                &bounds.upper,
+                s,
+                bounds.choices[s as usize],
+            )
+            .is_ok()
+    }
+
+    fn holds(&self, bounds: &DiscountBounds) -> bool {
+        matches!(
+            holds_bounds_discount(self.model, self.name, self.dir, self.factor, bounds),
+            Verdict::Yes
+        )
+    }
+
+    fn trivial(&self, alloc: Global) -> Result<DiscountBounds, Memory> {
+        if let Some(bounds) = self.finite(alloc)? {
+            return Ok(bounds);
+        }
+        let bounds = missing_discount(alloc, self.model)?;
+        match holds_bounds_discount(self.model, self.name, self.dir, self.factor, &bounds) {
+            Verdict::Yes => Ok(bounds),
+            _ => unreachable!(),
+        }
+    }
+}
+
+/// Bounds of the greatest or the least sum of rewards of the name of place `name` where a step later counts `factor` times as much, with a policy and a
+/// remainder: exact values, where the simplest fractions between the bounds that the search proposes, with so many digits or with the most, are such; else
+/// these bounds, with so many digits or fewer; else one number that no reward passes; else no value at all. They always meet the rules. An `Err` is want of
+/// memory.
+pub fn bounds_discount(
+    alloc: Global,
+    model: &Model,
+    name: u32,
+    dir: Dir,
+    factor: &Frac,
+    digits: u32,
+) -> Result<DiscountBounds, Memory>
+    requires name { name < length model.now.names }
+    requires factor { IsFactor factor.now }
+    ensures rules { IfOk result (λ bounds. IsDiscountBounds dir model.now name factor.now bounds.lower.items bounds.upper.items bounds.remainder bounds.choices.items) }
+    ensures lower { IfOk result (λ bounds. length bounds.lower.items ≡ states_of model.now) }
+    ensures upper { IfOk result (λ bounds. length bounds.upper.items ≡ states_of model.now) }
+    ensures choices { IfOk result (λ bounds. length bounds.choices.items ≡ states_of model.now) }
+{
+    let search = Discounting {
+        model,
+        name,
+        dir,
+        factor,
+    };
+    bounds_by(alloc, &search, digits)
+}

@@ -1,9 +1,0 @@
-pub mod Best
-pub mod Zeros
-pub mod Parts
-pub mod Greatest
-pub mod Least
-pub mod Trivial
-pub mod Means
-pub mod Accepted
-mod Examples
