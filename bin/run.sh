@@ -65,7 +65,8 @@ build() {
   log=$(mktemp)
   began=$(mktemp)
   follow "$log" &
-  ("$top/tools/libraries" "$crate" && cd "$top/crates/$crate" && rt run --jobs "$("$top/tools/libraries" --jobs)") >"$log" 2>&1 </dev/null
+  # a program's own check reads all that it stands on, which each job would do again
+  ("$top/tools/libraries" "$crate" && cd "$top/crates/$crate" && rt run --jobs 1) >"$log" 2>&1 </dev/null
   kill "$!" && wait "$!" 2>/dev/null
   if ! grep -q "^rt: running out/$crate" "$log"; then
     tail -n 20 "$log" >&2
