@@ -9,3 +9,4 @@ pub mod Names
 pub mod Pieces
 pub mod Rows
 pub mod RowsGrown
+pub mod StateLabels

@@ -3,6 +3,7 @@ pub mod Code
 pub mod FlatLabels
 pub mod ChoiceTable
 pub mod FlatChoices
+pub mod FlatStateLabels
 pub mod FlatModel
 pub mod FlatRows
 pub mod Labelling

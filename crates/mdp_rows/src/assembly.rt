@@ -285,17 +285,18 @@ impl Assembly {
     }
 
     /// The model of the states that are closed, which are as many as were announced.
-    fn into_model(self) -> crate::model::Model
+    fn into_model(self) -> Result<crate::model::Model, AllocError>
         requires closed { self.state ≡ None }
         requires counted { (length self.closed == self.announced) ≡ true }
         requires whole { FinishesModel (finished self) }
-        ensures { finished self ≡ Ok result }
+        ensures { IfOk result (λ model. finished self ≡ Ok model) }
     {
-        crate::model::Model {
+        let labels = self.labels.into_state_labels()?;
+        Ok(crate::model::Model {
             choices: self.choices,
             starts: self.starts,
-            labels: self.labels,
-        }
+            labels,
+        })
     }
 
     /// A builder of a model of so many states, 1 to 2^20, with these reward names: 1 to 16 different ones of 1 to 255 bytes without blank,
@@ -455,7 +456,10 @@ impl Assembly {
     {
         let mut builder = self;
         match builder.close_all() {
-            Ok(()) => Ok(builder.into_model()),
+            Ok(()) => match builder.into_model() {
+                Ok(model) => Ok(model),
+                Err(_) => Err(RowsError::Memory),
+            },
             Err(refusal) => Err(refusal),
         }
     }

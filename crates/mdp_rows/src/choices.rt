@@ -11,7 +11,7 @@ use std::alloc::{AllocError, Global};
 use std::marker::Model;
 
 /// The place of a name among these.
-fn place_in(names: &[Vec<u8>], name: &[u8]) -> Option<usize>
+pub(crate) fn place_in(names: &[Vec<u8>], name: &[u8]) -> Option<usize>
     ensures { result ≡ position (λ v. bytes_eq name.now v.items) names.now }
 {
     for m in 0..names.len() {

@@ -1,13 +1,13 @@
-ghost use Rattle.std.specs.{Prelude.{◌≡◌, ◌+◌, ◌-◌, ◌<◌, ◌≤◌, ◌^◌, length, sum_by, slice_index_or, [], ◌∷◌, ◌++◌, IfOk, OnOk, OnErr}, List.{position_or_len}};
+ghost use Rattle.std.specs.{Prelude.{◌≡◌, ◌+◌, ◌-◌, ◌<◌, ◌≤◌, ◌^◌, length, sum_by, [], ◌∷◌, ◌++◌, IfOk, OnOk, OnErr}, List.{position_or_len}};
 ghost use Rattle.std.specs.Str.{bytes_eq};
 ghost use Rattle.mdp_rows.specs.Draft.{with_name};
-ghost use Rattle.mdp_spec.specs.Labels.{place_of};
 
+use crate::state_labels::StateLabels;
 use indexmap::IndexSet;
 use std::alloc::{AllocError, Global};
 use std::marker::Model;
 
-/// Label names in order of first sight, and for each state the places of its labels, ascending.
+/// The labels of the states while a model is made: names in order of first sight, and for each state the places of its labels, ascending.
 #[derive(Drop)]
 pub struct Labels {
     names: IndexSet<Vec<u8>>,
@@ -89,37 +89,15 @@ impl Labels {
         (self.starts.len() - 1) as u32
     }
 
-    /// How many names there are.
-    pub fn names(&self) -> u32
-        ensures { result ≡ length self.now.names }
+    /// The same labels for a model, which looks names up without an index.
+    pub fn into_state_labels(self) -> Result<StateLabels, AllocError>
+        ensures { IfOk result (λ labels. labels ≡ self) }
     {
-        self.names.len() as u32
-    }
-
-    /// The name of place `l`.
-    pub fn name(&self, l: u32) -> &[u8]
-        requires { l < length self.now.names }
-        ensures { result.now ≡ slice_index_or self.now.names l [] }
-    {
-        &self.names[l as usize]
-    }
-
-    /// The place of a name.
-    pub fn place(&self, name: &[u8]) -> Option<u32>
-        ensures { result ≡ place_of name.now self.now.names }
-    {
-        let place = self.names.get_index_of(name)?;
-        Some(place as u32)
-    }
-
-    /// The places of the labels of state `s`, ascending.
-    pub fn labels_of(&self, s: u32) -> &[u32]
-        requires { s < length self.now.of_state }
-        ensures { result.now ≡ slice_index_or self.now.of_state s [] }
-    {
-        let start = self.starts[s as usize] as usize;
-        let end = self.starts[s as usize + 1] as usize;
-        let places = self.places.as_slice();
-        &places[start..end]
+        let names = self.names.into_iter().collect(self.alloc)?;
+        Ok(StateLabels {
+            names,
+            starts: self.starts,
+            places: self.places,
+        })
     }
 }

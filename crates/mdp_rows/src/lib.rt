@@ -21,6 +21,7 @@ mod row;
 mod rows;
 mod rows_of;
 mod rule;
+mod state_labels;
 mod subsystem;
 mod terms;
 mod values_of;

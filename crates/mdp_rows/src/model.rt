@@ -4,9 +4,9 @@ ghost use Rattle.mdp_spec.specs.Labels.{place_of, marks_of, initial_of};
 ghost use Rattle.mdp_rows.specs.{Limits.{IsModel}, Negative.{any_negative, has_negative}};
 
 use crate::choices::Choices;
-use crate::labels::Labels;
 use crate::marks::Marks;
 use crate::row::Row;
+use crate::state_labels::StateLabels;
 use mdp_num::{Frac, Memory};
 use std::alloc::{AllocError, Global};
 
@@ -15,7 +15,7 @@ use std::alloc::{AllocError, Global};
 pub struct Model {
     pub(crate) choices: Choices,
     pub(crate) starts: Vec<u32>,
-    pub(crate) labels: Labels,
+    pub(crate) labels: StateLabels,
 }
 
 impl std::marker::Model for Model {

@@ -1,7 +1,7 @@
 use Rattle.std.proofs.Common.{arith, ap, ◌∙◌}
 use Rattle.mdp_rows.specs.Pieces.{piece}
-use Rattle.mdp_rows.proofs.{Flat.Pieces.{next_places, piece_is}, Flat.Labels.{states_are, of_state_is}}
-use Rattle.mdp_rows.proofs.labels.Labels.labels_of.Goals as goal
+use Rattle.mdp_rows.proofs.{Flat.Pieces.{next_places, piece_is}, Flat.StateLabels.{states_are, of_state_is}}
+use Rattle.mdp_rows.proofs.state_labels.StateLabels.labels_of.Goals as goal
 
 pub index-requires : goal.index-requires
 index-requires c = omega (arith, states_are _ _ c.self.view_is)
