@@ -44,7 +44,7 @@ need() {
   exit 70
 }
 
-# follow LOG: says each time a crate is done, and each minute, how far the build is; tools/libraries writes a line 'crate NAME: N seconds' for each
+# follow LOG: says each time a crate is done, and each minute, how far the build is; tools/build writes a line 'crate NAME: N seconds' for each
 follow() {
   local all count=0 now minute=0 last
   all=$(crates | wc -l)
@@ -58,17 +58,17 @@ follow() {
 }
 
 build() {
-  need python3 "on which rt runs"
+  need python3 "which tools/build is written in"
   need rt "the toolchain that README.md names"
   say "building the program. This proves it and all crates below it: $took."
   say "A later one proves only what changed and the crates above it."
   log=$(mktemp)
   began=$(mktemp)
   follow "$log" &
-  # a program's own check reads all that it stands on, which each job would do again
-  ("$top/tools/libraries" "$crate" && cd "$top/crates/$crate" && rt run --jobs 1) >"$log" 2>&1 </dev/null
+  "$top/tools/build" "$crate" >"$log" 2>&1 </dev/null
+  status=$?
   kill "$!" && wait "$!" 2>/dev/null
-  if ! grep -q "^rt: running out/$crate" "$log"; then
+  if [ "$status" != 0 ]; then
     tail -n 20 "$log" >&2
     say "the program could not be built; $log has the whole output."
     exit 70
