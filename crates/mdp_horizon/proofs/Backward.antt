@@ -8,7 +8,7 @@ use Rattle.mdp_spec.specs.{Mdp.{Mdp, states_of, choices_at, row_at, value_at}, R
 use Rattle.mdp_spec.specs.Bounds.{reward_at}
 use Rattle.mdp_spec.proofs.{Keeping.{count_at-one, target_placed}, Rows.{rows_known, placed, targets_at}}
 use Rattle.mdp_rows.specs.declared.dir.Dir.{Dir}
-use Rattle.mdp_horizon.specs.{Until.{unfolded_steps, IsTable}, Objective.{Objective, value_of}, Between.{Claimed}}
+use Rattle.mdp_horizon.specs.{Table.{unfolded_steps, IsTable}, Objective.{Objective, value_of}, Between.{Claimed}}
 use Rattle.mdp_horizon.proofs.{Claims.{claimed_mono, claimed_all}, Directions.{NoBetter, no_better_trans, no_better_antisymm}}
 use Rattle.mdp_horizon.proofs.Halves.{IsCovering, IsFollowing, covering-bounds, following-bounds, following-table}
 

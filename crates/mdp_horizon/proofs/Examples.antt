@@ -7,7 +7,8 @@ use Rattle.mdp_num.specs.Value.{spelling}
 use Rattle.mdp_spec.specs.{Mdp.{State, Mdp}, Unit.{unit_of}, Tree.{Fits, unfolded}}
 use Rattle.mdp_spec.proofs.Small.{choice, entry, labelled, number}
 use Rattle.mdp_rows.specs.declared.dir.Dir.TheVariants.{Max, Min}
-use Rattle.mdp_horizon.specs.{Until.{until, unfolded_steps, IsTable}, Bounds.{BoundedMax}, Written.{Place, Answer, written_until}, Spelling.{until_text}}
+use Rattle.mdp_spec.specs.Until.{until}
+use Rattle.mdp_horizon.specs.{Table.{unfolded_steps, IsTable}, Bounds.{BoundedMax}, Written.{Place, Answer, written_until}, Spelling.{until_text}}
 
 abbrev model_of : List State → Mdp
 model_of states = record { names = []; labels = codes "init" ∷ codes "goal" ∷ []; states = states }

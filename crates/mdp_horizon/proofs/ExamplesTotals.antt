@@ -7,7 +7,7 @@ use Rattle.mdp_num.specs.Value.{spelling}
 use Rattle.mdp_spec.specs.{Mdp.{Entry, Choice, Mdp}, Unit.{unit_of, scale_of}, Pay.{total as total_of}, Tree.{Fits}}
 use Rattle.mdp_spec.proofs.Small.{entry, labelled, number}
 use Rattle.mdp_rows.specs.declared.dir.Dir.TheVariants.{Max, Min}
-use Rattle.mdp_horizon.specs.{Until.{unfolded_steps}, Objective.{stops, ending, earns, value_of}, Objective.Objective.{until, total}, Bounds.{TotalMax}}
+use Rattle.mdp_horizon.specs.{Table.{unfolded_steps}, Objective.{stops, ending, earns, value_of}, Objective.Objective.{until, total}, Bounds.{TotalMax}}
 use Rattle.mdp_horizon.specs.{Between.{Claimed, MaxBetween}, Written.{written_total}, Spelling.{total_text}}
 use Rattle.mdp_horizon.proofs.Examples.{tries, all, lost_stays, goal, answer}
 

@@ -10,7 +10,7 @@ use Rattle.mdp_spec.specs.{Tree.{Tree, Fits, IsPolicy, IsStrategy, is_marked, ta
 use Rattle.mdp_spec.specs.RewardRules.{StaysFinite}
 use Rattle.mdp_spec.proofs.{Keeping.{count_at-one, chosen, target_placed}, Rows.{row_weigh, rows_known, targets_at}, Steps.{placed_choice}}
 use Rattle.mdp_rows.specs.{declared.dir.Dir.{Dir}, declared.dir.Dir.TheVariants.{Max, Min}}
-use Rattle.mdp_horizon.specs.{Until.{unfolded_steps, IsTable}, Objective.{Objective, stops, ending, gain_of, earns, value_of}}
+use Rattle.mdp_horizon.specs.{Table.{unfolded_steps, IsTable}, Objective.{Objective, stops, ending, gain_of, earns, value_of}}
 use Rattle.mdp_horizon.specs.Between.{Claimed, MaxBetween, MinBetween}
 use Rattle.mdp_horizon.proofs.Claims.{claimed_mono, claimed_part}
 use Rattle.mdp_horizon.proofs.Directions.{NoBetter, no_better_trans, no_better_add, other, turned, turned_back, row_sum-no_better, average-no_better}

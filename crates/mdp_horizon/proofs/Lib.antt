@@ -1,5 +1,4 @@
 pub mod Turns
-pub mod Untils
 pub mod Directions
 pub mod Claims
 pub mod Objectives
@@ -8,7 +7,7 @@ pub mod Choosing
 pub mod Backward
 pub mod Exact
 pub mod Answering
-pub mod Hitting
+pub mod Limits
 mod Examples
 mod ExamplesTotals
 pub mod Rounding

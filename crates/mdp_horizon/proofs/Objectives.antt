@@ -6,7 +6,7 @@ use Rattle.mdp_math.proofs.{Laws.{zero-+ℚ}, Options.{Some_same}, Order.{0ℚ, 
 use Rattle.mdp_spec.specs.{Mdp.{Entry, Mdp, choices_at}, Row.{IsMdp}, Tree.{Tree, is_marked}, Tree.Tree.{node}}
 use Rattle.mdp_spec.proofs.{Earnings.{total-end}, Hits.{share, mixed}, Steps.{average, total_goes}}
 use Rattle.mdp_horizon.specs.{Objective.{Objective, stops, ending, gain_of, value_of}, Objective.Objective.{until, total}}
-use Rattle.mdp_horizon.proofs.Untils.{until-goal, until-away, until-end, until-node}
+use Rattle.mdp_spec.proofs.Untils.{until-goal, until-away, until-end, until-node}
 
 -- an average without gains
 mixed_average : (m : Mdp) (u : ℕ) (weights : ℕ → ℕ) (f : ℕ → ℕ → Entry → ℚ) (s : ℕ) → mixed m u weights f s ≡ average m u weights (λ x. 0ℚ) f s

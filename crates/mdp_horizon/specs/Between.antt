@@ -4,7 +4,7 @@
 use Rattle.std.specs.Prelude.{◌≡◌, ℕ, ◌<◌, List, length, Option, Some, None}
 use Rattle.mdp_math.specs.Rational.{ℚ, ◌≤ℚ◌}
 use Rattle.mdp_spec.specs.{Mdp.{Mdp, states_of}, Tree.{Tree, IsStrategy}, Bounds.{reward_at}}
-use Rattle.mdp_horizon.specs.{Until.{unfolded_steps, IsTable}, Objective.{Objective, value_of}}
+use Rattle.mdp_horizon.specs.{Table.{unfolded_steps, IsTable}, Objective.{Objective, value_of}}
 
 -- the claim on a value
 abbrev pub Claimed : Option ℚ → (ℚ → Type 0) → Type 0

@@ -2,7 +2,8 @@
 use Rattle.std.specs.Prelude.{◌≡◌, ℕ, ◌<◌, Bool, List, length}
 use Rattle.mdp_math.specs.Rational.{ℚ, ◌≤ℚ◌}
 use Rattle.mdp_spec.specs.{Mdp.{Mdp, states_of, value_at}, Tree.{Tree, IsStrategy}, Pay.{total}}
-use Rattle.mdp_horizon.specs.Until.{until, unfolded_steps, IsTable}
+use Rattle.mdp_spec.specs.Until.{until}
+use Rattle.mdp_horizon.specs.Table.{unfolded_steps, IsTable}
 
 -- the greatest probabilities within n steps: no tree passes them, and the table's tree meets them
 pub record BoundedMax (m : Mdp) (stay goals : List Bool) (n : ℕ) (z : List ℚ) (table : List (List ℕ)) : Type 0 where

@@ -1,9 +1,9 @@
 -- What written backward induction means, and what its meaning fixes.
-use Rattle.std.specs.Prelude.{◌≡◌, ℕ, ◌<◌, Bool, true, List, length, Option, Ok}
-use Rattle.mdp_math.specs.Rational.{ℚ, ◌≤ℚ◌}
-use Rattle.mdp_spec.specs.{Mdp.{Mdp, states_of, value_at}, Row.{IsMdp}, Tree.{Tree, IsStrategy, is_marked}, Hit.{hit}, Bounds.{reward_at}}
+use Rattle.std.specs.Prelude.{◌≡◌, ℕ, ◌<◌, ◌≤◌, Bool, List, length, Option, Ok}
+use Rattle.mdp_math.specs.Rational.{ℚ, ◌+ℚ◌, ◌≤ℚ◌}
+use Rattle.mdp_spec.specs.{Mdp.{Mdp, states_of, value_at}, Row.{IsMdp}, Bounds.{reward_at, part}, Until.{UntilMax, UntilMin}}
 use Rattle.mdp_rows.specs.declared.dir.Dir.TheVariants.{Max, Min}
-use Rattle.mdp_horizon.specs.{Until.{until as until_of}, Objective.Objective.{until, total}, Bounds.{BoundedMax, BoundedMin, TotalMax, TotalMin}}
+use Rattle.mdp_horizon.specs.{Objective.Objective.{until, total}, Bounds.{BoundedMax, BoundedMin, TotalMax, TotalMin}}
 use Rattle.mdp_horizon.specs.{Between.{Claimed, MaxBetween, MinBetween}, Written.{Answer, written_until, written_total}}
 
 abbrev pub AnswersAreGreatest : Type 0
@@ -23,11 +23,19 @@ HasOneLeast =
     (m : Mdp) (stay goals : List Bool) (n : ℕ) (z w : List ℚ) (table other : List (List ℕ)) (s : ℕ)
     → IsMdp m → BoundedMin m stay goals n z table → BoundedMin m stay goals n w other → s < states_of m → value_at z s ≡ value_at w s
 
--- where each state stays, it is the probability of meeting a goal in so many steps
-abbrev pub IsHitWhereAllStay : Type 0
-IsHitWhereAllStay =
-    (m : Mdp) (stay goals : List Bool) (u n : ℕ) (t : Tree) (s : ℕ)
-    → IsMdp m → ((v : ℕ) → v < states_of m → is_marked stay v ≡ true) → s < states_of m → IsStrategy m u n t s → until_of m stay goals u n t s ≡ hit m goals u n t s
+-- the greatest probabilities within n steps are at most those without end, and at some n they come within 1/k of them
+abbrev pub GreatestComeClose : Type 0
+GreatestComeClose =
+    (m : Mdp) (stay goals : List Bool) (z : List ℚ) (policy : List ℕ) (s : ℕ) → IsMdp m → UntilMax m stay goals z policy → s < states_of m
+    → ((n : ℕ) (w : List ℚ) (table : List (List ℕ)) → BoundedMax m stay goals n w table → value_at w s ≤ℚ value_at z s)
+    × ((k : ℕ) → 1 ≤ k → (n : ℕ) × ((w : List ℚ) (table : List (List ℕ)) → BoundedMax m stay goals n w table → value_at z s ≤ℚ value_at w s +ℚ part k))
+
+-- and so are the least ones, from some n on
+abbrev pub LeastComeClose : Type 0
+LeastComeClose =
+    (m : Mdp) (stay goals : List Bool) (z : List ℚ) (policy : List ℕ) (s : ℕ) → IsMdp m → UntilMin m stay goals z policy → s < states_of m
+    → ((n : ℕ) (w : List ℚ) (table : List (List ℕ)) → BoundedMin m stay goals n w table → value_at w s ≤ℚ value_at z s)
+    × ((k : ℕ) → 1 ≤ k → (n : ℕ) × ((d : ℕ) (w : List ℚ) (table : List (List ℕ)) → n ≤ d → BoundedMin m stay goals d w table → value_at z s ≤ℚ value_at w s +ℚ part k))
 
 -- ---- total rewards
 

@@ -1,4 +1,4 @@
-pub mod Until
+pub mod Table
 pub mod Objective
 pub mod Bounds
 pub mod Between

@@ -3,7 +3,7 @@
 use Rattle.std.specs.Prelude.{ℕ, Bool, List, Option, Some, None, pos, if◌then◌else◌}
 use Rattle.mdp_math.specs.Rational.{ℚ, of_int}
 use Rattle.mdp_spec.specs.{Mdp.{Choice, Mdp, choice_at}, Unit.{reward_of}, Tree.{Tree, is_marked}, Pay.{total as total_of}}
-use Rattle.mdp_horizon.specs.Until.{until as until_of}
+use Rattle.mdp_spec.specs.Until.{until as until_of}
 
 -- the probability of coming to a goal by way of states that stay, or the total reward of the name of this place
 pub data Objective : Type 0 where

@@ -4,7 +4,8 @@ use Rattle.mdp_math.specs.{Rational.{ℚ, ◌+ℚ◌, ◌*ℚ◌, ◌≤ℚ◌},
 use Rattle.mdp_spec.specs.{Mdp.{Mdp, states_of, value_at}, Row.{IsMdp}, Tree.{IsStrategy, IsPolicy, unfolded}, Hit.{hit}, Pay.{total}, Bounds.{part, whole}}
 use Rattle.mdp_spec.specs.Between.{ReachMaxBetween, ReachMinBetween}
 use Rattle.mdp_spec.proofs.{Keeping.{unfolded_is_strategy}, Mean.{mean_max_between, mean_min_between}}
-use Rattle.mdp_horizon.specs.Until.{until, unfolded_steps, IsTable}
+use Rattle.mdp_spec.specs.Until.{until}
+use Rattle.mdp_horizon.specs.Table.{unfolded_steps, IsTable}
 use Rattle.mdp_horizon.proofs.Backward.{unfolded_steps_fits}
 use Rattle.mdp_discount_rules.specs.Disc.{disc}
 use Rattle.mdp_policy.specs.{Chain.{chain_of}, ChainLaws.{ReachIsOwn, ReachBoundsAreOwn, MeanIsOwn, MeanBoundsAreOwn, BoundedIsOwn, DiscountIsOwn}}

@@ -12,8 +12,8 @@ use Rattle.mdp_spec.proofs.{Keeping.{HasChoice, keeps_of_Fits, count_at-one, cho
 use Rattle.mdp_spec.proofs.Steps.{placed_choice, hit_goes, pay_goes, total_goes}
 use Rattle.mdp_spec.proofs.Steps as plain
 use Rattle.mdp_rows.specs.{declared.dir.Dir.{Dir}, declared.dir.Dir.TheVariants.{Max, Min}}
-use Rattle.mdp_horizon.specs.Until.{until}
-use Rattle.mdp_horizon.proofs.Untils.{until-goal, until-away, until-end, until-node}
+use Rattle.mdp_spec.specs.Until.{until}
+use Rattle.mdp_spec.proofs.Untils.{until-goal, until-away, until-end, until-node}
 use Rattle.mdp_discount_rules.specs.{Disc.{disc}, Rules.{IsFactor}}
 use Rattle.mdp_discount_rules.proofs.{Directions.{NoBetter, no_better_of_eq, no_better_antisymm}, Discs.{disc-end, disc_goes}}
 use Rattle.mdp_discount_rules.proofs.Steps.{GoesBy, average-no_better, no_better_by_steps}

@@ -3,7 +3,7 @@ use Rattle.std.specs.Prelude.{◌≡◌, ℕ, ◌<◌, ◌≤◌, Bool, List, []
 use Rattle.mdp_math.specs.{Rational.{ℚ, of_int, ◌+ℚ◌, ◌*ℚ◌, ◌≤ℚ◌}, Power.{pow_ℚ}}
 use Rattle.mdp_spec.specs.{Mdp.{Mdp, states_of, choices_at, choice_at, value_at}, Labels.{marks_of}, Tree.{Tree, IsStrategy, unfolded}, Hit.{hit}}
 use Rattle.mdp_spec.specs.{Pay.{pay, total}, Bounds.{part, whole, reward_at}}
-use Rattle.mdp_horizon.specs.Until.{until}
+use Rattle.mdp_spec.specs.Until.{until}
 use Rattle.mdp_discount_rules.specs.{Disc.{disc}, Rules.{IsFactor}}
 
 -- ---- the chain itself: it has the names, the labels and the states of the model, and a state has its labels and the policy's choice alone

@@ -1,6 +1,8 @@
 pub mod Units
 pub mod Rows
 pub mod Hits
+pub mod Untils
+pub mod Until
 pub mod Earnings
 pub mod Keeping
 pub mod Above
@@ -24,3 +26,4 @@ mod Examples
 mod ExamplesBounds
 mod ExamplesRules
 mod ExamplesBetween
+mod ExamplesUntil

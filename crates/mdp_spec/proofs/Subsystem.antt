@@ -1,6 +1,6 @@
 -- A subsystem of a model is a model: it has the states of the model, the choices of each kept state and goal, and a loop at any other state. A
 -- policy of the model, read on it, is a policy there.
-use Rattle.std.proofs.Common.{◌≡◌, ℕ, zero, suc, ◌+◌, ◌≤◌, ◌<◌, ⊎_elim, Bool, true, false, ◌||◌, ◌&&◌, le-leb}
+use Rattle.std.proofs.Common.{◌≡◌, ℕ, zero, suc, ◌+◌, ◌≤◌, ◌<◌, ⊎_elim, Bool, true, false, true≢false, ◌||◌, ◌&&◌, le-leb}
 use Rattle.std.proofs.{Common.{cond, List, [], ◌∷◌, length, get_or, pos, refl, sym, ap, subst, ◌∙◌, arith}, lemmas.List.{get_or_past}}
 use Rattle.std.proofs.{lemmas.List.Elements.{All-from_recursion}, lemmas.Bool.{cases_Bool}}
 use Rattle.mdp_math.specs.Rational.{of_int, ◌<ℚ◌}
@@ -111,6 +111,31 @@ cut-none names keeps s (x ∷ states) all =
 pub sub-whole : (m : Mdp) (goals kept : List Bool) → ((s : ℕ) → s < states_of m → stays goals kept s ≡ true) → sub_of m goals kept ≡ m
 unfolding sub_of
 sub-whole m goals kept all = ap (λ (states : List State). record m { states = states }) (cut-none m.names (stays goals kept) 0 m.states (λ v l h. all v (omega (arith, h))))
+
+-- ---- a subsystem of a subsystem that keeps no more states is one of the model
+
+cut-again : (names : List (List ℕ)) (s : ℕ) (x : State) (inner outer : Bool) → (outer ≡ true → inner ≡ true) → cut_state names s (cut_state names s x inner) outer ≡ cut_state names s x outer
+cut-again names s x true outer h = refl
+cut-again names s x false true h = absurd (true≢false (sym (h refl)))
+cut-again names s x false false h = refl
+
+cut-twice : (names : List (List ℕ)) (inner outer : ℕ → Bool) (s : ℕ) (states : List State) → ((v : ℕ) → s ≤ v → v < s + length states → outer v ≡ true → inner v ≡ true)
+    → cut_from names s (cut_from names s states inner) outer ≡ cut_from names s states outer
+cut-twice names inner outer s [] all = refl
+cut-twice names inner outer s (x ∷ states) all =
+    ap (λ (y : State). y ∷ cut_from names (suc s) (cut_from names (suc s) states inner) outer) (cut-again names s x (inner s) (outer s) (all s (omega arith) (omega arith)))
+    ∙ ap (λ (rest : List State). cut_state names s x (outer s) ∷ rest) (cut-twice names inner outer (suc s) states (λ v l h. all v (omega arith) (omega (arith, h))))
+
+stays-more : (a b c : Bool) → (b ≡ true → c ≡ true) → a || b ≡ true → a || c ≡ true
+stays-more true b c h e = refl
+stays-more false b c h e = h e
+
+pub sub-sub : (m : Mdp) (goals stay kept : List Bool) → ((s : ℕ) → s < states_of m → is_marked kept s ≡ true → is_marked stay s ≡ true)
+    → sub_of (sub_of m goals stay) goals kept ≡ sub_of m goals kept
+unfolding sub_of
+sub-sub m goals stay kept inc =
+    ap (λ (states : List State). record m { states = states })
+    (cut-twice m.names (stays goals stay) (stays goals kept) 0 m.states (λ v l h. stays-more (is_marked goals v) (is_marked kept v) (is_marked stay v) (inc v (omega (arith, h)))))
 
 -- ---- a policy read on a subsystem
 

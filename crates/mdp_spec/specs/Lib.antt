@@ -1,4 +1,6 @@
 pub mod Bounds
+pub mod Until
+pub mod UntilLaws
 pub mod Hit
 pub mod Labels
 pub mod Mdp

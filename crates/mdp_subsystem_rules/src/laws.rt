@@ -1,3 +1,4 @@
+ghost use Rattle.mdp_spec.specs.UntilLaws.{IsOneSubsystem, IsHitWhereKeptStay, UntilIsReach, ReachIsUntil, UntilBySub, SubByUntil, UntilLies, UntilIsUnique};
 ghost use Rattle.mdp_subsystem_rules.specs.Laws.{FloorShows, FlowShows, PolicyShows, LeastIsFloor, VisitsAreFlow, VisitsBound, TreesReachMore};
 ghost use Rattle.mdp_subsystem_rules.specs.Laws.{WholeIsModel, GreatestGrows, LeastGrows, LeastFallsShort, PolicyFallsShort, VisitsFallShort, ShortIsNoFloor};
 ghost use Rattle.mdp_subsystem_rules.specs.Laws.{FlowNeverNo, FloorNeverNo, ListedAreMarks, ListedFlowShape, ListedFloorShape, ListedMeetsFloor};
@@ -28,6 +29,21 @@ pub fn fewer_law()
     ensures whole { WholeIsModel }
     ensures greatest { GreatestGrows }
     ensures least { LeastGrows }
+{}
+
+/// Until by way of states that stay is reaching a goal on the subsystem that keeps them: each tree of the model has one of the subsystem that comes to
+/// the same, and the other way round. So values and a policy of the subsystem for reaching a goal are values and a policy of the model for until,
+/// and those of until are unique. A subsystem of that one whose kept states all stay is one of the model, and there each tree comes to the same
+/// for both.
+pub fn stay_law()
+    ensures there { UntilIsReach }
+    ensures back { ReachIsUntil }
+    ensures by_sub { UntilBySub }
+    ensures to_sub { SubByUntil }
+    ensures lies { UntilLies }
+    ensures one { UntilIsUnique }
+    ensures one_sub { IsOneSubsystem }
+    ensures kept { IsHitWhereKeptStay }
 {}
 
 /// A subsystem whose least probability is under the threshold falls short of it, and so does each smaller one; the same of one policy's

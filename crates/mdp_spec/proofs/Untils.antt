@@ -1,11 +1,11 @@
--- A bounded until by the first step of the tree: 1 at a goal, 0 at any other state that doesn't stay or where the tree ends, and at a node the
+-- Until, by the first step of the tree: 1 at a goal, 0 at any other state that doesn't stay or where the tree ends, and at a node the
 -- average over the choices, by the weights, of the sum over the row of probability times what comes behind.
 use Rattle.std.proofs.{Common.{◌≡◌, ℕ, zero, suc, ◌*◌, ◌≤◌, Bool, true, false, cond, List, sym, ◌∙◌, ap, pos}, Math.Nat.{pow-zero}}
 use Rattle.mdp_math.specs.Rational.{ℚ, of_int, ratio, ◌*ℚ◌}
 use Rattle.mdp_math.proofs.Order.{0ℚ, 1ℚ, div-of_int}
 use Rattle.mdp_spec.specs.{Mdp.{Entry, Mdp}, Row.{IsMdp}, Unit.{unit_of}, Tree.{Tree, paths, is_marked}, Tree.Tree.{leaf, node}}
 use Rattle.mdp_spec.proofs.Hits.{mixed, paths-pos, of_nat-paths_suc, ratio-is, ratio-self, ratio-none, node_counts}
-use Rattle.mdp_horizon.specs.Until.{untils, until}
+use Rattle.mdp_spec.specs.Until.{untils, until}
 
 marked : (b : Bool) (x y : ℕ) → b ≡ true → cond b x y ≡ x
 marked b x y e = ap (λ (c : Bool). cond c x y) e
