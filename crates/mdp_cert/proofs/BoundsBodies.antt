@@ -7,7 +7,7 @@ use Rattle.mdp_num.specs.Value.{IsNarrow}
 use Rattle.mdp_rows.specs.declared.dir.Dir.{Dir}
 use Rattle.mdp_text.specs.{declared.error.Refusal.{Refusal}, Lines.{◌>>=◌, Place, place}}
 use Rattle.mdp_text.proofs.{Cuts.{same-number, number-same}, Feeds.{ok-is, bind_ok}}
-use Rattle.mdp_cert.specs.{declared.version.Version.TheVariants.{Two}, Cert.{PlainClaim, upper, reach, reward, mean, witness, IsValueNarrow}}
+use Rattle.mdp_cert.specs.{declared.version.Version.TheVariants.{Two}, Cert.{PlainClaim, upper, reach, until, reward, mean, witness, IsValueNarrow}}
 use Rattle.mdp_cert.specs.{Claims.{Value, fraction_value, reward_value}, Spelling.{closed_lines}, Reading.{entries_to_end}}
 use Rattle.mdp_cert.specs.{declared.ranked_entry.RankedEntry.{RankedEntry}, declared.gains_entry.GainsEntry.{GainsEntry}}
 use Rattle.mdp_cert.specs.BoundsCert.{PlainBounds, probabilities, rewards, gains, is_body_of, IsBodyInWidth}
@@ -151,6 +151,11 @@ body-found (reach dir label) states p b q limit e =
     let same : (let r : PlainBounds × Place = (reach_body all.0.0, all.0.1) in r) ≡ (b, q) = ok-is _ _ all.2 in
     let f = ranked-found fraction_value IsNarrow fraction-is_value states limit p all.0.0 all.0.1 all.1 in
     subst (λ (r : PlainBounds × Place). FoundBody (reach dir label) states p r.0 r.1) same (record { text = f.text; fits = record { entries = f.entries; width = f.width } })
+body-found (until dir stay label) states p b q limit e =
+    let all = bind_ok (entries_to_end Two (ranked_columns fraction_value) states p) (λ xs. Ok (reach_body xs.0, xs.1)) (b, q) e in
+    let same : (let r : PlainBounds × Place = (reach_body all.0.0, all.0.1) in r) ≡ (b, q) = ok-is _ _ all.2 in
+    let f = ranked-found fraction_value IsNarrow fraction-is_value states limit p all.0.0 all.0.1 all.1 in
+    subst (λ (r : PlainBounds × Place). FoundBody (until dir stay label) states p r.0 r.1) same (record { text = f.text; fits = record { entries = f.entries; width = f.width } })
 body-found (reward dir name label) states p b q limit e =
     let all = bind_ok (entries_to_end Two (ranked_columns reward_value) states p) (λ xs. Ok (reward_body xs.0, xs.1)) (b, q) e in
     let same : (let r : PlainBounds × Place = (reward_body all.0.0, all.0.1) in r) ≡ (b, q) = ok-is _ _ all.2 in
@@ -196,6 +201,9 @@ body-again (upper label) states n b rest limit ok = absurd (let t = ok.entries i
 body-again (reach dir label) states n (probabilities ls us cs rs) rest limit ok = reach-again states n ls us cs rs rest limit ok.entries ok.width
 body-again (reach dir label) states n (rewards ls us cs rs) rest limit ok = absurd (let t = ok.entries in cc)
 body-again (reach dir label) states n (gains ls us zs bs cs k) rest limit ok = absurd (let t = ok.entries in cc)
+body-again (until dir stay label) states n (probabilities ls us cs rs) rest limit ok = reach-again states n ls us cs rs rest limit ok.entries ok.width
+body-again (until dir stay label) states n (rewards ls us cs rs) rest limit ok = absurd (let t = ok.entries in cc)
+body-again (until dir stay label) states n (gains ls us zs bs cs k) rest limit ok = absurd (let t = ok.entries in cc)
 body-again (reward dir name label) states n (probabilities ls us cs rs) rest limit ok = absurd (let t = ok.entries in cc)
 body-again (reward dir name label) states n (rewards ls us cs rs) rest limit ok = reward-again states n ls us cs rs rest limit ok.entries ok.width
 body-again (reward dir name label) states n (gains ls us zs bs cs k) rest limit ok = absurd (let t = ok.entries in cc)
@@ -209,6 +217,7 @@ body-again (witness dir label threshold) states n b rest limit ok = absurd (let 
 pub reach-counts : (claim : PlainClaim) (states : ℕ) (ls us : List ℚ) (cs rs : List ℕ) → is_body_of claim states (probabilities ls us cs rs) ≡ true → ranked.Count states ls us cs rs
 reach-counts (upper label) states ls us cs rs e = absurd cc
 reach-counts (reach dir label) states ls us cs rs e = ranked-counts states ls us cs rs e
+reach-counts (until dir stay label) states ls us cs rs e = ranked-counts states ls us cs rs e
 reach-counts (reward dir name label) states ls us cs rs e = absurd cc
 reach-counts (mean dir name) states ls us cs rs e = absurd cc
 reach-counts (witness dir label threshold) states ls us cs rs e = absurd cc
@@ -216,6 +225,7 @@ reach-counts (witness dir label threshold) states ls us cs rs e = absurd cc
 pub reward-counts : (claim : PlainClaim) (states : ℕ) (ls us : List (Option ℚ)) (cs rs : List ℕ) → is_body_of claim states (rewards ls us cs rs) ≡ true → ranked.Count states ls us cs rs
 reward-counts (upper label) states ls us cs rs e = absurd cc
 reward-counts (reach dir label) states ls us cs rs e = absurd cc
+reward-counts (until dir stay label) states ls us cs rs e = absurd cc
 reward-counts (reward dir name label) states ls us cs rs e = ranked-counts states ls us cs rs e
 reward-counts (mean dir name) states ls us cs rs e = absurd cc
 reward-counts (witness dir label threshold) states ls us cs rs e = absurd cc
@@ -224,6 +234,7 @@ pub mean-counts : (claim : PlainClaim) (states : ℕ) (ls us zs bs : List ℚ) (
     → gained.Count states ls us zs bs cs
 mean-counts (upper label) states ls us zs bs cs k e = absurd cc
 mean-counts (reach dir label) states ls us zs bs cs k e = absurd cc
+mean-counts (until dir stay label) states ls us zs bs cs k e = absurd cc
 mean-counts (reward dir name label) states ls us zs bs cs k e = absurd cc
 mean-counts (mean dir name) states ls us zs bs cs k e = gains-counts states ls us zs bs cs e
 mean-counts (witness dir label threshold) states ls us zs bs cs k e = absurd cc

@@ -8,9 +8,9 @@ use Rattle.mdp_text.specs.{declared.error.CertKind.TheVariants.{Claim}, Lines.{o
 use Rattle.mdp_math.specs.Rational.{ℚ}
 use Rattle.mdp_num.specs.{Value.{spelling, IsNarrow}, Canonical.{canonical_of}}
 use Rattle.mdp_num.proofs.Spellings.{sound, complete}
-use Rattle.mdp_cert.specs.Cert.{PlainClaim, upper, reach, reward, mean, witness, are_names, is_at_least_zero, has_threshold, IsClaimInWidth}
+use Rattle.mdp_cert.specs.Cert.{PlainClaim, upper, reach, until, reward, mean, witness, are_names, is_at_least_zero, has_threshold, IsClaimInWidth}
 use Rattle.mdp_cert.specs.{Spelling.{claim_text}, Reading.{closed_name, name_behind, two_names, upper_claim, reach_front}}
-use Rattle.mdp_cert.specs.Reading.{reach_claim, reward_front, reward_claim, mean_front, mean_claim, threshold_of, name_and_threshold, witness_front, witness_claim, claim_to, claim_of, claim_at}
+use Rattle.mdp_cert.specs.Reading.{reach_claim, until_front, until_claim, reward_front, reward_claim, mean_front, mean_claim, threshold_of, name_and_threshold, witness_front, witness_claim, claim_to, claim_of, claim_at}
 use Rattle.mdp_text.proofs.{Pieces.{Free, free-append, free-name, quote-free-name, free-spelling}, Cuts.{bytes_same}, Feeds.{found_ok, or-found, byte-after}}
 use Rattle.mdp_text.proofs.Behind.{behind-found, behind-again, rest-found, rest-again}
 
@@ -155,6 +155,23 @@ reward-found dir text c e =
           record { names = and-true _ _ t.1 t.2; threshold = refl; width = tt },
         )
 
+until-text : (dir : Dir) (stay label : List ℕ) → until_front dir ++ (stay ++ (34 ∷ 32 ∷ 34 ∷ (label ++ 34 ∷ []))) ≡ claim_text (until dir stay label)
+until-text Max stay label = ap (λ (t : List ℕ). codes "claim max until \"" ++ t) (sym (append_assoc stay (34 ∷ []) (32 ∷ 34 ∷ (label ++ 34 ∷ []))))
+until-text Min stay label = ap (λ (t : List ℕ). codes "claim min until \"" ++ t) (sym (append_assoc stay (34 ∷ []) (32 ∷ 34 ∷ (label ++ 34 ∷ []))))
+
+until-found : (dir : Dir) (text : List ℕ) (c : PlainClaim) → until_claim dir text ≡ Some c → IsClaim text c
+until-found dir text c e =
+    let m = map-some (λ names. until dir names.0 names.1) (option_and_then two_names (behind (until_front dir) text)) c e in
+    subst (IsClaim text) m.2 (by (behind (until_front dir) text) refl m.0 m.1)
+  where
+    by : (o : Option (List ℕ)) → behind (until_front dir) text ≡ o → (names : List ℕ × List ℕ) → option_and_then two_names o ≡ Some names → IsClaim text (until dir names.0 names.1)
+    by None b names e = absurd cc
+    by (Some rest) b names e =
+        let t = two-found rest names e in (
+          behind-found (until_front dir) text rest b ∙ ap (λ (xs : List ℕ). until_front dir ++ xs) t.0 ∙ until-text dir names.0 names.1,
+          record { names = and-true _ _ t.1 t.2; threshold = refl; width = tt },
+        )
+
 mean-text : (dir : Dir) (name : List ℕ) → mean_front dir ++ (name ++ 34 ∷ []) ≡ claim_text (mean dir name)
 mean-text Max name = refl
 mean-text Min name = refl
@@ -184,13 +201,17 @@ witness-found dir text c e =
 
 to-found : (dir : Dir) (text : List ℕ) (c : PlainClaim) → claim_to dir text ≡ Some c → IsClaim text c
 unfolding claim_to
-to-found dir text c e = elim (or-found (reach_claim dir text) (option_or (reward_claim dir text) (option_or (mean_claim dir text) (witness_claim dir text))) c e) [
-  | inl h ↦ reach-found dir text c h
-  | inr h ↦ elim (or-found (reward_claim dir text) (option_or (mean_claim dir text) (witness_claim dir text)) c h) [
-    | inl g ↦ reward-found dir text c g
-    | inr g ↦ elim (or-found (mean_claim dir text) (witness_claim dir text) c g) [ inl f ↦ mean-found dir text c f | inr f ↦ witness-found dir text c f ]
-  ]
-]
+to-found dir text c e =
+    elim (or-found (reach_claim dir text) (option_or (until_claim dir text) (option_or (reward_claim dir text) (option_or (mean_claim dir text) (witness_claim dir text)))) c e) [
+      | inl h ↦ reach-found dir text c h
+      | inr h ↦ elim (or-found (until_claim dir text) (option_or (reward_claim dir text) (option_or (mean_claim dir text) (witness_claim dir text))) c h) [
+        | inl i ↦ until-found dir text c i
+        | inr i ↦ elim (or-found (reward_claim dir text) (option_or (mean_claim dir text) (witness_claim dir text)) c i) [
+          | inl g ↦ reward-found dir text c g
+          | inr g ↦ elim (or-found (mean_claim dir text) (witness_claim dir text) c g) [ inl f ↦ mean-found dir text c f | inr f ↦ witness-found dir text c f ]
+        ]
+      ]
+    ]
 
 of-found : (text : List ℕ) (c : PlainClaim) → claim_of text ≡ Some c → IsClaim text c
 unfolding claim_of
@@ -229,6 +250,21 @@ reward-again Min name label h g =
     let text = claim_text (reward Min name label) in
     ap (λ (o : Option PlainClaim). option_or o (option_or (mean_claim Min text) (witness_claim Min text))) (reward-read Min name label h g)
 
+until-read : (dir : Dir) (stay label : List ℕ) → is_name stay ≡ true → is_name label ≡ true → until_claim dir (claim_text (until dir stay label)) ≡ Some (until dir stay label)
+until-read dir stay label h g =
+    ap (until_claim dir) (sym (until-text dir stay label))
+    ∙ ap (λ (o : Option (List ℕ)). option_map (λ names. until dir names.0 names.1) (option_and_then two_names o)) (behind-again (until_front dir) (stay ++ (34 ∷ 32 ∷ 34 ∷ (label ++ 34 ∷ []))))
+    ∙ ap (option_map (λ names. until dir names.0 names.1)) (two-again stay label h g)
+
+until-again : (dir : Dir) (stay label : List ℕ) → is_name stay ≡ true → is_name label ≡ true → claim_of (claim_text (until dir stay label)) ≡ Some (until dir stay label)
+unfolding claim_of claim_to
+until-again Max stay label h g =
+    let text = claim_text (until Max stay label) in
+    ap (λ (o : Option PlainClaim). option_or (option_or o (option_or (reward_claim Max text) (option_or (mean_claim Max text) (witness_claim Max text)))) (claim_to Min text)) (until-read Max stay label h g)
+until-again Min stay label h g =
+    let text = claim_text (until Min stay label) in
+    ap (λ (o : Option PlainClaim). option_or o (option_or (reward_claim Min text) (option_or (mean_claim Min text) (witness_claim Min text)))) (until-read Min stay label h g)
+
 mean-again : (dir : Dir) (name : List ℕ) → is_name name ≡ true → claim_of (claim_text (mean dir name)) ≡ Some (mean dir name)
 unfolding claim_of claim_to
 mean-again Max name h = rw (name-again (codes "claim max mean \"") name h) refl
@@ -248,6 +284,7 @@ witness-again Min label t h = witness-read Min label t h
 again : (c : PlainClaim) → IsRight c → claim_of (claim_text c) ≡ Some c
 again (upper label) h = upper-again label h.names
 again (reach dir label) h = reach-again dir label h.names
+again (until dir stay label) h = let p = and_parts (is_name stay) (is_name label) h.names in until-again dir stay label p.0 p.1
 again (mean dir name) h = mean-again dir name h.names
 again (reward dir name label) h = let p = and_parts (is_name name) (is_name label) h.names in reward-again dir name label p.0 p.1
 again (witness dir label t) h = witness-again dir label t h
@@ -270,6 +307,15 @@ free-reward dir name label h g =
     front Max = refl
     front Min = refl
 
+free-until : (dir : Dir) (stay label : List ℕ) → is_name stay ≡ true → is_name label ≡ true → Free 10 (until_front dir ++ (stay ++ (codes "\" \"" ++ (label ++ 34 ∷ []))))
+free-until dir stay label h g =
+    let rest : Free 10 (codes "\" \"" ++ (label ++ 34 ∷ [])) = free-named (codes "\" \"") label refl g in
+    free-append 10 (until_front dir) (stay ++ (codes "\" \"" ++ (label ++ 34 ∷ []))) (front dir) (free-append 10 stay (codes "\" \"" ++ (label ++ 34 ∷ [])) (free-name stay h) rest)
+  where
+    front : (d : Dir) → Free 10 (until_front d)
+    front Max = refl
+    front Min = refl
+
 free-witness : (dir : Dir) (label : List ℕ) (t : ℚ) → is_name label ≡ true → IsNarrow t → Free 10 (witness_front dir ++ (label ++ (34 ∷ 32 ∷ spelling t)))
 free-witness dir label t h narrow =
     free-append 10 (witness_front dir) (label ++ (34 ∷ 32 ∷ spelling t)) (front dir) (free-append 10 label (34 ∷ 32 ∷ spelling t) (free-name label h) (free-spelling 10 t (omega arith) narrow))
@@ -282,6 +328,7 @@ pub free-claim : (c : PlainClaim) → IsRight c → Free 10 (claim_text c)
 free-claim (upper label) h = free-named (codes "claim upper reach \"") label refl h.names
 free-claim (reach Max label) h = free-named (codes "claim max reach \"") label refl h.names
 free-claim (reach Min label) h = free-named (codes "claim min reach \"") label refl h.names
+free-claim (until dir stay label) h = let p = and_parts (is_name stay) (is_name label) h.names in subst (Free 10) (until-text dir stay label) (free-until dir stay label p.0 p.1)
 free-claim (mean Max name) h = free-named (codes "claim max mean \"") name refl h.names
 free-claim (mean Min name) h = free-named (codes "claim min mean \"") name refl h.names
 free-claim (witness dir label t) h = subst (Free 10) (witness-text dir label t) (free-witness dir label t h.names h.width)

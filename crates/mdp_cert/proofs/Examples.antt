@@ -12,7 +12,7 @@ use Rattle.mdp_text.specs.{declared.error.CertKind.TheVariants.{Claim, Number, S
 use Rattle.mdp_text.specs.{Words.{words_behind, whole_of, whole_at, frac_at}, Spelling.{line}, Heads.{states_at, given_at, valued_at, start_at}}
 use Rattle.mdp_text.specs.declared.error.CertKind.TheVariants as kind
 use Rattle.mdp_cert.specs.{declared.version.Version.{Version}, declared.version.Version.TheVariants.{One, Two}}
-use Rattle.mdp_cert.specs.{Cert.{Certificate, upper, reach, reward, mean, witness, PlainBody, bounds, policy, rewards, gains, flow, floor}, Runs.{longest_runs}}
+use Rattle.mdp_cert.specs.{Cert.{Certificate, upper, reach, until, reward, mean, witness, PlainBody, bounds, policy, rewards, gains, flow, floor}, Runs.{longest_runs}}
 use Rattle.mdp_cert.specs.Witness.{keep_at, flow_at, flow_line_at, floor_line_at}
 use Rattle.mdp_cert.specs.Spelling.{version_text, text_of, old_text_of, text_in, run_text, run_lines, listed_lines}
 use Rattle.mdp_cert.specs.Reading.{outcome, version_at, claim_to, claim_of, claim_at, init_at, head_from, listed_at, listed_from, listed_to_end}
@@ -383,8 +383,12 @@ means-read = refl
 claims-read : AreEqual (
     (claim_at 2 (codes "claim min mean \"my costs\""), Ok (mean Min (codes "my costs"))) ∷  -- one name
     (claim_at 2 (codes "claim min reward \"my costs\" \"is done\""), Ok (reward Min (codes "my costs") (codes "is done"))) ∷  -- both names
+    (claim_at 2 (codes "claim max until \"is safe\" \"is done\""), Ok (until Max (codes "is safe") (codes "is done"))) ∷  -- both labels
     -- refused
     (claim_at 2 (codes "claim max reward \"-\""), refused Claim 2) ∷  -- label missing
+    (claim_at 2 (codes "claim max until \"safe\""), refused Claim 2) ∷  -- one label
+    (claim_at 2 (codes "claim max until \"safe\" \"done\" 3"), refused Claim 2) ∷  -- steps
+    (claim_at 2 (codes "claim upper until \"safe\" \"done\""), refused Claim 2) ∷  -- upper until
     (claim_at 2 (codes "claim max reward \"-\"\"goal\""), refused Claim 2) ∷  -- no blank
     (claim_at 2 (codes "claim max reward \"-\"  \"goal\""), refused Claim 2) ∷  -- two blanks
     (claim_at 2 (codes "claim max reward \"\" \"goal\""), refused Claim 2) ∷  -- no name

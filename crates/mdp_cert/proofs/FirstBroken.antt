@@ -12,7 +12,7 @@ use Rattle.mdp_text.specs.Heads.{states_at, init_parse, init_of, given_at, value
 use Rattle.mdp_text.specs.declared.error.CertKind.TheVariants as kind
 use Rattle.mdp_cert.specs.{declared.version.Version.{Version}, declared.version.Version.TheVariants.{One, Two}, declared.flow_line.FlowLine.{FlowLine}}
 use Rattle.mdp_cert.specs.{declared.flow_line.FlowLine.TheVariants.{Keep, Send}, declared.floor_line.FloorLine.{FloorLine}}
-use Rattle.mdp_cert.specs.Cert.{PlainClaim, upper, reach, reward, mean, witness, may_be_infinite, is_witness, is_next, is_next_flow, PlainBody, bounds, Certificate}
+use Rattle.mdp_cert.specs.Cert.{PlainClaim, upper, reach, until, reward, mean, witness, may_be_infinite, is_witness, is_next, is_next_flow, PlainBody, bounds, Certificate}
 use Rattle.mdp_cert.specs.Listed.{Listed}
 use Rattle.mdp_cert.specs.Witness.{mark_text, mark_at, keep_at, kept_in, flow_in, flow_at, flow_line_at, flow_listed, flow_body, floor_line_at, floor_listed, floor_body}
 use Rattle.mdp_cert.specs.{Runs.{Columns, run, single, entries_of}, Claims.{fraction_value, reward_value, bound_columns, policy_columns, mean_columns}}
@@ -485,6 +485,7 @@ body-cuts : (v : Version) (claim : PlainClaim) (states : ℕ) → Cuts (body_fro
 unfolding body_from
 body-cuts v (upper label) states = mapped (entries_to_end v bound_columns states) bounds (closed-cuts bound_columns states v)
 body-cuts v (reach dir label) states = mapped (entries_to_end v (policy_columns fraction_value) states) policy_body (closed-cuts (policy_columns fraction_value) states v)
+body-cuts v (until dir stay label) states = mapped (entries_to_end v (policy_columns fraction_value) states) policy_body (closed-cuts (policy_columns fraction_value) states v)
 body-cuts v (reward dir name label) states = mapped (entries_to_end v (policy_columns reward_value) states) reward_body (closed-cuts (policy_columns reward_value) states v)
 body-cuts v (mean dir name) states =
     next (line_by spread_at) (λ spread p. entries_to_end v mean_columns states p >>= λ xs. Ok (mean_body spread xs.0, xs.1)) (lined spread_at spread-judges) (λ spread.

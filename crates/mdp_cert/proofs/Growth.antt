@@ -4,7 +4,7 @@ use Rattle.std.proofs.{Common.{get_or, refl, sym, ap, ◌∙◌, append_assoc, a
 use Rattle.std.proofs.{lemmas.List.{drop_all, drop-drop, length-drop, length-map}, lemmas.Bool.{and_parts}}
 use Rattle.mdp_math.specs.Rational.{ℚ}
 use Rattle.mdp_cert.specs.{declared.version.Version.{Version}, declared.version.Version.TheVariants.{One, Two}}
-use Rattle.mdp_cert.specs.Cert.{PlainClaim, upper, reach, reward, mean, witness, bounds, policy, rewards, gains, flow, floor, are_kept, are_flows, is_body_of}
+use Rattle.mdp_cert.specs.Cert.{PlainClaim, upper, reach, until, reward, mean, witness, bounds, policy, rewards, gains, flow, floor, are_kept, are_flows, is_body_of}
 use Rattle.mdp_cert.specs.{declared.flow_line.FlowLine.TheVariants.{Send}, Witness.{flow_lines, floor_lines}, Runs.{Columns, run, longest_runs, runs_in}}
 use Rattle.mdp_cert.specs.{Spelling.{run_text, run_lines}, Answer.{more_in}}
 use Rattle.mdp_rows.specs.declared.dir.Dir.TheVariants.{Max, Min}
@@ -63,6 +63,7 @@ module _ {A : Type 0} (k : Columns A) (v : Version) where
 pub bounds-entries : (claim : PlainClaim) (states : ℕ) (zs : List ℚ) → is_body_of claim states (bounds zs) ≡ true → length zs ≡ states
 bounds-entries (upper label) states zs e = number-same _ states e
 bounds-entries (reach dir label) states zs e = absurd cc
+bounds-entries (until dir stay label) states zs e = absurd cc
 bounds-entries (reward dir name label) states zs e = absurd cc
 bounds-entries (mean dir name) states zs e = absurd cc
 bounds-entries (witness Max label t) states zs e = absurd cc
@@ -83,6 +84,7 @@ three-entries states zs cs rs e =
 pub policy-entries : (claim : PlainClaim) (states : ℕ) (zs : List ℚ) (cs rs : List ℕ) → is_body_of claim states (policy zs cs rs) ≡ true → Entries states zs cs rs
 policy-entries (upper label) states zs cs rs e = absurd cc
 policy-entries (reach dir label) states zs cs rs e = three-entries states zs cs rs e
+policy-entries (until dir stay label) states zs cs rs e = three-entries states zs cs rs e
 policy-entries (reward dir name label) states zs cs rs e = absurd cc
 policy-entries (mean dir name) states zs cs rs e = absurd cc
 policy-entries (witness Max label t) states zs cs rs e = absurd cc
@@ -91,6 +93,7 @@ policy-entries (witness Min label t) states zs cs rs e = absurd cc
 pub reward-entries : (claim : PlainClaim) (states : ℕ) (vs : List (Option ℚ)) (cs rs : List ℕ) → is_body_of claim states (rewards vs cs rs) ≡ true → Entries states vs cs rs
 reward-entries (upper label) states vs cs rs e = absurd cc
 reward-entries (reach dir label) states vs cs rs e = absurd cc
+reward-entries (until dir stay label) states vs cs rs e = absurd cc
 reward-entries (reward dir name label) states vs cs rs e = three-entries states vs cs rs e
 reward-entries (mean dir name) states vs cs rs e = absurd cc
 reward-entries (witness Max label t) states vs cs rs e = absurd cc
@@ -114,6 +117,7 @@ four-entries states gs zs bs cs e =
 pub gains-entries : (claim : PlainClaim) (states : ℕ) (gs zs bs : List ℚ) (cs : List ℕ) (k : ℚ) → is_body_of claim states (gains gs zs bs cs k) ≡ true → MeanEntries states gs zs bs cs
 gains-entries (upper label) states gs zs bs cs k e = absurd cc
 gains-entries (reach dir label) states gs zs bs cs k e = absurd cc
+gains-entries (until dir stay label) states gs zs bs cs k e = absurd cc
 gains-entries (reward dir name label) states gs zs bs cs k e = absurd cc
 gains-entries (mean dir name) states gs zs bs cs k e = four-entries states gs zs bs cs e
 gains-entries (witness Max label t) states gs zs bs cs k e = absurd cc
@@ -123,6 +127,7 @@ pub flow-lists : (claim : PlainClaim) (states : ℕ) (kept : List ℕ) (wide : L
     → (are_kept states None kept && eqb (length wide) (length kept) && are_flows states None flows) ≡ true
 flow-lists (upper label) states kept wide flows e = absurd cc
 flow-lists (reach dir label) states kept wide flows e = absurd cc
+flow-lists (until dir stay label) states kept wide flows e = absurd cc
 flow-lists (reward dir name label) states kept wide flows e = absurd cc
 flow-lists (mean dir name) states kept wide flows e = absurd cc
 flow-lists (witness Max label t) states kept wide flows e = e
@@ -145,6 +150,7 @@ pub floor-lists : (claim : PlainClaim) (states : ℕ) (kept : List ℕ) (wide : 
     → (are_kept states None kept && eqb (length wide) (length kept) && eqb (length values) (length kept) && eqb (length ranks) (length kept)) ≡ true
 floor-lists (upper label) states kept wide values ranks e = absurd cc
 floor-lists (reach dir label) states kept wide values ranks e = absurd cc
+floor-lists (until dir stay label) states kept wide values ranks e = absurd cc
 floor-lists (reward dir name label) states kept wide values ranks e = absurd cc
 floor-lists (mean dir name) states kept wide values ranks e = absurd cc
 floor-lists (witness Max label t) states kept wide values ranks e = absurd cc

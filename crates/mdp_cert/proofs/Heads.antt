@@ -9,7 +9,7 @@ use Rattle.mdp_text.specs.{Lines.{◌>>=◌, refuse_if, Place, place}, Words.{fi
 use Rattle.mdp_text.proofs.{Pieces.{Free}, Cuts.{bytes_same}, Feeds.{bind_ok, ok-is, refuse_ok, found_ok, whole-found, whole-again}}
 use Rattle.mdp_text.proofs.{Joined.{free-join, free-whole, behind-again, behind-text}, States.{three-words}}
 use Rattle.mdp_text.proofs.HeadLines as heads
-use Rattle.mdp_cert.specs.{Cert.{PlainClaim, upper, reach, reward, mean, witness, are_names, may_be_infinite, IsValueNarrow}, Claims.{reward_text}}
+use Rattle.mdp_cert.specs.{Cert.{PlainClaim, upper, reach, until, reward, mean, witness, are_names, may_be_infinite, IsValueNarrow}, Claims.{reward_text}}
 use Rattle.mdp_cert.specs.{Spelling.{claim_text}, Reading.{claim_at}, declared.init.BoundsInit.{BoundsInit}}
 use Rattle.mdp_cert.specs.{declared.init.BoundsInit.TheVariants.{Missing, Between}, BoundsCert.{is_of_bounds, may_be, is_init_of, IsInitInWidth}}
 use Rattle.mdp_cert.specs.{BoundsSpelling.{init_text}, BoundsReading.{bounds_claim_at, init_value_at, between_at, init_at, BoundsHead, head_from}}
@@ -26,6 +26,7 @@ pub record IsBoundsClaim (c : PlainClaim) : Type 0 where
 pub right-claim : (c : PlainClaim) → is_of_bounds c ≡ true → are_names c ≡ true → IsBoundsClaim c
 right-claim (upper label) b h = absurd cc
 right-claim (reach dir label) b h = record { right = record { names = h; threshold = refl; width = tt }; bounds = refl }
+right-claim (until dir stay label) b h = record { right = record { names = h; threshold = refl; width = tt }; bounds = refl }
 right-claim (reward dir name label) b h = record { right = record { names = h; threshold = refl; width = tt }; bounds = refl }
 right-claim (mean dir name) b h = record { right = record { names = h; threshold = refl; width = tt }; bounds = refl }
 right-claim (witness dir label threshold) b h = absurd cc

@@ -12,7 +12,7 @@ use Rattle.mdp_text.specs.{Heads.{IsInitInWidth, init_parse, init_of, given_at, 
 use Rattle.mdp_text.specs.{Words.{first_of, words_behind, whole_at}, Spelling.{◌␣◌, init_text}}
 use Rattle.mdp_cert.specs.declared.version.Version as version
 use Rattle.mdp_cert.specs.declared.version.Version.TheVariants.{One, Two}
-use Rattle.mdp_cert.specs.{Cert.{PlainClaim, upper, reach, reward, mean, witness, may_be_infinite, is_witness, is_init_of, IsValueNarrow}, Claims.{reward_text}}
+use Rattle.mdp_cert.specs.{Cert.{PlainClaim, upper, reach, until, reward, mean, witness, may_be_infinite, is_witness, is_init_of, IsValueNarrow}, Claims.{reward_text}}
 use Rattle.mdp_cert.specs.{Spelling.{version_text}, Reading.{version_at, init_at}}
 use Rattle.mdp_text.proofs.{Pieces.{Free, decimal-some}, Cuts.{bytes_same}, Feeds.{bind_ok, ok-is, refuse_ok, found_ok, whole-found, whole-again}}
 use Rattle.mdp_text.proofs.{States.{one-word, two-words}, Joined.{free-join, free-whole, behind-again, behind-text}}
@@ -206,6 +206,7 @@ not-witness true e = absurd cc
 infinite-form : (claim : PlainClaim) → may_be_infinite claim ≡ true → is_witness claim ≡ false
 infinite-form (upper label) e = refl
 infinite-form (reach dir label) e = refl
+infinite-form (until dir stay label) e = refl
 infinite-form (reward dir name label) e = refl
 infinite-form (mean dir name) e = refl
 infinite-form (witness dir label threshold) e = absurd cc

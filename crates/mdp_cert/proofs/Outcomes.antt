@@ -4,7 +4,7 @@ use Rattle.mdp_text.specs.{declared.error.CertKind.TheVariants.{Version}, declar
 use Rattle.mdp_text.specs.{Lines.{◌>>=◌, is_line, Place, place, line_by, nothing_behind}, Spelling.{line}}
 use Rattle.mdp_text.proofs.{Feeds.{bind_ok, ok-is, judged-found, judged-again, due-line, due-again, nothing-found}, Exact.{FoundText}}
 use Rattle.mdp_num.specs.Value.{IsNarrow}
-use Rattle.mdp_cert.specs.{Cert.{PlainClaim, upper, reach, reward, mean, witness, IsValueNarrow}, Claims.{fraction_value, reward_value}}
+use Rattle.mdp_cert.specs.{Cert.{PlainClaim, upper, reach, until, reward, mean, witness, IsValueNarrow}, Claims.{fraction_value, reward_value}}
 use Rattle.mdp_cert.specs.Entries.{ranked_columns, IsRankedInWidth, gains_columns, IsGainsInWidth}
 use Rattle.mdp_cert.specs.{BoundsCert.{PlainBounds, Certificate, is_of_bounds, is_body_of, Fits}, BoundsSpelling.{version_text, body_text, text_of}}
 use Rattle.mdp_cert.specs.{BoundsReading.{BoundsHead, head_from, body_from, outcome}, BoundsLaws.{AreSameWords}}
@@ -59,6 +59,7 @@ cert-found bytes c e =
 of-bounds : (claim : PlainClaim) (states : ℕ) (b : PlainBounds) → is_body_of claim states b ≡ true → is_of_bounds claim ≡ true
 of-bounds (upper label) states b e = absurd cc
 of-bounds (reach dir label) states b e = refl
+of-bounds (until dir stay label) states b e = refl
 of-bounds (reward dir name label) states b e = refl
 of-bounds (mean dir name) states b e = refl
 of-bounds (witness dir label threshold) states b e = absurd cc

@@ -10,7 +10,7 @@ use Rattle.mdp_text.specs.{declared.error.Refusal.{Refusal}, declared.init.Init.
 use Rattle.mdp_text.specs.{Lines.{◌>>=◌, Place, place, line_by, nothing_behind}, Spelling.{line, init_text}}
 use Rattle.mdp_cert.specs.{declared.mean_entry.MeanEntry.{MeanEntry}, declared.policy_entry.PolicyEntry.{PolicyEntry}, declared.version.Version.{Version}}
 use Rattle.mdp_cert.specs.{declared.version.Version.TheVariants.{One, Two}, declared.flow_line.FlowLine.{FlowLine}, declared.floor_line.FloorLine.{FloorLine}}
-use Rattle.mdp_cert.specs.Cert.{PlainClaim, upper, reach, reward, mean, witness, PlainBody, bounds, policy, rewards, gains, flow, floor, Certificate}
+use Rattle.mdp_cert.specs.Cert.{PlainClaim, upper, reach, until, reward, mean, witness, PlainBody, bounds, policy, rewards, gains, flow, floor, Certificate}
 use Rattle.mdp_cert.specs.Cert.{are_kept, are_flows, is_init_of, is_body_of, IsValueNarrow, IsFlowInWidth, IsBodyInWidth, Fits}
 use Rattle.mdp_cert.specs.Witness.{flow_listed, flow_lines, flow_body, floor_listed, floor_lines, floor_body}
 use Rattle.mdp_cert.specs.Claims.{Value, fraction_value, reward_value, bound_columns, policy_columns, policies, IsPolicyInWidth, mean_columns, means, IsMeanInWidth}
@@ -310,6 +310,11 @@ body-found v (reach dir label) states p b q limit e =
     let same : (let r : PlainBody × Place = (policy_body all.0.0, all.0.1) in r) ≡ (b, q) = ok-is _ _ all.2 in
     let f = policy-found fraction_value IsNarrow fraction-is_value states limit v p all.0.0 all.0.1 all.1 in
     subst (λ (r : PlainBody × Place). FoundBody v (reach dir label) states p r.0 r.1) same (record { text = f.text; fits = record { entries = f.entries; width = f.width } })
+body-found v (until dir stay label) states p b q limit e =
+    let all = bind_ok (entries_to_end v (policy_columns fraction_value) states p) (λ xs. Ok (policy_body xs.0, xs.1)) (b, q) e in
+    let same : (let r : PlainBody × Place = (policy_body all.0.0, all.0.1) in r) ≡ (b, q) = ok-is _ _ all.2 in
+    let f = policy-found fraction_value IsNarrow fraction-is_value states limit v p all.0.0 all.0.1 all.1 in
+    subst (λ (r : PlainBody × Place). FoundBody v (until dir stay label) states p r.0 r.1) same (record { text = f.text; fits = record { entries = f.entries; width = f.width } })
 body-found v (reward dir name label) states p b q limit e =
     let all = bind_ok (entries_to_end v (policy_columns reward_value) states p) (λ xs. Ok (reward_body xs.0, xs.1)) (b, q) e in
     let same : (let r : PlainBody × Place = (reward_body all.0.0, all.0.1) in r) ≡ (b, q) = ok-is _ _ all.2 in
@@ -377,6 +382,12 @@ body-again v (reach dir label) states n (rewards zs cs rs) rest limit ok = absur
 body-again v (reach dir label) states n (gains gs zs bs cs k) rest limit ok = absurd (let t = ok.entries in cc)
 body-again v (reach dir label) states n (flow kept wide flows) rest limit ok = absurd (let t = ok.entries in cc)
 body-again v (reach dir label) states n (floor kept wide values ranks) rest limit ok = absurd (let t = ok.entries in cc)
+body-again v (until dir stay label) states n (bounds zs) rest limit ok = absurd (let t = ok.entries in cc)
+body-again v (until dir stay label) states n (policy zs cs rs) rest limit ok = reach-again v states n zs cs rs rest limit ok.entries ok.width
+body-again v (until dir stay label) states n (rewards zs cs rs) rest limit ok = absurd (let t = ok.entries in cc)
+body-again v (until dir stay label) states n (gains gs zs bs cs k) rest limit ok = absurd (let t = ok.entries in cc)
+body-again v (until dir stay label) states n (flow kept wide flows) rest limit ok = absurd (let t = ok.entries in cc)
+body-again v (until dir stay label) states n (floor kept wide values ranks) rest limit ok = absurd (let t = ok.entries in cc)
 body-again v (reward dir name label) states n (bounds zs) rest limit ok = absurd (let t = ok.entries in cc)
 body-again v (reward dir name label) states n (policy zs cs rs) rest limit ok = absurd (let t = ok.entries in cc)
 body-again v (reward dir name label) states n (rewards zs cs rs) rest limit ok = reward-again v states n zs cs rs rest limit ok.entries ok.width

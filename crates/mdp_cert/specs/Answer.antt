@@ -1,7 +1,7 @@
 -- How an answer of the program stands to the definition.
 use Rattle.std.specs.Prelude.{ℕ, suc, Bool, false, List, [], ◌∷◌, if◌then◌else◌}
 use Rattle.mdp_cert.specs.{declared.head.Head.{Head}, declared.version.Version.{Version}, declared.version.Version.TheVariants.{One, Two}}
-use Rattle.mdp_cert.specs.{declared.claim_words.ClaimWords.{ClaimWords}, Cert.{PlainClaim, upper, reach, reward, mean, witness, plain_claim}, Runs.{Columns}}
+use Rattle.mdp_cert.specs.{declared.claim_words.ClaimWords.{ClaimWords}, Cert.{PlainClaim, upper, reach, until, reward, mean, witness, plain_claim}, Runs.{Columns}}
 use Rattle.mdp_cert.specs.Reading.{CertHead}
 use Rattle.mdp_cert.specs.declared.claim_words.ClaimWords.TheVariants as words
 
@@ -9,6 +9,7 @@ use Rattle.mdp_cert.specs.declared.claim_words.ClaimWords.TheVariants as words
 abbrev pub said_claim : ClaimWords → PlainClaim
 said_claim (words.Upper label) = upper label.now
 said_claim (words.Reach dir label) = reach dir label.now
+said_claim (words.Until dir stay label) = until dir stay.now label.now
 said_claim (words.Reward dir name label) = reward dir name.now label.now
 said_claim (words.Mean dir name) = mean dir name.now
 said_claim (words.Witness dir label threshold) = witness dir label.now threshold

@@ -2,7 +2,7 @@
 use Rattle.std.specs.Prelude.{ℕ, ◌<◌, ◌≤◌, ◌^◌, Bool, true, false, ◌&&◌, IsTrue, List, length, nat_lt, ◌==◌, All, Option, Some, None}
 use Rattle.mdp_math.specs.Rational.{ℚ}
 use Rattle.mdp_num.specs.Value.{IsNarrow}
-use Rattle.mdp_cert.specs.Cert.{PlainClaim, upper, reach, reward, mean, witness, are_names, may_be_infinite, IsValueNarrow}
+use Rattle.mdp_cert.specs.Cert.{PlainClaim, upper, reach, until, reward, mean, witness, are_names, may_be_infinite, IsValueNarrow}
 use Rattle.mdp_cert.specs.{declared.init.BoundsInit.{BoundsInit}, declared.init.BoundsInit.TheVariants.{Missing, Between}}
 use Rattle.mdp_cert.specs.declared.bounds_body.BoundsBody.{BoundsBody}
 use Rattle.mdp_cert.specs.declared.bounds_body.BoundsBody.TheVariants as body
@@ -29,10 +29,11 @@ plain_body (body.Mean c) = gains c.lower.items c.upper.items c.bound.items c.bia
 
 -- ---- which certificates have a text
 
--- whether the claim is one of bounds: of a direction, and of reach, reward or mean
+-- whether the claim is one of bounds: of a direction, and of reach, until, reward or mean
 abbrev pub is_of_bounds : PlainClaim → Bool
 is_of_bounds (upper label) = false
 is_of_bounds (reach dir label) = true
+is_of_bounds (until dir stay label) = true
 is_of_bounds (reward dir name label) = true
 is_of_bounds (mean dir name) = true
 is_of_bounds (witness dir label threshold) = false
@@ -50,6 +51,8 @@ is_init_of claim states (Between state low high) = nat_lt state states && may_be
 -- the body is of the claim's kind, with an entry per state
 abbrev pub is_body_of : PlainClaim → ℕ → PlainBounds → Bool
 is_body_of (reach dir label) states (probabilities low high choices ranks) =
+    (length low == states) && (length high == states) && (length choices == states) && (length ranks == states)
+is_body_of (until dir stay label) states (probabilities low high choices ranks) =
     (length low == states) && (length high == states) && (length choices == states) && (length ranks == states)
 is_body_of (reward dir name label) states (rewards low high choices ranks) =
     (length low == states) && (length high == states) && (length choices == states) && (length ranks == states)

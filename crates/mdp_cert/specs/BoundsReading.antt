@@ -5,7 +5,7 @@ use Rattle.mdp_math.specs.Rational.{ℚ}
 use Rattle.mdp_text.specs.declared.error.CertKind.TheVariants as kind
 use Rattle.mdp_text.specs.{declared.error.Refusal.{Refusal}, Lines.{◌>>=◌, refused, refuse_if, or_refused, is_line, Place, place, line_by, nothing_behind}}
 use Rattle.mdp_text.specs.{Words.{first_of, words_behind, whole_at}, Heads.{init_parse, Head, head_by}}
-use Rattle.mdp_cert.specs.{declared.version.Version.TheVariants.{Two}, Cert.{PlainClaim, upper, reach, reward, mean, witness, may_be_infinite}}
+use Rattle.mdp_cert.specs.{declared.version.Version.TheVariants.{Two}, Cert.{PlainClaim, upper, reach, until, reward, mean, witness, may_be_infinite}}
 use Rattle.mdp_cert.specs.{Claims.{fraction_value, reward_value}, Reading.{claim_at, spread_at, entries_to_end}, declared.init.BoundsInit.{BoundsInit}}
 use Rattle.mdp_cert.specs.{declared.init.BoundsInit.TheVariants.{Missing, Between}, declared.ranked_entry.RankedEntry.{RankedEntry}}
 use Rattle.mdp_cert.specs.{declared.gains_entry.GainsEntry.{GainsEntry}, BoundsCert.{PlainBounds, probabilities, rewards, gains, Certificate, is_of_bounds}}
@@ -13,7 +13,7 @@ use Rattle.mdp_cert.specs.{Entries.{ranked_columns, gains_columns}, BoundsSpelli
 
 -- ---- the lines of claim, states and init
 
--- a claim of bounds: of a direction, and of reach, reward or mean
+-- a claim of bounds: of a direction, and of reach, until, reward or mean
 unfoldable pub bounds_claim_at : ℕ → List ℕ → Result PlainClaim Refusal
 bounds_claim_at n text = do
   claim ← claim_at n text
@@ -67,6 +67,7 @@ mean_from states p = do
 unfoldable pub body_from : PlainClaim → ℕ → Place → Result (PlainBounds × Place) Refusal
 body_from (upper label) states p = refused kind.Claim p.line
 body_from (reach dir label) states p = entries_to_end Two (ranked_columns fraction_value) states p >>= λ xs. Ok (reach_body xs.0, xs.1)
+body_from (until dir stay label) states p = entries_to_end Two (ranked_columns fraction_value) states p >>= λ xs. Ok (reach_body xs.0, xs.1)
 body_from (reward dir name label) states p = entries_to_end Two (ranked_columns reward_value) states p >>= λ xs. Ok (reward_body xs.0, xs.1)
 body_from (mean dir name) states p = mean_from states p
 body_from (witness dir label threshold) states p = refused kind.Claim p.line

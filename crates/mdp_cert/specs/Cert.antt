@@ -4,14 +4,16 @@ use Rattle.mdp_math.specs.Rational.{ℚ}
 use Rattle.mdp_num.specs.Value.{IsNarrow}
 use Rattle.mdp_rows.specs.{Name.{is_name}, declared.dir.Dir.{Dir}, declared.dir.Dir.TheVariants.{Max, Min}}
 use Rattle.mdp_claims.specs.declared.subsystem.Flow.{Flow}
-use Rattle.mdp_cert.specs.{declared.claim.Claim.{Claim}, declared.claim.Claim.TheVariants.{Upper, Reach, Reward, Mean, Witness}, declared.body.Body.{Body}}
+use Rattle.mdp_cert.specs.{declared.claim.Claim.{Claim}, declared.claim.Claim.TheVariants.{Upper, Reach, Until, Reward, Mean, Witness}, declared.body.Body.{Body}}
 use Rattle.mdp_text.specs.{declared.init.Init.{Init}, declared.init.Init.TheVariants.{Missing, Finite, Infinite, Start}, Heads.{IsInitInWidth}}
 use Rattle.mdp_cert.specs.declared.body.Body.TheVariants as body
 
--- a claim and the names in it: a label, a reward model and a label, a reward model, or a label and a threshold
+-- a claim and the names in it: a label, the label of the states on the way and a label, a reward model and a label, a reward model, or a label and
+-- a threshold
 pub data PlainClaim : Type 0 where
   upper : List ℕ → PlainClaim
   reach : Dir → List ℕ → PlainClaim
+  until : Dir → List ℕ → List ℕ → PlainClaim
   reward : Dir → List ℕ → List ℕ → PlainClaim
   mean : Dir → List ℕ → PlainClaim
   witness : Dir → List ℕ → ℚ → PlainClaim
@@ -37,6 +39,7 @@ pub record Certificate : Type 0 where
 abbrev pub are_names : PlainClaim → Bool
 are_names (upper label) = is_name label
 are_names (reach dir label) = is_name label
+are_names (until dir stay label) = is_name stay && is_name label
 are_names (reward dir name label) = is_name name && is_name label
 are_names (mean dir name) = is_name name
 are_names (witness dir label threshold) = is_name label
@@ -45,6 +48,7 @@ are_names (witness dir label threshold) = is_name label
 abbrev pub may_be_infinite : PlainClaim → Bool
 may_be_infinite (upper label) = false
 may_be_infinite (reach dir label) = false
+may_be_infinite (until dir stay label) = false
 may_be_infinite (reward dir name label) = true
 may_be_infinite (mean dir name) = false
 may_be_infinite (witness dir label threshold) = false
@@ -53,6 +57,7 @@ may_be_infinite (witness dir label threshold) = false
 abbrev pub is_witness : PlainClaim → Bool
 is_witness (upper label) = false
 is_witness (reach dir label) = false
+is_witness (until dir stay label) = false
 is_witness (reward dir name label) = false
 is_witness (mean dir name) = false
 is_witness (witness dir label threshold) = true
@@ -65,6 +70,7 @@ is_at_least_zero x = int_le (pos 0) x.num
 abbrev pub plain_claim : Claim → PlainClaim
 plain_claim (Upper label) = upper label.items
 plain_claim (Reach dir label) = reach dir label.items
+plain_claim (Until dir stay label) = until dir stay.items label.items
 plain_claim (Reward dir name label) = reward dir name.items label.items
 plain_claim (Mean dir name) = mean dir name.items
 plain_claim (Witness dir label threshold) = witness dir label.items threshold
@@ -83,6 +89,7 @@ plain_body (body.Floor c) = floor c.kept.items c.wide.items c.values.items c.ran
 abbrev pub has_threshold : PlainClaim → Bool
 has_threshold (upper label) = true
 has_threshold (reach dir label) = true
+has_threshold (until dir stay label) = true
 has_threshold (reward dir name label) = true
 has_threshold (mean dir name) = true
 has_threshold (witness dir label threshold) = is_at_least_zero threshold
@@ -118,6 +125,7 @@ are_flows states before (f ∷ flows) = is_next_flow before f && nat_lt f.state 
 abbrev pub is_body_of : PlainClaim → ℕ → PlainBody → Bool
 is_body_of (upper label) states (bounds values) = length values == states
 is_body_of (reach dir label) states (policy values choices ranks) = (length values == states) && (length choices == states) && (length ranks == states)
+is_body_of (until dir stay label) states (policy values choices ranks) = (length values == states) && (length choices == states) && (length ranks == states)
 is_body_of (reward dir name label) states (rewards values choices ranks) = (length values == states) && (length choices == states) && (length ranks == states)
 is_body_of (mean dir name) states (gains gain bound bias choices spread) =
     (length gain == states) && (length bound == states) && (length bias == states) && (length choices == states)
@@ -130,6 +138,7 @@ is_body_of claim states body = false
 abbrev pub IsClaimInWidth : PlainClaim → Type 0
 IsClaimInWidth (upper label) = Unit {0}
 IsClaimInWidth (reach dir label) = Unit {0}
+IsClaimInWidth (until dir stay label) = Unit {0}
 IsClaimInWidth (reward dir name label) = Unit {0}
 IsClaimInWidth (mean dir name) = Unit {0}
 IsClaimInWidth (witness dir label threshold) = IsNarrow threshold

@@ -13,7 +13,7 @@ use Rattle.mdp_text.specs.Heads.{valued_at, start_at, Head, head_by}
 use Rattle.mdp_text.specs.{Words.{words, first_of, begins_with, words_behind, whole_at, frac_at, behind, is_quote, name_and_rest}, Spelling.{end_text}}
 use Rattle.mdp_cert.specs.{declared.version.Version.{Version}, declared.version.Version.TheVariants.{One, Two}, declared.mean_entry.MeanEntry.{MeanEntry}}
 use Rattle.mdp_cert.specs.declared.policy_entry.PolicyEntry.{PolicyEntry}
-use Rattle.mdp_cert.specs.Cert.{PlainClaim, upper, reach, reward, mean, witness, may_be_infinite, is_witness, is_at_least_zero, PlainBody, bounds, policy, rewards, gains, Certificate}
+use Rattle.mdp_cert.specs.Cert.{PlainClaim, upper, reach, until, reward, mean, witness, may_be_infinite, is_witness, is_at_least_zero, PlainBody, bounds, policy, rewards, gains, Certificate}
 use Rattle.mdp_cert.specs.{Runs.{Columns, Run, run, single, entries_of}, Claims.{fraction_value, reward_value, bound_columns, policy_columns, mean_columns}}
 use Rattle.mdp_cert.specs.{Listed.{Listed}, Witness.{flow_listed, flow_body, floor_listed, floor_body}, Spelling.{version_text}}
 
@@ -50,6 +50,13 @@ reach_front Min = codes "claim min reach \""
 abbrev pub reach_claim : Dir → List ℕ → Option PlainClaim
 reach_claim dir text = option_map (reach dir) (name_behind (reach_front dir) text)
 
+abbrev pub until_front : Dir → List ℕ
+until_front Max = codes "claim max until \""
+until_front Min = codes "claim min until \""
+
+abbrev pub until_claim : Dir → List ℕ → Option PlainClaim
+until_claim dir text = option_map (λ names. until dir names.0 names.1) (option_and_then two_names (behind (until_front dir) text))
+
 abbrev pub reward_front : Dir → List ℕ
 reward_front Max = codes "claim max reward \""
 reward_front Min = codes "claim min reward \""
@@ -81,7 +88,7 @@ witness_claim dir text = option_map (λ said. witness dir said.0 said.1) (option
 
 -- the claims of a direction
 unfoldable pub claim_to : Dir → List ℕ → Option PlainClaim
-claim_to dir text = option_or (reach_claim dir text) (option_or (reward_claim dir text) (option_or (mean_claim dir text) (witness_claim dir text)))
+claim_to dir text = option_or (reach_claim dir text) (option_or (until_claim dir text) (option_or (reward_claim dir text) (option_or (mean_claim dir text) (witness_claim dir text))))
 
 unfoldable pub claim_of : List ℕ → Option PlainClaim
 claim_of text = option_or (upper_claim text) (option_or (claim_to Max text) (claim_to Min text))
@@ -221,6 +228,7 @@ kept_from Min states p = listed_to_end floor_listed states p >>= λ xs. Ok (floo
 unfoldable pub body_from : Version → PlainClaim → ℕ → Place → Result (PlainBody × Place) Refusal
 body_from v (upper label) states p = entries_to_end v bound_columns states p >>= λ xs. Ok (bounds xs.0, xs.1)
 body_from v (reach dir label) states p = entries_to_end v (policy_columns fraction_value) states p >>= λ xs. Ok (policy_body xs.0, xs.1)
+body_from v (until dir stay label) states p = entries_to_end v (policy_columns fraction_value) states p >>= λ xs. Ok (policy_body xs.0, xs.1)
 body_from v (reward dir name label) states p = entries_to_end v (policy_columns reward_value) states p >>= λ xs. Ok (reward_body xs.0, xs.1)
 body_from v (mean dir name) states p = mean_from v states p
 body_from v (witness dir label threshold) states p = kept_from dir states p

@@ -3,7 +3,7 @@ use Rattle.std.specs.{Prelude.{ℕ, ◌+◌, List, [], ◌∷◌, ◌++◌, ◌=
 use Rattle.mdp_math.specs.Rational.{ℚ}
 use Rattle.mdp_num.specs.Value.{spelling}
 use Rattle.mdp_cert.specs.{declared.version.Version.{Version}, declared.version.Version.TheVariants.{One, Two}}
-use Rattle.mdp_cert.specs.Cert.{PlainClaim, upper, reach, reward, mean, witness, PlainBody, bounds, policy, rewards, gains, flow, floor, Certificate}
+use Rattle.mdp_cert.specs.Cert.{PlainClaim, upper, reach, until, reward, mean, witness, PlainBody, bounds, policy, rewards, gains, flow, floor, Certificate}
 use Rattle.mdp_cert.specs.{Runs.{Columns, Run, runs_in}, Claims.{fraction_value, reward_value, bound_columns, policy_columns, policies, mean_columns, means}}
 use Rattle.mdp_cert.specs.{Listed.{Listed}, Witness.{flow_listed, flow_lines, floor_listed, floor_lines}}
 use Rattle.mdp_text.specs.Spelling.{line, ◌␣◌, quoted, dir_text, states_text, init_text, end_text}
@@ -17,6 +17,7 @@ version_text Two = codes "mdp-certificate 2"
 abbrev pub claim_text : PlainClaim → List ℕ
 claim_text (upper label) = codes "claim" ␣ codes "upper" ␣ codes "reach" ␣ quoted label
 claim_text (reach dir label) = codes "claim" ␣ dir_text dir ␣ codes "reach" ␣ quoted label
+claim_text (until dir stay label) = codes "claim" ␣ dir_text dir ␣ codes "until" ␣ quoted stay ␣ quoted label
 claim_text (reward dir name label) = codes "claim" ␣ dir_text dir ␣ codes "reward" ␣ quoted name ␣ quoted label
 claim_text (mean dir name) = codes "claim" ␣ dir_text dir ␣ codes "mean" ␣ quoted name
 claim_text (witness dir label threshold) = codes "claim" ␣ dir_text dir ␣ codes "witness" ␣ quoted label ␣ spelling threshold

@@ -21,7 +21,7 @@ fn is_of_bounds(claim: &Claim) -> bool
 {
     matches!(
         claim,
-        Claim::Reach { .. } | Claim::Reward { .. } | Claim::Mean { .. }
+        Claim::Reach { .. } | Claim::Until { .. } | Claim::Reward { .. } | Claim::Mean { .. }
     )
 }
 

@@ -40,7 +40,7 @@ fn body_from<'a>(
     ensures { let read = body_from (plain_claim claim.now) states (place 5 bytes.now) in MatchResult result (λ p. read ≡ Ok (plain_body p.0, place p.1 p.2.now)) (λ e. Refuses e read) }
 {
     match claim {
-        Claim::Reach { .. } => {
+        Claim::Reach { .. } | Claim::Until { .. } => {
             let (entries, line, rest) = entries_to_end(alloc, Version::Two, states, 5, bytes)?;
             Ok((BoundsBody::Reach(reach_cert(alloc, &entries)?), line, rest))
         }

@@ -14,6 +14,12 @@ pub enum Claim {
         dir: Dir,
         label: Vec<u8>,
     },
+    /// The values are the greatest or the least probabilities of reaching the label by way of states with the label `stay` alone.
+    Until {
+        dir: Dir,
+        stay: Vec<u8>,
+        label: Vec<u8>,
+    },
     /// The values are the greatest or the least expected rewards of the reward model `name` until the label.
     Reward {
         dir: Dir,

@@ -1,7 +1,7 @@
 ghost use Rattle.std.specs.Prelude.{◌≡◌, Ok, Some, None, IfOk, MatchResult, MatchOption, option_and_then, option_map};
 ghost use Rattle.mdp_rows.specs.Name.{is_name};
 ghost use Rattle.mdp_cert.specs.{Cert.{plain_claim}, Reading.{closed_name, name_behind, two_names, upper_claim, reach_front}};
-ghost use Rattle.mdp_cert.specs.Reading.{reach_claim, reward_front, reward_claim, mean_front, mean_claim, threshold_of, name_and_threshold, witness_front, witness_claim, claim_to, claim_of, claim_at};
+ghost use Rattle.mdp_cert.specs.Reading.{reach_claim, until_front, until_claim, reward_front, reward_claim, mean_front, mean_claim, threshold_of, name_and_threshold, witness_front, witness_claim, claim_to, claim_of, claim_at};
 ghost use Rattle.mdp_cert.specs.Answer.{said_claim};
 ghost use Rattle.mdp_text.specs.{Words.{behind, name_and_rest}, Answer.{Refuses}};
 
@@ -60,6 +60,24 @@ fn reach_claim(dir: Dir, text: &[u8]) -> Option<ClaimWords<'_>>
 {
     let label = name_behind(reach_front(dir), text)?;
     Some(ClaimWords::Reach(dir, label))
+}
+
+/// What stands before the names in the claim `DIR until`.
+pub(crate) fn until_front(dir: Dir) -> &'static [u8]
+    ensures { result.now ≡ until_front dir }
+{
+    match dir {
+        Dir::Max => b"claim max until \"",
+        Dir::Min => b"claim min until \"",
+    }
+}
+
+/// The claim `DIR until` of this line.
+fn until_claim(dir: Dir, text: &[u8]) -> Option<ClaimWords<'_>>
+    ensures { option_map said_claim result ≡ until_claim dir text.now }
+{
+    let (stay, label) = two_names(text.strip_prefix(until_front(dir))?)?;
+    Some(ClaimWords::Until(dir, stay, label))
 }
 
 /// What stands before the names in the claim `DIR reward`.
@@ -147,6 +165,9 @@ fn claim_to(dir: Dir, text: &[u8]) -> Option<ClaimWords<'_>>
     if let Some(claim) = reach_claim(dir, text) {
         return Some(claim);
     }
+    if let Some(claim) = until_claim(dir, text) {
+        return Some(claim);
+    }
     if let Some(claim) = reward_claim(dir, text) {
         return Some(claim);
     }
@@ -182,6 +203,15 @@ fn owned_claim(alloc: Global, said: &ClaimWords<'_>) -> Result<Claim, AllocError
         ClaimWords::Reach(dir, label) => {
             let label = Vec::from_slice(alloc, label)?;
             Ok(Claim::Reach { dir: *dir, label })
+        }
+        ClaimWords::Until(dir, stay, label) => {
+            let stay = Vec::from_slice(alloc, stay)?;
+            let label = Vec::from_slice(alloc, label)?;
+            Ok(Claim::Until {
+                dir: *dir,
+                stay,
+                label,
+            })
         }
         ClaimWords::Reward(dir, name, label) => {
             let name = Vec::from_slice(alloc, name)?;

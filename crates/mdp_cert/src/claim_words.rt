@@ -8,6 +8,8 @@ pub(crate) enum ClaimWords<'a> {
     Upper(&'a [u8]),
     /// The probability of this label.
     Reach(Dir, &'a [u8]),
+    /// The probability of the second label by way of states with the first one.
+    Until(Dir, &'a [u8], &'a [u8]),
     /// The reward of this name up to this label.
     Reward(Dir, &'a [u8], &'a [u8]),
     /// The mean payoff of the reward of this name.

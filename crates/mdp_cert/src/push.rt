@@ -4,7 +4,7 @@ ghost use Rattle.mdp_cert.specs.{Cert.{plain_claim}, Runs.{run}, Spelling.{claim
 ghost use Rattle.mdp_text.specs.{Spelling.{line}, Answer.{Keeps}};
 
 use crate::claim::Claim;
-use crate::claim_line::{mean_front, reach_front, reward_front, witness_front};
+use crate::claim_line::{mean_front, reach_front, reward_front, until_front, witness_front};
 use crate::entries::Entry;
 use mdp_num::{Frac, Memory};
 use mdp_text::Part::{Bytes, Fraction, Whole};
@@ -111,6 +111,7 @@ pub fn push_claim(out: &mut Vec<u8>, claim: &Claim) -> Result<(), Memory>
     match claim {
         Claim::Upper { label } => push_quoted(out, b"claim upper reach \"", label),
         Claim::Reach { dir, label } => push_quoted(out, reach_front(*dir), label),
+        Claim::Until { dir, stay, label } => push_two_quoted(out, until_front(*dir), stay, label),
         Claim::Reward { dir, name, label } => {
             push_two_quoted(out, reward_front(*dir), name, label)
         }

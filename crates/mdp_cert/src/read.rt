@@ -81,7 +81,7 @@ fn body_from<'a>(
             let (values, line, rest) = entries_to_end(alloc, version, states, 5, bytes)?;
             Ok((Body::Upper(UpperCert { values }), line, rest))
         }
-        Claim::Reach { .. } => {
+        Claim::Reach { .. } | Claim::Until { .. } => {
             let (entries, line, rest) = entries_to_end(alloc, version, states, 5, bytes)?;
             placed(reach_body(alloc, &entries), line, rest)
         }

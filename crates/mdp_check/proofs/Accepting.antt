@@ -11,13 +11,14 @@ use Rattle.mdp_farkas.proofs.RewardRules.{reward_rules, reward_max, reward_min}
 use Rattle.mdp_claims.specs.{declared.verdict.Verdict.{Verdict}, declared.subsystem.Flow.{Flow}}
 use Rattle.mdp_claims.specs.declared.verdict.Verdict.TheVariants as verdict
 use Rattle.mdp_rows.specs.{declared.dir.Dir.{Dir}, declared.dir.Dir.TheVariants.{Max, Min}}
-use Rattle.mdp_cert.specs.Cert.{PlainClaim, upper, reach, reward, mean, witness, PlainBody, bounds, policy, rewards, gains, flow, floor, Certificate, is_body_of}
+use Rattle.mdp_cert.specs.Cert.{PlainClaim, upper, reach, until, reward, mean, witness, PlainBody, bounds, policy, rewards, gains, flow, floor, Certificate, is_body_of}
 use Rattle.mdp_cert.proofs.Growth.{policy-entries, reward-entries, gains-entries}
 use Rattle.mdp_subsystem_rules.specs.{FlowChecks.{flow_checks, HoldsFlow}, FloorChecks.{floor_checks, HoldsFloor}}
 use Rattle.mdp_subsystem_rules.proofs.{FlowRules.{flow_rules, flow_sub_max, flow_within}, FloorRules.{floor_rules, floor_sub_min}}
 use Rattle.mdp_text.specs.declared.init.Init.{Init}
+use Rattle.mdp_spec.proofs.{Subsystem.{sub-states, sub_is_mdp}, Until.{until_max_exact, until_min_exact}}
 use Rattle.mdp_check.specs.Initial.{init_check, start_of}
-use Rattle.mdp_check.specs.Check.{reward_place, labelled_marks, goal_marks, answer_of, verdict_by, body_verdict, after_init, at_goals, at_reward, answer_to, valid_by, IsAccepted, bound_by, IsBound}
+use Rattle.mdp_check.specs.Check.{reward_place, labelled_marks, marks_on_way, stay_marks, way_of, goal_marks, answer_of, verdict_by, body_verdict, after_init, at_goals, at_reward, answer_to, valid_by, IsAccepted, bound_by, IsBound}
 use Rattle.mdp_check.specs.{declared.answer.Answer.{Answer}, declared.answer.Answer.TheVariants.{Yes, Size}}
 use Rattle.mdp_check.proofs.Shapes.{flow_shape, floor_shape, start_below}
 
@@ -59,6 +60,11 @@ one_mark_each m label goals e = by (place_of label m.labels) e
 pub goals_count : (m : Mdp) (claim : PlainClaim) (goals : List Bool) → goal_marks m claim ≡ Some goals → length goals ≡ states_of m
 goals_count m (upper label) goals e = one_mark_each m label goals e
 goals_count m (reach dir label) goals e = one_mark_each m label goals e
+goals_count m (until dir stay label) goals e = on_way (place_of stay m.labels) e
+  where
+    on_way : (o : Option ℕ) → marks_on_way m label o ≡ Some goals → length goals ≡ states_of m
+    on_way None e = cc e
+    on_way (Some l) e = one_mark_each m label goals e
 goals_count m (reward dir name label) goals e = one_mark_each m label goals e
 goals_count m (mean dir name) goals e =
     let is : replicate (states_of m) false ≡ goals = cc e in sym (ap (λ (xs : List Bool). length xs) is) ∙ length-replicate (states_of m) false
@@ -78,6 +84,14 @@ module _ (m : Mdp) (r : ℕ) (goals : List Bool) (init : Init) (states : ℕ) (s
   abbrev reach_verdict : Dir → List ℚ → List ℕ → List ℕ → Verdict
   reach_verdict dir z choices ranks = verdict_of (reach_checks dir m goals z choices ranks)
 
+  abbrev until_verdict : Dir → List ℕ → List ℚ → List ℕ → List ℕ → Verdict
+  until_verdict dir stay z choices ranks = verdict_of (reach_checks dir (way_of m goals stay) goals z choices ranks)
+
+  -- the subsystem has the states of the model
+  until_choices : (dir : Dir) (stay label : List ℕ) (z : List ℚ) (choices ranks : List ℕ) → is_body_of (until dir stay label) states (policy z choices ranks) ≡ true
+      → length choices ≡ states_of (way_of m goals stay)
+  until_choices dir stay label z choices ranks fits = (policy-entries (until dir stay label) states z choices ranks fits).choices ∙ size ∙ sym (sub-states m goals (stay_marks m stay))
+
   upper_rules_of : (z : List ℚ) → (verdict_of (upper_checks m goals z) ≡ verdict.Yes) ↔ IsUpper m goals z
   upper_rules_of z = upper_rules m goals z (verdict_of (upper_checks m goals z)) refl
 
@@ -85,6 +99,11 @@ module _ (m : Mdp) (r : ℕ) (goals : List Bool) (init : Init) (states : ℕ) (s
       → (reach_verdict dir z choices ranks ≡ verdict.Yes) ↔ IsReach dir m goals z choices ranks
   reach_rules_of dir label z choices ranks fits =
       reach_rules m goals z choices ranks dir (reach_verdict dir z choices ranks) ((policy-entries (reach dir label) states z choices ranks fits).choices ∙ size) refl
+
+  until_rules_of : (dir : Dir) (stay label : List ℕ) (z : List ℚ) (choices ranks : List ℕ) → is_body_of (until dir stay label) states (policy z choices ranks) ≡ true
+      → (until_verdict dir stay z choices ranks ≡ verdict.Yes) ↔ IsReach dir (way_of m goals stay) goals z choices ranks
+  until_rules_of dir stay label z choices ranks fits =
+      reach_rules (way_of m goals stay) goals z choices ranks dir (until_verdict dir stay z choices ranks) (until_choices dir stay label z choices ranks fits) refl
 
   reward_rules_of : (dir : Dir) (name label : List ℕ) (v : List (Option ℚ)) (choices ranks : List ℕ) → place_of name m.names ≡ Some r
       → is_body_of (reward dir name label) states (rewards v choices ranks) ≡ true → (rewards_verdict dir v choices ranks ≡ verdict.Yes) ↔ IsReward dir m r goals v choices ranks
@@ -128,6 +147,12 @@ module _ (m : Mdp) (r : ℕ) (goals : List Bool) (init : Init) (states : ℕ) (s
   body_rules (reach dir label) (gains g bound bias choices k) named marked fits rule1 = absurd (let t = fits in cc)
   body_rules (reach dir label) (flow kept wide flows) named marked fits rule1 = absurd (let t = fits in cc)
   body_rules (reach dir label) (floor kept wide values ranks) named marked fits rule1 = absurd (let t = fits in cc)
+  body_rules (until dir stay label) (bounds z) named marked fits rule1 = absurd (let t = fits in cc)
+  body_rules (until dir stay label) (policy z choices ranks) named marked fits rule1 = until_rules_of dir stay label z choices ranks fits
+  body_rules (until dir stay label) (rewards v choices ranks) named marked fits rule1 = absurd (let t = fits in cc)
+  body_rules (until dir stay label) (gains g bound bias choices k) named marked fits rule1 = absurd (let t = fits in cc)
+  body_rules (until dir stay label) (flow kept wide flows) named marked fits rule1 = absurd (let t = fits in cc)
+  body_rules (until dir stay label) (floor kept wide values ranks) named marked fits rule1 = absurd (let t = fits in cc)
   body_rules (reward dir name label) (bounds z) named marked fits rule1 = absurd (let t = fits in cc)
   body_rules (reward dir name label) (policy z choices ranks) named marked fits rule1 = absurd (let t = fits in cc)
   body_rules (reward dir name label) (rewards v choices ranks) named marked fits rule1 = reward_rules_of dir name label v choices ranks named fits
@@ -159,6 +184,17 @@ module _ (m : Mdp) (r : ℕ) (goals : List Bool) (init : Init) (states : ℕ) (s
       of_if_yes _ _ (reach_max m goals z choices ranks Max (reach_verdict Max z choices ranks) is ((policy-entries (reach Max label) states z choices ranks fits).choices ∙ size) refl refl) e
   reach_bound Min label z choices ranks is fits e =
       of_if_yes _ _ (reach_min m goals z choices ranks Min (reach_verdict Min z choices ranks) is ((policy-entries (reach Min label) states z choices ranks fits).choices ∙ size) refl refl) e
+
+  until_bound : (dir : Dir) (stay label : List ℕ) (z : List ℚ) (choices ranks : List ℕ) → IsMdp m → is_body_of (until dir stay label) states (policy z choices ranks) ≡ true
+      → until_verdict dir stay z choices ranks ≡ verdict.Yes → bound_by m r goals start (until dir stay label) (policy z choices ranks)
+  until_bound Max stay label z choices ranks is fits e =
+      until_max_exact m (stay_marks m stay) goals is z choices
+      (of_if_yes _ _ (reach_max (way_of m goals stay) goals z choices ranks Max (until_verdict Max stay z choices ranks) (sub_is_mdp m goals (stay_marks m stay) is)
+      (until_choices Max stay label z choices ranks fits) refl refl) e)
+  until_bound Min stay label z choices ranks is fits e =
+      until_min_exact m (stay_marks m stay) goals is z choices
+      (of_if_yes _ _ (reach_min (way_of m goals stay) goals z choices ranks Min (until_verdict Min stay z choices ranks) (sub_is_mdp m goals (stay_marks m stay) is)
+      (until_choices Min stay label z choices ranks fits) refl refl) e)
 
   reward_bound : (dir : Dir) (name label : List ℕ) (v : List (Option ℚ)) (choices ranks : List ℕ) → IsMdp m → place_of name m.names ≡ Some r
       → is_body_of (reward dir name label) states (rewards v choices ranks) ≡ true → rewards_verdict dir v choices ranks ≡ verdict.Yes
@@ -219,6 +255,12 @@ module _ (m : Mdp) (r : ℕ) (goals : List Bool) (init : Init) (states : ℕ) (s
   body_bound (reach dir label) (gains g bound bias choices k) is named marked fits rule1 e = absurd (let t = fits in cc)
   body_bound (reach dir label) (flow kept wide flows) is named marked fits rule1 e = absurd (let t = fits in cc)
   body_bound (reach dir label) (floor kept wide values ranks) is named marked fits rule1 e = absurd (let t = fits in cc)
+  body_bound (until dir stay label) (bounds z) is named marked fits rule1 e = absurd (let t = fits in cc)
+  body_bound (until dir stay label) (policy z choices ranks) is named marked fits rule1 e = until_bound dir stay label z choices ranks is fits e
+  body_bound (until dir stay label) (rewards v choices ranks) is named marked fits rule1 e = absurd (let t = fits in cc)
+  body_bound (until dir stay label) (gains g bound bias choices k) is named marked fits rule1 e = absurd (let t = fits in cc)
+  body_bound (until dir stay label) (flow kept wide flows) is named marked fits rule1 e = absurd (let t = fits in cc)
+  body_bound (until dir stay label) (floor kept wide values ranks) is named marked fits rule1 e = absurd (let t = fits in cc)
   body_bound (reward dir name label) (bounds z) is named marked fits rule1 e = absurd (let t = fits in cc)
   body_bound (reward dir name label) (policy z choices ranks) is named marked fits rule1 e = absurd (let t = fits in cc)
   body_bound (reward dir name label) (rewards v choices ranks) is named marked fits rule1 e = reward_bound dir name label v choices ranks is named fits e

@@ -1,5 +1,5 @@
 -- A certificate of bounds is answered yes exactly where it is accepted, and then its claim is true.
-use Rattle.std.proofs.Common.{◌≡◌, ◌↔◌, ℕ, Bool, true, cond, List, length, eqb, eqb-true, eq-eqb, Option, Some, None, refl, ap, ◌∙◌}
+use Rattle.std.proofs.Common.{sym, ◌≡◌, ◌↔◌, ℕ, Bool, true, cond, List, length, eqb, eqb-true, eq-eqb, Option, Some, None, refl, ap, ◌∙◌}
 use Rattle.mdp_math.specs.Rational.{ℚ}
 use Rattle.mdp_spec.specs.{Mdp.{Mdp, states_of}, Labels.{place_of, initial_of}, Row.{IsMdp}}
 use Rattle.mdp_rows.specs.{declared.dir.Dir.{Dir}, declared.dir.Dir.TheVariants.{Max, Min}}
@@ -9,10 +9,11 @@ use Rattle.mdp_claims.specs.declared.verdict.Verdict.TheVariants as verdict
 use Rattle.mdp_bounds.specs.{Reach.{bounds_checks, IsReachBounds}, Reward.{reward_bounds_checks, IsRewardBounds}, Mean.{mean_bounds_checks, IsMeanBounds}}
 use Rattle.mdp_bounds.proofs.{ReachRules.{bounds_rules, bounds_max, bounds_min}, RewardRules.{reward_bounds_rules, reward_bounds_max, reward_bounds_min}}
 use Rattle.mdp_bounds.proofs.MeanRules.{mean_bounds_rules, mean_bounds_max, mean_bounds_min}
-use Rattle.mdp_cert.specs.Cert.{PlainClaim, upper, reach, reward, mean, witness}
+use Rattle.mdp_cert.specs.Cert.{PlainClaim, upper, reach, until, reward, mean, witness}
 use Rattle.mdp_cert.specs.BoundsCert.{PlainBounds, probabilities, rewards, gains, Certificate, is_body_of}
+use Rattle.mdp_spec.proofs.{Subsystem.{sub-states, sub_is_mdp}, Until.{until_max_of_sub, until_min_of_sub}}
 use Rattle.mdp_check.proofs.{Accepting.{by_size, yes_verdict, both_yes, of_if_yes, below_names, by_body}, BoundsShapes.{are_four, are_five}}
-use Rattle.mdp_check.specs.{Check.{reward_place, goal_marks, answer_of, after_init}, BoundsInitial.{bounds_init_check}}
+use Rattle.mdp_check.specs.{Check.{reward_place, goal_marks, stay_marks, way_of, answer_of, after_init}, BoundsInitial.{bounds_init_check}}
 use Rattle.mdp_check.specs.Bounds.{bounds_verdict_by, bounds_verdict, bounds_at_goals, bounds_at_reward, bounds_answer_to, valid_bounds_by, IsBoundsAccepted, between_by, IsBoundsTrue}
 use Rattle.mdp_check.specs.declared.answer.Answer.TheVariants.{Yes, Size}
 
@@ -43,6 +44,30 @@ module _ (m : Mdp) (known : IsMdp m) (r : ℕ) (goals : List Bool) (states : ℕ
   reach_between Min label low high choices ranks fits e =
       of_if_yes _ _
       (bounds_min m known goals low high choices ranks Min (reach_verdict Min low high choices ranks) (one_choice Min low high choices ranks label fits) refl refl) e
+
+  abbrev until_verdict : Dir → List ℕ → List ℚ → List ℚ → List ℕ → List ℕ → Verdict
+  until_verdict dir stay low high choices ranks = verdict_of (bounds_checks dir (way_of m goals stay) goals low high choices ranks)
+
+  way_known : (stay : List ℕ) → IsMdp (way_of m goals stay)
+  way_known stay = sub_is_mdp m goals (stay_marks m stay) known
+
+  module _ (dir : Dir) (low high : List ℚ) (choices ranks stay label : List ℕ) (fits : is_body_of (until dir stay label) states (probabilities low high choices ranks) ≡ true) where
+    until_choices : length choices ≡ states_of (way_of m goals stay)
+    until_choices = (are_four states (length low) (length high) (length choices) (length ranks) fits).third ∙ size ∙ sym (sub-states m goals (stay_marks m stay))
+
+    until_rules : (until_verdict dir stay low high choices ranks ≡ verdict.Yes) ↔ IsReachBounds dir (way_of m goals stay) goals low high choices ranks
+    until_rules = bounds_rules (way_of m goals stay) (way_known stay) goals low high choices ranks dir (until_verdict dir stay low high choices ranks) until_choices refl
+
+  until_between : (dir : Dir) (stay label : List ℕ) (low high : List ℚ) (choices ranks : List ℕ) → is_body_of (until dir stay label) states (probabilities low high choices ranks) ≡ true
+      → until_verdict dir stay low high choices ranks ≡ verdict.Yes → between_by m r goals (until dir stay label) (probabilities low high choices ranks)
+  until_between Max stay label low high choices ranks fits e =
+      until_max_of_sub m (stay_marks m stay) goals known low high choices
+      (of_if_yes _ _ (bounds_max (way_of m goals stay) (way_known stay) goals low high choices ranks Max (until_verdict Max stay low high choices ranks)
+      (until_choices Max low high choices ranks stay label fits) refl refl) e)
+  until_between Min stay label low high choices ranks fits e =
+      until_min_of_sub m (stay_marks m stay) goals known low high choices
+      (of_if_yes _ _ (bounds_min (way_of m goals stay) (way_known stay) goals low high choices ranks Min (until_verdict Min stay low high choices ranks)
+      (until_choices Min low high choices ranks stay label fits) refl refl) e)
 
   reward_rules : (dir : Dir) (name label : List ℕ) (low high : List (Option ℚ)) (choices ranks : List ℕ) → place_of name m.names ≡ Some r
       → is_body_of (reward dir name label) states (rewards low high choices ranks) ≡ true
@@ -96,6 +121,9 @@ module _ (m : Mdp) (known : IsMdp m) (r : ℕ) (goals : List Bool) (states : ℕ
   body_rules (reach dir label) (probabilities low high choices ranks) named fits = reach_rules dir low high choices ranks label fits
   body_rules (reach dir label) (rewards low high choices ranks) named fits = absurd (let t = fits in cc)
   body_rules (reach dir label) (gains low high bound bias choices k) named fits = absurd (let t = fits in cc)
+  body_rules (until dir stay label) (probabilities low high choices ranks) named fits = until_rules dir low high choices ranks stay label fits
+  body_rules (until dir stay label) (rewards low high choices ranks) named fits = absurd (let t = fits in cc)
+  body_rules (until dir stay label) (gains low high bound bias choices k) named fits = absurd (let t = fits in cc)
   body_rules (reward dir name label) (probabilities low high choices ranks) named fits = absurd (let t = fits in cc)
   body_rules (reward dir name label) (rewards low high choices ranks) named fits = reward_rules dir name label low high choices ranks named fits
   body_rules (reward dir name label) (gains low high bound bias choices k) named fits = absurd (let t = fits in cc)
@@ -114,6 +142,9 @@ module _ (m : Mdp) (known : IsMdp m) (r : ℕ) (goals : List Bool) (states : ℕ
   body_between (reach dir label) (probabilities low high choices ranks) named fits e = reach_between dir label low high choices ranks fits e
   body_between (reach dir label) (rewards low high choices ranks) named fits e = absurd (let t = fits in cc)
   body_between (reach dir label) (gains low high bound bias choices k) named fits e = absurd (let t = fits in cc)
+  body_between (until dir stay label) (probabilities low high choices ranks) named fits e = until_between dir stay label low high choices ranks fits e
+  body_between (until dir stay label) (rewards low high choices ranks) named fits e = absurd (let t = fits in cc)
+  body_between (until dir stay label) (gains low high bound bias choices k) named fits e = absurd (let t = fits in cc)
   body_between (reward dir name label) (probabilities low high choices ranks) named fits e = absurd (let t = fits in cc)
   body_between (reward dir name label) (rewards low high choices ranks) named fits e = reward_between dir name label low high choices ranks named fits e
   body_between (reward dir name label) (gains low high bound bias choices k) named fits e = absurd (let t = fits in cc)

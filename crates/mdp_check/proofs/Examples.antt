@@ -5,11 +5,11 @@ use Rattle.std.specs.Prelude.{codes}
 use Rattle.mdp_math.specs.{Gcd.{gcd, gcd_with_fuel}, Rational.{ℚ, of_int, ratio, lt_ℚ, neg_ℚ, ◌+ℚ◌, ◌*ℚ◌}}
 use Rattle.mdp_math.specs.Written.{narrow, narrow_ℚ, written_add, written_mul, written_compare}
 use Rattle.mdp_math.proofs.Tables.{AreEqual}
-use Rattle.mdp_spec.specs.Mdp.{Entry, Choice, Mdp}
+use Rattle.mdp_spec.specs.{Mdp.{Entry, Choice, Mdp}, Sub.{sub_of}}
 use Rattle.mdp_spec.proofs.Small.{entry, half, nought, one, third}
 use Rattle.mdp_rows.specs.{declared.dir.Dir.{Dir}, declared.dir.Dir.TheVariants.{Max, Min}}
 use Rattle.mdp_text.specs.{declared.init.Init.{Init}, declared.init.Init.TheVariants.{Missing, Finite, Infinite, Start}}
-use Rattle.mdp_cert.specs.Cert.{upper, reach, reward, mean, witness, bounds, policy, rewards, gains, flow, floor, Certificate}
+use Rattle.mdp_cert.specs.Cert.{upper, reach, until, reward, mean, witness, bounds, policy, rewards, gains, flow, floor, Certificate}
 use Rattle.mdp_check.specs.{Check.{answer_to}, declared.answer.Answer.TheVariants.{Yes, No, NoReward, NoLabel, Size}}
 use Rattle.mdp_claims.specs.declared.rule.Rule.TheVariants.{BoundOnEachChoice, ChoiceExists, FiniteRankFalls, FlowsReachGoals, InitialState, RankFalls}
 use Rattle.mdp_claims.specs.declared.rule.Rule.TheVariants.{StartReachesThreshold}
@@ -51,6 +51,23 @@ upper_answers : AreEqual (
     )
 unfolding gcd gcd_with_fuel ratio of_int ◌+ℚ◌ ◌*ℚ◌ narrow narrow_ℚ written_add written_mul written_compare lt_ℚ
 upper_answers = refl
+
+-- ---- until: by way of state 0, which has the label `init`, the goal is reached with 1/3; by way of the goal alone it isn't reached from there
+
+abbrev way_to : List ℕ → ℚ → ℕ → Certificate
+way_to stay value step =
+    record { claim = until Max stay (codes "goal"); states = 3; init = Finite 0 value; body = policy (value ∷ one ∷ nought ∷ []) (step ∷ 0 ∷ 0 ∷ []) (step ∷ 0 ∷ 0 ∷ []) }
+
+until_answers : AreEqual (
+    (answer_to three (way_to (codes "init") third 1), Yes) ∷  -- by way of state 0
+    -- there state 0 is left with a loop: it has no choice 1, and reaches nothing
+    (answer_to three (way_to (codes "goal") third 1), No (record { rule = ChoiceExists; state = Some 0; choice = Some 1 })) ∷
+    (answer_to three (way_to (codes "goal") nought 0), Yes) ∷  -- left with its loop
+    (answer_to three (way_to (codes "safe") third 1), NoLabel) ∷  -- no label on the way
+    []
+    )
+unfolding gcd gcd_with_fuel ratio of_int ◌+ℚ◌ ◌*ℚ◌ narrow narrow_ℚ written_add written_mul written_compare lt_ℚ sub_of
+until_answers = refl
 
 -- ---- rewards until a goal
 

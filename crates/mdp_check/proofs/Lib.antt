@@ -1,4 +1,5 @@
 pub mod Shapes
+pub mod Ways
 pub mod Accepting
 pub mod BoundsShapes
 pub mod BoundsAccepting

@@ -1,14 +1,15 @@
 -- What holding a certificate of bounds against a model answers, and what a yes means.
 use Rattle.std.specs.Prelude.{◌≡◌, ℕ, Bool, IsTrue, List, Option, Some, None, ◌==◌, if◌then◌else◌}
 use Rattle.mdp_spec.specs.{Mdp.{Mdp, states_of}, Labels.{initial_of}}
+use Rattle.mdp_spec.specs.Until.{UntilMaxBetween, UntilMinBetween}
 use Rattle.mdp_spec.specs.Between.{ReachMaxBetween, ReachMinBetween, RewardMaxBetween, RewardMinBetween, MeanMaxBetween, MeanMinBetween}
 use Rattle.mdp_rows.specs.declared.dir.Dir.TheVariants.{Max, Min}
 use Rattle.mdp_farkas.specs.{Initial.{init_fault}, Verdict.{verdict_of}}
 use Rattle.mdp_claims.specs.declared.verdict.Verdict.{Verdict}
 use Rattle.mdp_claims.specs.declared.verdict.Verdict.TheVariants as verdict
 use Rattle.mdp_bounds.specs.{Reach.{bounds_checks, IsReachBounds}, Reward.{reward_bounds_checks, IsRewardBounds}, Mean.{mean_bounds_checks, IsMeanBounds}}
-use Rattle.mdp_cert.specs.{Cert.{PlainClaim, reach, reward, mean}, BoundsCert.{PlainBounds, probabilities, rewards, gains, Certificate, is_body_of}}
-use Rattle.mdp_check.specs.{Check.{reward_place, goal_marks, answer_of, after_init}, BoundsInitial.{bounds_init_check}, declared.answer.Answer.{Answer}}
+use Rattle.mdp_cert.specs.{Cert.{PlainClaim, reach, until, reward, mean}, BoundsCert.{PlainBounds, probabilities, rewards, gains, Certificate, is_body_of}}
+use Rattle.mdp_check.specs.{Check.{reward_place, goal_marks, stay_marks, way_of, answer_of, after_init}, BoundsInitial.{bounds_init_check}, declared.answer.Answer.{Answer}}
 use Rattle.mdp_check.specs.declared.answer.Answer.TheVariants.{NoReward, NoLabel, Size}
 
 -- ---- the answer
@@ -16,6 +17,7 @@ use Rattle.mdp_check.specs.declared.answer.Answer.TheVariants.{NoReward, NoLabel
 -- what the rules of the claim from rule 2 on say of the body, for the reward model of place r and these goals; of another claim's body, that it isn't one
 abbrev pub bounds_verdict_by : Mdp → ℕ → List Bool → PlainClaim → PlainBounds → Verdict
 bounds_verdict_by m r goals (reach dir label) (probabilities lower upper choices ranks) = verdict_of (bounds_checks dir m goals lower upper choices ranks)
+bounds_verdict_by m r goals (until dir stay label) (probabilities lower upper choices ranks) = verdict_of (bounds_checks dir (way_of m goals stay) goals lower upper choices ranks)
 bounds_verdict_by m r goals (reward dir name label) (rewards lower upper choices ranks) = verdict_of (reward_bounds_checks dir m r goals lower upper choices ranks)
 bounds_verdict_by m r goals (mean dir name) (gains lower upper bound bias choices spread) = verdict_of (mean_bounds_checks dir m r lower upper bound bias spread choices)
 bounds_verdict_by m r goals claim body = init_fault None
@@ -41,6 +43,7 @@ bounds_answer_to m c = if c.states == states_of m then bounds_at_goals m c (goal
 -- the rules of the claim from rule 2 on hold in exact numbers, and no sum that a check makes is past width
 abbrev pub valid_bounds_by : Mdp → ℕ → List Bool → PlainClaim → PlainBounds → Type 0
 valid_bounds_by m r goals (reach dir label) (probabilities lower upper choices ranks) = IsReachBounds dir m goals lower upper choices ranks
+valid_bounds_by m r goals (until dir stay label) (probabilities lower upper choices ranks) = IsReachBounds dir (way_of m goals stay) goals lower upper choices ranks
 valid_bounds_by m r goals (reward dir name label) (rewards lower upper choices ranks) = IsRewardBounds dir m r goals lower upper choices ranks
 valid_bounds_by m r goals (mean dir name) (gains lower upper bound bias choices spread) = IsMeanBounds dir m r lower upper bound bias spread choices
 valid_bounds_by m r goals claim body = ⊥
@@ -65,6 +68,8 @@ pub record IsBoundsAccepted (m : Mdp) (c : Certificate) : Type 0 where
 abbrev pub between_by : Mdp → ℕ → List Bool → PlainClaim → PlainBounds → Type 0
 between_by m r goals (reach Max label) (probabilities lower upper choices ranks) = ReachMaxBetween m goals lower upper choices
 between_by m r goals (reach Min label) (probabilities lower upper choices ranks) = ReachMinBetween m goals lower upper choices
+between_by m r goals (until Max stay label) (probabilities lower upper choices ranks) = UntilMaxBetween m (stay_marks m stay) goals lower upper choices
+between_by m r goals (until Min stay label) (probabilities lower upper choices ranks) = UntilMinBetween m (stay_marks m stay) goals lower upper choices
 between_by m r goals (reward Max name label) (rewards lower upper choices ranks) = RewardMaxBetween m r goals choices lower upper
 between_by m r goals (reward Min name label) (rewards lower upper choices ranks) = RewardMinBetween m r goals choices lower upper
 between_by m r goals (mean Max name) (gains lower upper bound bias choices spread) = MeanMaxBetween m r lower upper spread choices

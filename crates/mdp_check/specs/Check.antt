@@ -2,9 +2,10 @@
 use Rattle.std.specs.Prelude.{◌≡◌, ℕ, Bool, false, IsTrue, List, Option, Some, None, option_map, ◌==◌, if◌then◌else◌}
 use Rattle.std.proofs.Math.ListN.{replicate}
 use Rattle.mdp_spec.specs.{Mdp.{Mdp, states_of}, Labels.{place_of, marks_of, initial_of}}
+use Rattle.mdp_spec.specs.{Sub.{sub_of}, Until.{UntilMax, UntilMin}}
 use Rattle.mdp_spec.specs.Bounds.{Above, ReachMax, ReachMin, RewardMax, RewardMin, MeanMax, MeanMin, SubMax, SubMaxWithin, SubMin}
 use Rattle.mdp_rows.specs.declared.dir.Dir.TheVariants.{Max, Min}
-use Rattle.mdp_cert.specs.Cert.{PlainClaim, upper, reach, reward, mean, witness, PlainBody, bounds, policy, rewards, gains, flow, floor, Certificate, is_body_of}
+use Rattle.mdp_cert.specs.Cert.{PlainClaim, upper, reach, until, reward, mean, witness, PlainBody, bounds, policy, rewards, gains, flow, floor, Certificate, is_body_of}
 use Rattle.mdp_farkas.specs.{Upper.{upper_checks, IsUpper}, Reach.{reach_checks, IsReach}, Reward.{reward_checks, IsReward}, Mean.{mean_checks, IsMean}}
 use Rattle.mdp_farkas.specs.{Verdict.{verdict_of}, Initial.{init_fault}}
 use Rattle.mdp_subsystem_rules.specs.{Flow.{flow_total}, Kept.{kept_marks}, FlowChecks.{flow_checks, HoldsFlow}, FloorChecks.{floor_checks, HoldsFloor}}
@@ -19,6 +20,7 @@ use Rattle.mdp_check.specs.declared.answer.Answer.TheVariants.{Yes, No, Wide, No
 abbrev pub reward_place : Mdp → PlainClaim → Option ℕ
 reward_place m (upper label) = Some 0
 reward_place m (reach dir label) = Some 0
+reward_place m (until dir stay label) = Some 0
 reward_place m (reward dir name label) = place_of name m.names
 reward_place m (mean dir name) = place_of name m.names
 reward_place m (witness dir label threshold) = Some 0
@@ -27,10 +29,28 @@ reward_place m (witness dir label threshold) = Some 0
 abbrev pub labelled_marks : Mdp → List ℕ → Option (List Bool)
 labelled_marks m label = option_map (marks_of m) (place_of label m.labels)
 
+-- the same of a way to them, by the place of the label of the states on it: the model has this one too
+abbrev pub marks_on_way : Mdp → List ℕ → Option ℕ → Option (List Bool)
+marks_on_way m label None = None
+marks_on_way m label (Some l) = labelled_marks m label
+
+-- the states on the way: those with this label, none where the model hasn't it
+abbrev pub stays_at : Mdp → Option ℕ → List Bool
+stays_at m None = replicate (states_of m) false
+stays_at m (Some l) = marks_of m l
+
+abbrev pub stay_marks : Mdp → List ℕ → List Bool
+stay_marks m stay = stays_at m (place_of stay m.labels)
+
+-- the model on which the rules of reaching a goal are held: each state that is neither on the way nor a goal is left with a loop
+abbrev pub way_of : Mdp → List Bool → List ℕ → Mdp
+way_of m goals stay = sub_of m goals (stay_marks m stay)
+
 -- the goals: which states have the claim's label; no state where the claim names none
 abbrev pub goal_marks : Mdp → PlainClaim → Option (List Bool)
 goal_marks m (upper label) = labelled_marks m label
 goal_marks m (reach dir label) = labelled_marks m label
+goal_marks m (until dir stay label) = marks_on_way m label (place_of stay m.labels)
 goal_marks m (reward dir name label) = labelled_marks m label
 goal_marks m (mean dir name) = Some (replicate (states_of m) false)
 goal_marks m (witness dir label threshold) = labelled_marks m label
@@ -47,6 +67,7 @@ answer_of (verdict.Wide state choice) = Wide state choice
 abbrev pub verdict_by : Mdp → ℕ → List Bool → ℕ → PlainClaim → PlainBody → Verdict
 verdict_by m r goals start (upper label) (bounds z) = verdict_of (upper_checks m goals z)
 verdict_by m r goals start (reach dir label) (policy z choices ranks) = verdict_of (reach_checks dir m goals z choices ranks)
+verdict_by m r goals start (until dir stay label) (policy z choices ranks) = verdict_of (reach_checks dir (way_of m goals stay) goals z choices ranks)
 verdict_by m r goals start (reward dir name label) (rewards v choices ranks) = verdict_of (reward_checks dir m r goals v choices ranks)
 verdict_by m r goals start (mean dir name) (gains g bound bias choices spread) = verdict_of (mean_checks dir m r g bound bias spread choices)
 verdict_by m r goals start (witness Max label t) (flow kept wide flows) = verdict_of (flow_checks m goals start t kept flows)
@@ -80,6 +101,7 @@ answer_to m c = if c.states == states_of m then at_reward m c (reward_place m c.
 abbrev pub valid_by : Mdp → ℕ → List Bool → ℕ → PlainClaim → PlainBody → Type 0
 valid_by m r goals start (upper label) (bounds z) = IsUpper m goals z
 valid_by m r goals start (reach dir label) (policy z choices ranks) = IsReach dir m goals z choices ranks
+valid_by m r goals start (until dir stay label) (policy z choices ranks) = IsReach dir (way_of m goals stay) goals z choices ranks
 valid_by m r goals start (reward dir name label) (rewards v choices ranks) = IsReward dir m r goals v choices ranks
 valid_by m r goals start (mean dir name) (gains g bound bias choices spread) = IsMean dir m r g bound bias spread choices
 valid_by m r goals start (witness Max label t) (flow kept wide flows) = HoldsFlow m goals start t kept flows
@@ -102,13 +124,15 @@ pub record IsAccepted (m : Mdp) (c : Certificate) : Type 0 where
   pub body : IsValidBody m reward goals c
 
 -- the claim, for the reward model of place r and these goals: for upper bounds, that no strategy tree passes them; for a direction, that the
--- values are the greatest, or the least, probabilities of reaching a goal, or rewards until a goal, and the policy comes close to them; that
+-- values are the greatest, or the least, probabilities of reaching a goal, also by way of some states alone, or rewards until a goal, and the policy comes close to them; that
 -- the gains are the greatest, or the least, mean payoffs to within the spread; or that on the kept states alone some strategy tree from the
 -- initial state, or each deep one, comes close to the threshold or over it, some at a depth that the sum of the flows bounds
 abbrev pub bound_by : Mdp → ℕ → List Bool → ℕ → PlainClaim → PlainBody → Type 0
 bound_by m r goals start (upper label) (bounds z) = Above m goals z
 bound_by m r goals start (reach Max label) (policy z choices ranks) = ReachMax m goals z choices
 bound_by m r goals start (reach Min label) (policy z choices ranks) = ReachMin m goals z choices
+bound_by m r goals start (until Max stay label) (policy z choices ranks) = UntilMax m (stay_marks m stay) goals z choices
+bound_by m r goals start (until Min stay label) (policy z choices ranks) = UntilMin m (stay_marks m stay) goals z choices
 bound_by m r goals start (reward Max name label) (rewards v choices ranks) = RewardMax m r goals choices v
 bound_by m r goals start (reward Min name label) (rewards v choices ranks) = RewardMin m r goals choices v
 bound_by m r goals start (mean Max name) (gains g bound bias choices spread) = MeanMax m r g spread choices

@@ -1,4 +1,4 @@
-ghost use Rattle.std.specs.Prelude.{◌≡◌, ◌⊎◌, ◌↔◌, Some, length};
+ghost use Rattle.std.specs.Prelude.{◌≡◌, ◌⊎◌, ◌↔◌, IfOk, Some, length};
 ghost use Rattle.mdp_spec.specs.Mdp.{states_of};
 ghost use Rattle.mdp_cert.specs.{Cert.{plain_claim}, BoundsPlain.{plain}};
 ghost use Rattle.mdp_farkas.specs.Verdict.{IfYes, IsYes};
@@ -7,6 +7,7 @@ ghost use Rattle.mdp_check.specs.{Check.{reward_place}, Bounds.{bounds_verdict, 
 use crate::answer::{Answer, answer_of};
 use crate::bounds_initial::bounds_init_verdict;
 use crate::checking::{goal_marks, reward_place};
+use crate::until::until_bounds_verdict;
 use mdp_bounds::{holds_bounds_mean, holds_bounds_reach, holds_bounds_reward};
 use mdp_cert::{BoundsBody, BoundsCert, Claim};
 use mdp_farkas::{Verdict, init_denied};
@@ -15,25 +16,34 @@ use mdp_rows::{Marks, Model};
 use std::alloc::Global;
 
 /// What the rules of the claim from rule 2 on say of the body, for the claim's reward model and goals.
-fn bounds_verdict(model: &Model, reward: u32, goals: &Marks, cert: &BoundsCert) -> Verdict
+fn bounds_verdict(
+    alloc: Global,
+    model: &Model,
+    reward: u32,
+    goals: &Marks,
+    cert: &BoundsCert,
+) -> Result<Verdict, Memory>
     requires reward { reward_place model.now (plain_claim cert.now.claim) ≡ Some reward }
     requires goals { length goals.now ≡ states_of model.now }
     requires states { cert.now.states ≡ states_of model.now }
-    ensures verdict { result ≡ bounds_verdict model.now reward goals.now (plain cert.now) }
-    ensures rules { IsYes result ↔ AreValidBounds model.now reward goals.now (plain cert.now) }
-    ensures between { IfYes result (LiesBetween model.now reward goals.now (plain cert.now)) }
+    ensures verdict { IfOk result (λ v. v ≡ bounds_verdict model.now reward goals.now (plain cert.now)) }
+    ensures rules { IfOk result (λ v. IsYes v ↔ AreValidBounds model.now reward goals.now (plain cert.now)) }
+    ensures between { IfOk result (λ v. IfYes v (LiesBetween model.now reward goals.now (plain cert.now))) }
 {
     match (&cert.claim, &cert.body) {
         (Claim::Reach { dir, .. }, BoundsBody::Reach(reach)) => {
-            holds_bounds_reach(model, goals, *dir, reach)
+            Ok(holds_bounds_reach(model, goals, *dir, reach))
+        }
+        (Claim::Until { dir, stay, .. }, BoundsBody::Reach(reach)) => {
+            until_bounds_verdict(alloc, model, goals, *dir, stay, reach)
         }
         (Claim::Reward { dir, .. }, BoundsBody::Reward(rewards)) => {
-            holds_bounds_reward(model, reward, goals, *dir, rewards)
+            Ok(holds_bounds_reward(model, reward, goals, *dir, rewards))
         }
         (Claim::Mean { dir, .. }, BoundsBody::Mean(mean)) => {
-            holds_bounds_mean(model, reward, *dir, mean)
+            Ok(holds_bounds_mean(model, reward, *dir, mean))
         }
-        _ => init_denied(None),
+        _ => Ok(init_denied(None)),
     }
 }
 
@@ -56,7 +66,10 @@ pub fn check_bounds(alloc: Global, model: &Model, cert: &BoundsCert) -> Answer
         return Answer::NoReward;
     };
     match bounds_init_verdict(model, &cert.init, &cert.body) {
-        Verdict::Yes => answer_of(bounds_verdict(model, reward, &goals, cert)),
+        Verdict::Yes => match bounds_verdict(alloc, model, reward, &goals, cert) {
+            Ok(verdict) => answer_of(verdict),
+            Err(Memory) => Answer::Memory,
+        },
         other => answer_of(other),
     }
 }

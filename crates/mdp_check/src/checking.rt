@@ -6,6 +6,7 @@ ghost use Rattle.mdp_check.specs.Check.{reward_place, goal_marks, answer_to, bod
 
 use crate::answer::{Answer, answer_of};
 use crate::initial::{init_verdict, start_of};
+use crate::until::until_verdict;
 use mdp_cert::{Body, Cert, Claim};
 use mdp_farkas::{Verdict, holds_mean, holds_reach, holds_reward, holds_upper, init_denied};
 use mdp_num::Memory;
@@ -18,7 +19,8 @@ pub(crate) fn reward_place(model: &Model, claim: &Claim) -> Option<u32>
     ensures { result ≡ reward_place model.now (plain_claim claim.now) }
 {
     match claim {
-        Claim::Upper { .. } | Claim::Reach { .. } | Claim::Witness { .. } => Some(0),
+        Claim::Upper { .. } | Claim::Reach { .. } | Claim::Until { .. } | Claim::Witness { .. } =>
+            Some(0),
         Claim::Reward { name, .. } => model.reward_named(name),
         Claim::Mean { name, .. } => model.reward_named(name),
     }
@@ -35,6 +37,12 @@ pub(crate) fn goal_marks(
     let label = match claim {
         Claim::Upper { label } => label,
         Claim::Reach { label, .. } => label,
+        Claim::Until { stay, label, .. } => {
+            if model.label(stay).is_none() {
+                return Ok(None);
+            }
+            label
+        }
         Claim::Reward { label, .. } => label,
         Claim::Witness { label, .. } => label,
         Claim::Mean { .. } => return Ok(Some(Marks::empty(alloc, model.states())?)),
@@ -65,6 +73,9 @@ fn body_verdict(
         (Claim::Upper { .. }, Body::Upper(upper)) => Ok(holds_upper(model, goals, upper)),
         (Claim::Reach { dir, .. }, Body::Reach(reach)) => {
             Ok(holds_reach(model, goals, *dir, reach))
+        }
+        (Claim::Until { dir, stay, .. }, Body::Reach(reach)) => {
+            until_verdict(alloc, model, goals, *dir, stay, reach)
         }
         (Claim::Reward { dir, .. }, Body::Reward(rewards)) => {
             Ok(holds_reward(model, reward, goals, *dir, rewards))

@@ -7,6 +7,7 @@ mod bounds_initial;
 mod checking;
 mod initial;
 mod laws;
+mod until;
 
 pub use answer::Answer;
 pub use bounds::check_bounds;

@@ -12,7 +12,7 @@ use Rattle.mdp_claims.specs.declared.verdict.Verdict.TheVariants.{Yes}
 use Rattle.mdp_bounds.specs.{Reach.{IsReachBounds}, Reward.{IsRewardBounds}, Mean.{IsMeanBounds}}
 use Rattle.mdp_text.proofs.InitialState.{initial_below}
 use Rattle.mdp_cert.specs.Cert as certificate
-use Rattle.mdp_cert.specs.{Cert.{PlainClaim, reach, reward, mean}, Claims.{reward_same}}
+use Rattle.mdp_cert.specs.{Cert.{PlainClaim, reach, until, reward, mean}, Claims.{reward_same}}
 use Rattle.mdp_cert.specs.{BoundsCert.{PlainBounds, probabilities, rewards, gains, Certificate, Fits, may_be, is_init_of, is_body_of}, BoundsLaws.{IsReadBack}}
 use Rattle.mdp_cert.specs.{BoundsReading.{outcome}, BoundsSpelling.{text_of}}
 use Rattle.mdp_cert.proofs.BoundsBodies.{reach-counts, reward-counts, mean-counts}
@@ -113,6 +113,7 @@ init_inside claim n None body e below = refl
 init_inside claim n (Some s) (probabilities lower upper choices ranks) e below = ap (λ (b : Bool). b && true && true) (lt-ltb s n (below s refl))
 init_inside (certificate.upper label) n (Some s) (rewards lower high choices ranks) e below = absurd cc
 init_inside (reach dir label) n (Some s) (rewards lower high choices ranks) e below = absurd cc
+init_inside (until dir stay label) n (Some s) (rewards lower high choices ranks) e below = absurd cc
 init_inside (reward dir name label) n (Some s) (rewards lower high choices ranks) e below =
     ap₂ (λ (a b : Bool). a && b) (ap₂ (λ (a b : Bool). a && b) (lt-ltb s n (below s refl)) (may_be_reward dir name label (reward_at lower s))) (may_be_reward dir name label (reward_at high s))
 init_inside (mean dir name) n (Some s) (rewards lower high choices ranks) e below = absurd cc

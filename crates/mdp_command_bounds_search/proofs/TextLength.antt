@@ -9,7 +9,7 @@ use Rattle.mdp_text.proofs.Lengths.{number_short, spelling_short, blank_length, 
 use Rattle.mdp_text.specs.Spelling.{line, ◌␣◌, quoted, dir_text, states_text}
 use Rattle.mdp_rows.specs.{Name.{is_name}, declared.dir.Dir.{Dir}}
 use Rattle.mdp_cert.proofs.{RunLengths.{lines_of, closed_short}, BoundsBodies.{reach-counts, reward-counts, mean-counts}}
-use Rattle.mdp_cert.specs.Cert.{PlainClaim, upper, reach, reward, mean, witness, are_names, IsValueNarrow}
+use Rattle.mdp_cert.specs.Cert.{PlainClaim, upper, reach, until, reward, mean, witness, are_names, IsValueNarrow}
 use Rattle.mdp_cert.specs.{Claims.{Value, fraction_value, reward_value, reward_text}, Spelling.{claim_text, spread_text}}
 use Rattle.mdp_cert.specs.BoundsCert.{PlainBounds, probabilities, rewards, gains, Certificate, Fits, is_init_of, is_body_of, IsInitInWidth, IsBodyInWidth}
 use Rattle.mdp_cert.specs.Entries.{ranked_columns, IsRankedInWidth, ranked_of, gains_columns, IsGainsInWidth, gains_of}
@@ -35,6 +35,15 @@ claim_short (reach dir label) n body e h =
     let d = quoted_length label in
     let l = name_short label h in
     omega (arith, a, d, l)
+claim_short (until dir stay label) n body e h =
+    let a = two_words dir (codes "until") (quoted stay ␣ quoted label) in
+    let b = blank_length (quoted stay) (quoted label) in
+    let c = quoted_length stay in
+    let d = quoted_length label in
+    let names = and_parts (is_name stay) (is_name label) h in
+    let x = name_short stay names.0 in
+    let l = name_short label names.1 in
+    omega (arith, a, b, c, d, x, l)
 claim_short (reward dir name label) n body e h =
     let a = two_words dir (codes "reward") (quoted name ␣ quoted label) in
     let b = blank_length (quoted name) (quoted label) in

@@ -10,7 +10,7 @@ use Rattle.mdp_text.specs.Spelling.{line, ◌␣◌, quoted, dir_text, states_te
 use Rattle.mdp_claims.specs.declared.subsystem.Flow.{Flow}
 use Rattle.mdp_cert.proofs.{RunLengths.{lines_of, closed_short}, Growth.{bounds-entries, Entries, policy-entries, reward-entries, MeanEntries, gains-entries}}
 use Rattle.mdp_cert.proofs.{Means.{Back, back}, Policies.{length-policies}}
-use Rattle.mdp_cert.specs.Cert.{PlainClaim, upper, reach, reward, mean, witness, are_names, may_be_infinite, is_witness, IsValueNarrow, IsBodyInWidth, Certificate, Fits}
+use Rattle.mdp_cert.specs.Cert.{PlainClaim, upper, reach, until, reward, mean, witness, are_names, may_be_infinite, is_witness, IsValueNarrow, IsBodyInWidth, Certificate, Fits}
 use Rattle.mdp_cert.specs.Cert.{PlainBody, bounds, policy, rewards, gains, flow, floor, is_init_of, is_body_of}
 use Rattle.mdp_cert.specs.Claims.{Value, fraction_value, reward_value, reward_text, bound_columns, policy_columns, IsPolicyInWidth, policies, mean_columns, IsMeanInWidth, means}
 use Rattle.mdp_cert.specs.Spelling.{claim_text, head_text, spread_text, text_in, text_of}
@@ -40,6 +40,15 @@ claim_short (reach dir label) plain h =
     let d = quoted_length label in
     let l = name_short label h in
     omega (arith, a, d, l)
+claim_short (until dir stay label) plain h =
+    let a = two_words dir (codes "until") (quoted stay ␣ quoted label) in
+    let b = blank_length (quoted stay) (quoted label) in
+    let c = quoted_length stay in
+    let d = quoted_length label in
+    let names = and_parts (is_name stay) (is_name label) h in
+    let n = name_short stay names.0 in
+    let l = name_short label names.1 in
+    omega (arith, a, b, c, d, n, l)
 claim_short (reward dir name label) plain h =
     let a = two_words dir (codes "reward") (quoted name ␣ quoted label) in
     let b = blank_length (quoted name) (quoted label) in
@@ -112,6 +121,7 @@ inside_short claim n (Start state) limit h =
 no_flow : (claim : PlainClaim) (n : ℕ) (kept : List ℕ) (wide : List Bool) (flows : List Flow) → is_witness claim ≡ false → is_body_of claim n (flow kept wide flows) ≡ true → ⊥
 no_flow (upper label) n kept wide flows plain h = cc h
 no_flow (reach dir label) n kept wide flows plain h = cc h
+no_flow (until dir stay label) n kept wide flows plain h = cc h
 no_flow (reward dir name label) n kept wide flows plain h = cc h
 no_flow (mean dir name) n kept wide flows plain h = cc h
 no_flow (witness dir label threshold) n kept wide flows plain h = cc plain
@@ -119,6 +129,7 @@ no_flow (witness dir label threshold) n kept wide flows plain h = cc plain
 no_floor : (claim : PlainClaim) (n : ℕ) (kept : List ℕ) (wide : List Bool) (zs : List ℚ) (rs : List ℕ) → is_witness claim ≡ false → is_body_of claim n (floor kept wide zs rs) ≡ true → ⊥
 no_floor (upper label) n kept wide zs rs plain h = cc h
 no_floor (reach dir label) n kept wide zs rs plain h = cc h
+no_floor (until dir stay label) n kept wide zs rs plain h = cc h
 no_floor (reward dir name label) n kept wide zs rs plain h = cc h
 no_floor (mean dir name) n kept wide zs rs plain h = cc h
 no_floor (witness dir label threshold) n kept wide zs rs plain h = cc plain

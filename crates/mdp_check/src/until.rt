@@ -1,0 +1,81 @@
+ghost use Rattle.std.specs.Prelude.{◌≡◌, ◌↔◌, IfOk, length};
+ghost use Rattle.mdp_spec.specs.{Mdp.{states_of}, Until.{UntilMax, UntilMin, UntilMaxBetween, UntilMinBetween}};
+ghost use Rattle.mdp_rows.specs.declared.dir.Dir.TheVariants.{Max, Min};
+ghost use Rattle.mdp_farkas.specs.{Verdict.{verdict_of, IfYes, IsYes}, Reach.{reach_checks, IsReach}};
+ghost use Rattle.mdp_bounds.specs.Reach.{bounds_checks, IsReachBounds};
+ghost use Rattle.mdp_check.specs.Check.{stay_marks, way_of};
+
+use mdp_bounds::holds_bounds_reach;
+use mdp_claims::{ReachBoundsCert, ReachCert};
+use mdp_farkas::{Verdict, holds_reach};
+use mdp_num::Memory;
+use mdp_rows::{Dir, Marks, Model};
+use std::alloc::Global;
+
+/// The states on the way: those with this label, none where the model hasn't it.
+fn stay_marks(alloc: Global, model: &Model, stay: &[u8]) -> Result<Marks, Memory>
+    ensures marks { IfOk result (λ marks. marks ≡ stay_marks model.now stay.now) }
+    ensures each { IfOk result (λ marks. length marks ≡ states_of model.now) }
+{
+    match model.label(stay) {
+        Some(place) => Ok(model.marks_of(alloc, place)?),
+        None => Ok(Marks::empty(alloc, model.states())?),
+    }
+}
+
+/// The model on which the rules of reaching a goal are held: each state that is neither on the way nor a goal is left with a loop.
+fn way_of(alloc: Global, model: &Model, goals: &Marks, stay: &[u8]) -> Result<Model, Memory>
+    requires { length goals.now ≡ states_of model.now }
+    ensures way { IfOk result (λ way. way ≡ way_of model.now goals.now stay.now) }
+    ensures states { IfOk result (λ way. states_of way ≡ states_of model.now) }
+{
+    let stays = stay_marks(alloc, model, stay)?;
+    model.cut(alloc, &stays, goals)
+}
+
+/// What the rules of reaching a goal say on the way.
+pub(crate) fn until_verdict(
+    alloc: Global,
+    model: &Model,
+    goals: &Marks,
+    dir: Dir,
+    stay: &[u8],
+    cert: &ReachCert,
+) -> Result<Verdict, Memory>
+    requires goals { length goals.now ≡ states_of model.now }
+    requires values { length cert.now.values.items ≡ states_of model.now }
+    requires choices { length cert.now.choices.items ≡ states_of model.now }
+    requires ranks { length cert.now.ranks.items ≡ states_of model.now }
+    ensures verdict { IfOk result (λ v. v ≡ verdict_of (reach_checks dir (way_of model.now goals.now stay.now) goals.now cert.now.values.items cert.now.choices.items cert.now.ranks.items)) }
+    ensures rules { IfOk result (λ v. IsYes v ↔ IsReach dir (way_of model.now goals.now stay.now) goals.now cert.now.values.items cert.now.choices.items cert.now.ranks.items) }
+    ensures max { dir ≡ Max → IfOk result (λ v. IfYes v (UntilMax model.now (stay_marks model.now stay.now) goals.now cert.now.values.items cert.now.choices.items)) }
+    ensures min { dir ≡ Min → IfOk result (λ v. IfYes v (UntilMin model.now (stay_marks model.now stay.now) goals.now cert.now.values.items cert.now.choices.items)) }
+{
+    model.known();
+    let way = way_of(alloc, model, goals, stay)?;
+    Ok(holds_reach(&way, goals, dir, cert))
+}
+
+/// The same of lower and upper values.
+pub(crate) fn until_bounds_verdict(
+    alloc: Global,
+    model: &Model,
+    goals: &Marks,
+    dir: Dir,
+    stay: &[u8],
+    cert: &ReachBoundsCert,
+) -> Result<Verdict, Memory>
+    requires goals { length goals.now ≡ states_of model.now }
+    requires lower { length cert.now.lower.items ≡ states_of model.now }
+    requires upper { length cert.now.upper.items ≡ states_of model.now }
+    requires choices { length cert.now.choices.items ≡ states_of model.now }
+    requires ranks { length cert.now.ranks.items ≡ states_of model.now }
+    ensures verdict { IfOk result (λ v. v ≡ verdict_of (bounds_checks dir (way_of model.now goals.now stay.now) goals.now cert.now.lower.items cert.now.upper.items cert.now.choices.items cert.now.ranks.items)) }
+    ensures rules { IfOk result (λ v. IsYes v ↔ IsReachBounds dir (way_of model.now goals.now stay.now) goals.now cert.now.lower.items cert.now.upper.items cert.now.choices.items cert.now.ranks.items) }
+    ensures max { dir ≡ Max → IfOk result (λ v. IfYes v (UntilMaxBetween model.now (stay_marks model.now stay.now) goals.now cert.now.lower.items cert.now.upper.items cert.now.choices.items)) }
+    ensures min { dir ≡ Min → IfOk result (λ v. IfYes v (UntilMinBetween model.now (stay_marks model.now stay.now) goals.now cert.now.lower.items cert.now.upper.items cert.now.choices.items)) }
+{
+    model.known();
+    let way = way_of(alloc, model, goals, stay)?;
+    Ok(holds_bounds_reach(&way, goals, dir, cert))
+}
