@@ -1,16 +1,16 @@
 -- What a claim shows of its words, and the words of each claim.
-use Rattle.std.proofs.Common.{◌≡◌, ℕ, ◌<◌, ◌≤◌, ◌^◌, Bool, true, false, cond, eqb, ◌&&◌, List, [], ◌∷◌, length, decimal, Option, Some, None, refl, sym, ap, subst, ◌∙◌, arith}
-use Rattle.std.proofs.{lemmas.Bool.{and_parts}, lemmas.Bool.Decides.{nat_tests}}
+use Rattle.std.proofs.Common.{◌≡◌, ℕ, ◌<◌, ◌≤◌, ◌^◌, Bool, true, false, cond, eqb, List, length, decimal, Option, Some, None, refl, sym, ap, subst, ◌∙◌, arith}
+use Rattle.std.proofs.{lemmas.Bool.Decides.{nat_tests}}
 use Rattle.std.specs.{Prelude.{codes}, Str.{bytes_eq}, Option.{option_and_then, option_map}}
 use Rattle.mdp_math.specs.Rational.{ℚ}
 use Rattle.mdp_num.specs.{Value.{spelling, IsNarrow}, Canonical.{canonical_of}, Equal.{eq_ℚ}, OrderView.{equal_decides}}
 use Rattle.mdp_num.proofs.Spellings.{sound, complete}
 use Rattle.mdp_text.specs.{declared.error.CertKind.TheVariants.{Number}, Words.{whole_of, whole_at, reward_parse}}
-use Rattle.mdp_cert.specs.{declared.mean_entry.MeanEntry.{MeanEntry}, declared.policy_entry.PolicyEntry.{PolicyEntry}, Runs.{Columns}, Cert.{IsValueNarrow}}
-use Rattle.mdp_cert.specs.Claims.{Value, fraction_value, reward_value, reward_text, reward_same, bound_columns}
-use Rattle.mdp_cert.specs.{Claims.{policy_columns, policy_parse, bound_parse, IsPolicyInWidth, mean_columns, mean_parse, IsMeanInWidth}, Laws.{IsSameWords}}
+use Rattle.mdp_cert.specs.{Runs.{Columns}, Cert.{IsValueNarrow}}
+use Rattle.mdp_cert.specs.Claims.{Value, fraction_value, reward_value, reward_text, reward_same}
+use Rattle.mdp_cert.specs.Laws.{IsSameWords}
 use Rattle.mdp_text.proofs.{Pieces.{Free, free-spelling}, Cuts.{bytes_same, bytes_self}, Feeds.{found_ok, whole-found, whole-again}}
-use Rattle.mdp_text.proofs.Joined.{AllFree, free-whole}
+use Rattle.mdp_text.proofs.Joined.{AllFree}
 
 -- the words are read exactly where they are the spelling of an entry in width; none of them has a blank or a line feed; and entries that say
 -- the same are the same
@@ -147,131 +147,8 @@ reward-itself (Some x) = itself-ℚ x
 pub reward-is_value : IsValue reward_value IsValueNarrow
 reward-is_value = record { found = reward-found; again = reward-again; free = free-reward; same = reward-same; itself = reward-itself }
 
--- ---- an upper bound
-
-bound-found : (ws : List (List ℕ)) (x : ℚ) → bound_parse ws ≡ Some x → (ws ≡ spelling x ∷ []) × IsNarrow x
-bound-found [] x e = absurd cc
-bound-found (v ∷ []) x e = let s = sound v x e in (ap (λ (w : List ℕ). w ∷ []) s.0, s.1)
-bound-found (v ∷ w ∷ ws) x e = absurd cc
-
-pub bound-is_columns : IsColumns bound_columns IsNarrow
-bound-is_columns = is-columns bound_columns IsNarrow (omega arith) (λ x. refl) bound-found complete (λ c x lt h. (free-spelling c x lt h, tt)) same-ℚ itself-ℚ
-
--- ---- a value, a choice and a rank
-
 pub number-same : (a b : ℕ) → eqb a b ≡ true → a ≡ b
 number-same a b e = grind (arith, nat_tests)
 
 pub number-itself : (a : ℕ) → eqb a a ≡ true
 number-itself a = grind (arith, nat_tests)
-
-module _ {V : Type 0} (k : Value V) (IsInWidth : V → Type 0) (is : IsValue k IsInWidth) where
-  abbrev policy-rank : V → ℕ → ℕ → Option (PolicyEntry V)
-  policy-rank value choice rank = Some (record { value = value; choice = choice; rank = rank })
-
-  abbrev policy-choice : List ℕ → V → ℕ → Option (PolicyEntry V)
-  policy-choice r value choice = option_and_then (policy-rank value choice) (whole_of r)
-
-  abbrev policy-value : List ℕ → List ℕ → V → Option (PolicyEntry V)
-  policy-value c r value = option_and_then (policy-choice r value) (whole_of c)
-
-  policy-found : (ws : List (List ℕ)) (p : PolicyEntry V) → policy_parse k ws ≡ Some p → (ws ≡ k.spell p.value ∷ decimal p.choice ∷ decimal p.rank ∷ []) × IsPolicyInWidth IsInWidth p
-  policy-found [] p e = absurd cc
-  policy-found (v ∷ []) p e = absurd cc
-  policy-found (v ∷ c ∷ []) p e = absurd cc
-  policy-found (v ∷ c ∷ r ∷ w ∷ ws) p e = absurd cc
-  policy-found (v ∷ c ∷ r ∷ []) p e =
-      let one = and_then-some (policy-value c r) (k.parse v) p e in
-      let two = and_then-some (policy-choice r one.0) (whole_of c) p one.2 in
-      let three = and_then-some (policy-rank one.0 two.0) (whole_of r) p two.2 in
-      let same : (let q : PolicyEntry V = record { value = one.0; choice = two.0; rank = three.0 } in q) ≡ p = cc in
-      let s = is.found v one.0 one.1 in
-      let t = whole-of-found c two.0 two.1 in
-      let u = whole-of-found r three.0 three.1 in
-      subst (λ (q : PolicyEntry V). (v ∷ c ∷ r ∷ [] ≡ k.spell q.value ∷ decimal q.choice ∷ decimal q.rank ∷ []) × IsPolicyInWidth IsInWidth q) same (
-        rw (← s.0, ← t.0, ← u.0) refl,
-        record { value = s.1; choice = t.1; rank = u.1 },
-      )
-
-  policy-again : (p : PolicyEntry V) → IsPolicyInWidth IsInWidth p → policy_parse k (k.spell p.value ∷ decimal p.choice ∷ decimal p.rank ∷ []) ≡ Some p
-  policy-again p h = rw (is.again p.value h.value, whole-of-again p.choice h.choice, whole-of-again p.rank h.rank) refl
-
-  policy-same : (p q : PolicyEntry V) → (k.same p.value q.value && eqb p.choice q.choice && eqb p.rank q.rank) ≡ true → p ≡ q
-  policy-same p q e =
-      let a = and_parts (k.same p.value q.value && eqb p.choice q.choice) (eqb p.rank q.rank) e in
-      let b = and_parts (k.same p.value q.value) (eqb p.choice q.choice) a.0 in
-      parts p.value q.value p.choice q.choice p.rank q.rank (is.same _ _ b.0) (number-same _ _ b.1) (number-same _ _ a.1)
-    where
-      parts : (z y : V) (c d r s : ℕ) → z ≡ y → c ≡ d → r ≡ s → (let a : PolicyEntry V = record { value = z; choice = c; rank = r } in a) ≡ record { value = y; choice = d; rank = s }
-      parts z y c d r s e f g = rw (e, f, g) refl
-
-  policy-itself : (p : PolicyEntry V) → (k.same p.value p.value && eqb p.choice p.choice && eqb p.rank p.rank) ≡ true
-  policy-itself p = rw (is.itself p.value, number-itself p.choice, number-itself p.rank) refl
-
-  policy-free : (c : ℕ) (p : PolicyEntry V) → c < 45 → IsPolicyInWidth IsInWidth p → AllFree c (k.spell p.value ∷ decimal p.choice ∷ decimal p.rank ∷ [])
-  policy-free c p lt h = (is.free c p.value lt h.value, (free-whole c p.choice (omega arith) h.choice, (free-whole c p.rank (omega arith) h.rank, tt)))
-
-  pub policy-is_columns : IsColumns (policy_columns k) (IsPolicyInWidth IsInWidth)
-  policy-is_columns = is-columns (policy_columns k) (IsPolicyInWidth IsInWidth) (omega arith) (λ x. refl) policy-found policy-again policy-free policy-same policy-itself
-
--- ---- a gain, a bound, a bias and a choice
-
-abbrev mean-choice : ℚ → ℚ → ℚ → ℕ → Option MeanEntry
-mean-choice gain bound bias choice = Some (record { gain = gain; bound = bound; bias = bias; choice = choice })
-
-abbrev mean-bias : List ℕ → ℚ → ℚ → ℚ → Option MeanEntry
-mean-bias c gain bound bias = option_and_then (mean-choice gain bound bias) (whole_of c)
-
-abbrev mean-bound : List ℕ → List ℕ → ℚ → ℚ → Option MeanEntry
-mean-bound b c gain bound = option_and_then (mean-bias c gain bound) (canonical_of b)
-
-abbrev mean-gain : List ℕ → List ℕ → List ℕ → ℚ → Option MeanEntry
-mean-gain a b c gain = option_and_then (mean-bound b c gain) (canonical_of a)
-
-abbrev mean-words : MeanEntry → List (List ℕ)
-mean-words x = spelling x.gain ∷ spelling x.bound ∷ spelling x.bias ∷ decimal x.choice ∷ []
-
-mean-found : (ws : List (List ℕ)) (x : MeanEntry) → mean_parse ws ≡ Some x → (ws ≡ mean-words x) × IsMeanInWidth x
-mean-found [] x e = absurd cc
-mean-found (g ∷ []) x e = absurd cc
-mean-found (g ∷ a ∷ []) x e = absurd cc
-mean-found (g ∷ a ∷ b ∷ []) x e = absurd cc
-mean-found (g ∷ a ∷ b ∷ c ∷ w ∷ ws) x e = absurd cc
-mean-found (g ∷ a ∷ b ∷ c ∷ []) x e =
-    let one = and_then-some (mean-gain a b c) (canonical_of g) x e in
-    let two = and_then-some (mean-bound b c one.0) (canonical_of a) x one.2 in
-    let three = and_then-some (mean-bias c one.0 two.0) (canonical_of b) x two.2 in
-    let four = and_then-some (mean-choice one.0 two.0 three.0) (whole_of c) x three.2 in
-    let same : (let y : MeanEntry = record { gain = one.0; bound = two.0; bias = three.0; choice = four.0 } in y) ≡ x = cc in
-    let s = sound g one.0 one.1 in
-    let t = sound a two.0 two.1 in
-    let u = sound b three.0 three.1 in
-    let v = whole-of-found c four.0 four.1 in
-    subst (λ (y : MeanEntry). (g ∷ a ∷ b ∷ c ∷ [] ≡ mean-words y) × IsMeanInWidth y) same (
-      rw (← s.0, ← t.0, ← u.0, ← v.0) refl,
-      record { gain = s.1; bound = t.1; bias = u.1; choice = v.1 },
-    )
-
-mean-again : (x : MeanEntry) → IsMeanInWidth x → mean_parse (mean-words x) ≡ Some x
-mean-again x h = rw (complete x.gain h.gain, complete x.bound h.bound, complete x.bias h.bias, whole-of-again x.choice h.choice) refl
-
-mean-same : (x y : MeanEntry) → (eq_ℚ x.gain y.gain && eq_ℚ x.bound y.bound && eq_ℚ x.bias y.bias && eqb x.choice y.choice) ≡ true → x ≡ y
-mean-same x y e =
-    let p = and_parts (eq_ℚ x.gain y.gain && eq_ℚ x.bound y.bound && eq_ℚ x.bias y.bias) (eqb x.choice y.choice) e in
-    let q = and_parts (eq_ℚ x.gain y.gain && eq_ℚ x.bound y.bound) (eq_ℚ x.bias y.bias) p.0 in
-    let r = and_parts (eq_ℚ x.gain y.gain) (eq_ℚ x.bound y.bound) q.0 in
-    parts x.gain y.gain x.bound y.bound x.bias y.bias x.choice y.choice (same-ℚ _ _ r.0) (same-ℚ _ _ r.1) (same-ℚ _ _ q.1) (number-same _ _ p.1)
-  where
-    parts : (g h a b z w : ℚ) (c d : ℕ) → g ≡ h → a ≡ b → z ≡ w → c ≡ d
-        → (let u : MeanEntry = record { gain = g; bound = a; bias = z; choice = c } in u) ≡ record { gain = h; bound = b; bias = w; choice = d }
-    parts g h a b z w c d p q r t = rw (p, q, r, t) refl
-
-mean-itself : (x : MeanEntry) → (eq_ℚ x.gain x.gain && eq_ℚ x.bound x.bound && eq_ℚ x.bias x.bias && eqb x.choice x.choice) ≡ true
-mean-itself x = rw (itself-ℚ x.gain, itself-ℚ x.bound, itself-ℚ x.bias, number-itself x.choice) refl
-
-mean-free : (c : ℕ) (x : MeanEntry) → c < 45 → IsMeanInWidth x → AllFree c (mean-words x)
-mean-free c x lt h =
-    (free-spelling c x.gain lt h.gain, (free-spelling c x.bound lt h.bound, (free-spelling c x.bias lt h.bias, (free-whole c x.choice (omega arith) h.choice, tt))))
-
-pub mean-is_columns : IsColumns mean_columns IsMeanInWidth
-mean-is_columns = is-columns mean_columns IsMeanInWidth (omega arith) (λ x. refl) mean-found mean-again mean-free mean-same mean-itself

@@ -15,7 +15,7 @@ use Rattle.mdp_cert.specs.{declared.flow_line.FlowLine.TheVariants.{Keep, Send},
 use Rattle.mdp_cert.specs.Cert.{PlainClaim, upper, reach, until, reward, mean, witness, may_be_infinite, is_witness, is_next, is_next_flow, PlainBody, bounds, Certificate}
 use Rattle.mdp_cert.specs.Listed.{Listed}
 use Rattle.mdp_cert.specs.Witness.{mark_text, mark_at, keep_at, kept_in, flow_in, flow_at, flow_line_at, flow_listed, flow_body, floor_line_at, floor_listed, floor_body}
-use Rattle.mdp_cert.specs.{Runs.{Columns, run, single, entries_of}, Claims.{fraction_value, reward_value, bound_columns, policy_columns, mean_columns}}
+use Rattle.mdp_cert.specs.{Runs.{Columns, run, single, entries_of}, Claims.{fraction_value, reward_value}, Entries.{bound_columns, policy_columns, mean_columns}}
 use Rattle.mdp_cert.specs.{Spelling.{version_text}, Reading.{version_at, claim_of, claim_at, init_at, CertHead, head_from, entry_at, state_at, run_at}}
 use Rattle.mdp_cert.specs.Reading.{is_same, line_of_states, longest_at, run_in, onto_run, runs_from, entries_from}
 use Rattle.mdp_cert.specs.Reading.{listed_at, before_others, listed_from, listed_to_end, entries_to_end, policy_body, reward_body, mean_body, spread_at, body_from, outcome}

@@ -1,6 +1,4 @@
 pub mod Runs
-pub mod Means
-pub mod Policies
 pub mod Growth
 pub mod Steps
 pub mod Claims
@@ -8,6 +6,7 @@ pub mod Numbered
 pub mod Columns
 pub mod Sections
 pub mod Bodies
+pub mod WordByWord
 pub mod OneByOne
 pub mod Kept
 pub mod Places
@@ -16,9 +15,7 @@ pub mod FirstBroken
 mod Examples
 pub mod RunLengths
 pub mod Written
-pub mod BoundsColumns
-pub mod Ranked
-pub mod Gains
+pub mod StateWords
 pub mod Heads
 pub mod BoundsBodies
 pub mod Outcomes

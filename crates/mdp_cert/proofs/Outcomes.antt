@@ -8,7 +8,7 @@ use Rattle.mdp_cert.specs.{Cert.{PlainClaim, upper, reach, until, reward, mean, 
 use Rattle.mdp_cert.specs.Entries.{ranked_columns, IsRankedInWidth, gains_columns, IsGainsInWidth}
 use Rattle.mdp_cert.specs.{BoundsCert.{PlainBounds, Certificate, is_of_bounds, is_body_of, Fits}, BoundsSpelling.{version_text, body_text, text_of}}
 use Rattle.mdp_cert.specs.{BoundsReading.{BoundsHead, head_from, body_from, outcome}, BoundsLaws.{AreSameWords}}
-use Rattle.mdp_cert.proofs.{Columns.{fraction-is_value, reward-is_value, same-words}, BoundsColumns.{ranked-is_columns, gains-is_columns}}
+use Rattle.mdp_cert.proofs.{Columns.{fraction-is_value, reward-is_value, same-words}, StateWords.{ranked-is_columns, gains-is_columns}}
 use Rattle.mdp_cert.proofs.{Heads.{right-claim, IsHead, lines-of-head, head-found, head-again}, BoundsBodies.{FitsBody, body-found, body-again}}
 
 abbrev whole : BoundsHead → PlainBounds → Certificate

@@ -8,12 +8,12 @@ use Rattle.mdp_num.specs.Value.{IsNarrow}
 use Rattle.mdp_rows.specs.{declared.dir.Dir.{Dir}, declared.dir.Dir.TheVariants.{Max, Min}}
 use Rattle.mdp_text.specs.{declared.error.Refusal.{Refusal}, declared.init.Init.{Init}, Heads.{IsInitInWidth}}
 use Rattle.mdp_text.specs.{Lines.{◌>>=◌, Place, place, line_by, nothing_behind}, Spelling.{line, init_text}}
-use Rattle.mdp_cert.specs.{declared.mean_entry.MeanEntry.{MeanEntry}, declared.policy_entry.PolicyEntry.{PolicyEntry}, declared.version.Version.{Version}}
+use Rattle.mdp_cert.specs.{declared.version.Version.{Version}, Pairs.{IsShort, IsPairInWidth, pairs}}
 use Rattle.mdp_cert.specs.{declared.version.Version.TheVariants.{One, Two}, declared.flow_line.FlowLine.{FlowLine}, declared.floor_line.FloorLine.{FloorLine}}
 use Rattle.mdp_cert.specs.Cert.{PlainClaim, upper, reach, until, reward, mean, witness, PlainBody, bounds, policy, rewards, gains, flow, floor, Certificate}
 use Rattle.mdp_cert.specs.Cert.{are_kept, are_flows, is_init_of, is_body_of, IsValueNarrow, IsFlowInWidth, IsBodyInWidth, Fits}
 use Rattle.mdp_cert.specs.Witness.{flow_listed, flow_lines, flow_body, floor_listed, floor_lines, floor_body}
-use Rattle.mdp_cert.specs.Claims.{Value, fraction_value, reward_value, bound_columns, policy_columns, policies, IsPolicyInWidth, mean_columns, means, IsMeanInWidth}
+use Rattle.mdp_cert.specs.{Claims.{Value, fraction_value, reward_value}, Entries.{bound_columns, Policy, policy_columns, policies, IsPolicyInWidth, Mean, mean_columns, means, IsMeanInWidth}}
 use Rattle.mdp_cert.specs.Spelling.{spread_text, version_text, claim_text, closed_lines, listed_lines, body_text, text_in, text_of, old_text_of}
 use Rattle.mdp_cert.specs.{Runs.{Columns}, Laws.{AreSameWords}}
 use Rattle.mdp_cert.specs.Reading.{version_at, claim_at, init_at, CertHead, head_from, entries_to_end, policy_body, reward_body, mean_body, spread_at, listed_to_end, body_from, outcome}
@@ -22,11 +22,11 @@ use Rattle.mdp_text.proofs.{Cuts.{same-number, number-same}, Pieces.{Free}, Feed
 use Rattle.mdp_text.proofs.States.{fraction-found, fraction-again, free-fraction}
 use Rattle.mdp_cert.proofs.Claims.{IsRight, claim-found, claim-again, free-claim}
 use Rattle.mdp_cert.proofs.Numbered.{version-found, version-again, free-version, init-found, init-again, free-init}
-use Rattle.mdp_cert.proofs.Columns.{IsColumns, IsValue, fraction-is_value, reward-is_value, bound-is_columns, policy-is_columns, mean-is_columns, same-words}
-use Rattle.mdp_cert.proofs.{Growth.{three-entries, four-entries}, Means.{back, means-of}, Bodies.{Each, closed-found, closed-again}}
+use Rattle.mdp_cert.proofs.Columns.{IsColumns, IsValue, fraction-is_value, reward-is_value, same-words}
+use Rattle.mdp_cert.proofs.{WordByWord.{each-pair}, StateWords.{bound-is_columns, policy-is_columns, mean-is_columns, ThreeBack, three-back, back, policies-of, means-of}}
+use Rattle.mdp_cert.proofs.{Growth.{three-entries, four-entries}, Bodies.{Each, closed-found, closed-again}}
 use Rattle.mdp_cert.proofs.{OneByOne.{to_end-found, to_end-again}, Kept.{IsNextLine, flow-is_listed, lines-of, flow-entries, flow-width, flows-again}}
 use Rattle.mdp_cert.proofs.Kept.{FloorLists, IsNextFloor, floor-is_listed, floors-of, floor-values, floor-ranks, floor-entries, floor-counts, floors-back, floors-next}
-use Rattle.mdp_cert.proofs.Policies.{length-policies, values-policies, choices-policies, ranks-policies, policies-of}
 use Rattle.mdp_text.proofs.HeadLines as heads
 
 -- ---- the head
@@ -88,28 +88,24 @@ all-of {A} P Q f of xs h = each-all Q (map f xs) (each xs h)
 -- ---- the lines of a policy
 
 module _ {V : Type 0} (k : Value V) (IsInWidth : V → Type 0) (is : IsValue k IsInWidth) (states : ℕ) (limit : states ≤ 2 ^ 20) (v : Version) where
-  policies-width : (zs : List V) (cs rs : List ℕ) → Each IsInWidth zs → Each (λ c. c < 2 ^ 32) cs → Each (λ r. r < 2 ^ 32) rs → Each (IsPolicyInWidth IsInWidth) (policies zs cs rs)
-  policies-width (z ∷ zs) (c ∷ cs) (r ∷ rs) p q o = (record { value = p.0; choice = q.0; rank = o.0 }, policies-width zs cs rs p.1 q.1 o.1)
-  policies-width zs cs rs p q o = tt
-
   -- three lists, one of each per state and in width, with their lines
   pub record FoundPolicy (p : Place) (zs : List V) (cs rs : List ℕ) (q : Place) : Type 0 where
     pub text : p.rest ≡ closed_lines v (policy_columns k) (policies zs cs rs) ++ q.rest
     pub entries : (eqb (length zs) states && eqb (length cs) states && eqb (length rs) states) ≡ true
     pub width : All IsInWidth zs × All (λ c. c < 2 ^ 32) cs × All (λ r. r < 2 ^ 32) rs
 
-  pub policy-found : (p : Place) (xs : List (PolicyEntry V)) (q : Place) → entries_to_end v (policy_columns k) states p ≡ Ok (xs, q)
-      → FoundPolicy p (map (λ x. x.value) xs) (map (λ x. x.choice) xs) (map (λ x. x.rank) xs) q
+  pub policy-found : (p : Place) (xs : List (Policy V)) (q : Place) → entries_to_end v (policy_columns k) states p ≡ Ok (xs, q)
+      → FoundPolicy p (map (λ x. x.first) xs) (map (λ x. x.others.first) xs) (map (λ x. x.others.others) xs) q
   policy-found p xs q e =
       let f = closed-found (policy_columns k) (IsPolicyInWidth IsInWidth) (policy-is_columns k IsInWidth is) states limit v p xs q e in
-      let each : (X : Type 0) (g : PolicyEntry V → X) → eqb (length (map g xs)) states ≡ true = λ X g. same-number _ states (length-map xs g ∙ f.count) in
+      let each : (X : Type 0) (g : Policy V → X) → eqb (length (map g xs)) states ≡ true = λ X g. same-number _ states (length-map xs g ∙ f.count) in
       record {
-        text = f.text ∙ ap (λ (ys : List (PolicyEntry V)). closed_lines v (policy_columns k) ys ++ q.rest) (sym (policies-of xs));
-        entries = rw (each V (λ x. x.value), each ℕ (λ x. x.choice), each ℕ (λ x. x.rank)) refl;
+        text = f.text ∙ ap (λ (ys : List (Policy V)). closed_lines v (policy_columns k) ys ++ q.rest) (sym (policies-of xs));
+        entries = rw (each V (λ x. x.first), each ℕ (λ x. x.others.first), each ℕ (λ x. x.others.others)) refl;
         width = (
-          all-of (IsPolicyInWidth IsInWidth) IsInWidth (λ x. x.value) (λ x h. h.value) xs f.width,
-          all-of (IsPolicyInWidth IsInWidth) (λ c. c < 2 ^ 32) (λ x. x.choice) (λ x h. h.choice) xs f.width,
-          all-of (IsPolicyInWidth IsInWidth) (λ r. r < 2 ^ 32) (λ x. x.rank) (λ x h. h.rank) xs f.width,
+          all-of (IsPolicyInWidth IsInWidth) IsInWidth (λ x. x.first) (λ x h. h.first) xs f.width,
+          all-of (IsPolicyInWidth IsInWidth) IsShort (λ x. x.others.first) (λ x h. h.others.first) xs f.width,
+          all-of (IsPolicyInWidth IsInWidth) IsShort (λ x. x.others.others) (λ x h. h.others.others) xs f.width,
         );
       }
 
@@ -117,20 +113,18 @@ module _ {V : Type 0} (k : Value V) (IsInWidth : V → Type 0) (is : IsValue k I
   pub record AgainPolicy (n : ℕ) (zs : List V) (cs rs rest : List ℕ) : Type 0 where
     pub line : ℕ
     pub read : entries_to_end v (policy_columns k) states (place n (closed_lines v (policy_columns k) (policies zs cs rs) ++ rest)) ≡ Ok (policies zs cs rs, place line rest)
-    pub values : map (λ x. x.value) (policies zs cs rs) ≡ zs
-    pub choices : map (λ x. x.choice) (policies zs cs rs) ≡ cs
-    pub ranks : map (λ x. x.rank) (policies zs cs rs) ≡ rs
+    pub back_to : ThreeBack states zs cs rs
 
   pub policy-again : (n : ℕ) (zs : List V) (cs rs rest : List ℕ) → (eqb (length zs) states && eqb (length cs) states && eqb (length rs) states) ≡ true
       → All IsInWidth zs × All (λ c. c < 2 ^ 32) cs × All (λ r. r < 2 ^ 32) rs → AgainPolicy n zs cs rs rest
   policy-again n zs cs rs rest ok width =
       let l = three-entries states zs cs rs ok in
-      let a : length zs ≡ length cs = omega (arith, l.values, l.choices) in
-      let b : length zs ≡ length rs = omega (arith, l.values, l.ranks) in
+      let b = three-back states zs cs rs l.values l.choices l.ranks in
       let r =
-      closed-again (policy_columns k) (IsPolicyInWidth IsInWidth) (policy-is_columns k IsInWidth is) states limit v n (policies zs cs rs) rest (length-policies zs cs rs a b ∙ l.values)
-      (policies-width zs cs rs (all-each IsInWidth zs width.0) (all-each (λ c. c < 2 ^ 32) cs width.1) (all-each (λ r. r < 2 ^ 32) rs width.2)) in
-      record { line = r.0; read = r.1; values = values-policies zs cs rs a b; choices = choices-policies zs cs rs a b; ranks = ranks-policies zs cs rs a b }
+      closed-again (policy_columns k) (IsPolicyInWidth IsInWidth) (policy-is_columns k IsInWidth is) states limit v n (policies zs cs rs) rest b.count
+      (each-pair IsInWidth (IsPairInWidth IsShort IsShort) zs (pairs cs rs) (all-each IsInWidth zs width.0)
+      (each-pair IsShort IsShort cs rs (all-each IsShort cs width.1) (all-each IsShort rs width.2))) in
+      record { line = r.0; read = r.1; back_to = b }
 
 -- ---- the lines of mean payoffs
 
@@ -191,10 +185,6 @@ module _ {A : Type 0} (k : Columns A) (IsInWidth : A → Type 0) (is : IsColumns
             ∙ ap (λ (q : Result (List A × Place) Refusal). q >>= λ ys. let z : Result (B × Place) Refusal = Ok (body spread ys.0, ys.1) in z) r.1,
       )
 
-means-width : (gs zs bs : List ℚ) (cs : List ℕ) → Each IsNarrow gs → Each IsNarrow zs → Each IsNarrow bs → Each (λ c. c < 2 ^ 32) cs → Each IsMeanInWidth (means gs zs bs cs)
-means-width (g ∷ gs) (z ∷ zs) (b ∷ bs) (c ∷ cs) p q o t = (record { gain = p.0; bound = q.0; bias = o.0; choice = t.0 }, means-width gs zs bs cs p.1 q.1 o.1 t.1)
-means-width gs zs bs cs p q o t = tt
-
 mean-found : (v : Version) (dir : Dir) (name : List ℕ) (states : ℕ) (p : Place) (b : PlainBody) (q : Place) → states ≤ 2 ^ 20 → body_from v (mean dir name) states p ≡ Ok (b, q)
     → FoundBody v (mean dir name) states p b q
 unfolding body_from
@@ -202,16 +192,16 @@ mean-found v dir name states p b q limit e =
     let s = spread-entries-found mean_columns IsMeanInWidth mean-is_columns states limit v mean_body p b q e in
     let xs = s.1 in
     let f = s.3 in
-    let each : (X : Type 0) (g : MeanEntry → X) → eqb (length (map g xs)) states ≡ true = λ X g. same-number _ states (length-map xs g ∙ f.count) in
+    let each : (X : Type 0) (g : Mean → X) → eqb (length (map g xs)) states ≡ true = λ X g. same-number _ states (length-map xs g ∙ f.count) in
     subst (λ (c : PlainBody). FoundBody v (mean dir name) states p c q) s.2 (record {
       text = f.text _ (means-of xs);
       fits = record {
-        entries = rw (each ℚ (λ x. x.gain), each ℚ (λ x. x.bound), each ℚ (λ x. x.bias), each ℕ (λ x. x.choice)) refl;
+        entries = rw (each ℚ (λ x. x.first), each ℚ (λ x. x.others.first), each ℚ (λ x. x.others.others.first), each ℕ (λ x. x.others.others.others)) refl;
         width = (
-          all-of IsMeanInWidth IsNarrow (λ x. x.gain) (λ x h. h.gain) xs f.width,
-          all-of IsMeanInWidth IsNarrow (λ x. x.bound) (λ x h. h.bound) xs f.width,
-          all-of IsMeanInWidth IsNarrow (λ x. x.bias) (λ x h. h.bias) xs f.width,
-          all-of IsMeanInWidth (λ c. c < 2 ^ 32) (λ x. x.choice) (λ x h. h.choice) xs f.width,
+          all-of IsMeanInWidth IsNarrow (λ x. x.first) (λ x h. h.first) xs f.width,
+          all-of IsMeanInWidth IsNarrow (λ x. x.others.first) (λ x h. h.others.first) xs f.width,
+          all-of IsMeanInWidth IsNarrow (λ x. x.others.others.first) (λ x h. h.others.others.first) xs f.width,
+          all-of IsMeanInWidth IsShort (λ x. x.others.others.others) (λ x h. h.others.others.others) xs f.width,
           f.narrow,
         );
       };
@@ -223,11 +213,13 @@ mean-again : (v : Version) (dir : Dir) (name : List ℕ) (states n : ℕ) (gs zs
 unfolding body_from
 mean-again v dir name states n gs zs bs cs k rest limit ok =
     let l = four-entries states gs zs bs cs ok.entries in
-    let b = back gs zs bs cs (record { bounds = omega (arith, l.gains, l.bounds); biases = omega (arith, l.gains, l.biases); choices = omega (arith, l.gains, l.choices) }) in
+    let b = back states gs zs bs cs (record { lower = l.gains; upper = l.bounds; choices = l.biases; ranks = l.choices }) in
     let r =
-    spread-entries-again mean_columns IsMeanInWidth mean-is_columns states limit v mean_body n k (means gs zs bs cs) rest ok.width.4 (b.count ∙ l.gains)
-    (means-width gs zs bs cs (all-each IsNarrow gs ok.width.0) (all-each IsNarrow zs ok.width.1) (all-each IsNarrow bs ok.width.2) (all-each (λ c. c < 2 ^ 32) cs ok.width.3)) in
-    (r.0, r.1 ∙ ap (λ (c : PlainBody). let z : Result (PlainBody × Place) Refusal = Ok (c, place r.0 rest) in z) (parts _ _ _ _ _ _ _ _ b.gains b.bounds b.biases b.choices))
+    spread-entries-again mean_columns IsMeanInWidth mean-is_columns states limit v mean_body n k (means gs zs bs cs) rest ok.width.4 b.count
+    (each-pair IsNarrow _ gs (pairs zs (pairs bs cs)) (all-each IsNarrow gs ok.width.0)
+    (each-pair IsNarrow _ zs (pairs bs cs) (all-each IsNarrow zs ok.width.1)
+    (each-pair IsNarrow IsShort bs cs (all-each IsNarrow bs ok.width.2) (all-each IsShort cs ok.width.3)))) in
+    (r.0, r.1 ∙ ap (λ (c : PlainBody). let z : Result (PlainBody × Place) Refusal = Ok (c, place r.0 rest) in z) (parts _ _ _ _ _ _ _ _ b.lower b.upper b.choices b.ranks))
   where
     parts : (a b c d e f : List ℚ) (g h : List ℕ) → a ≡ b → c ≡ d → e ≡ f → g ≡ h → gains a c e g k ≡ gains b d f h k
     parts a b c d e f g h p q o t = rw (p, q, o, t) refl
@@ -327,10 +319,10 @@ body-found v (witness Min label t) states p b q limit e = floors-found v label t
 abbrev bounds-of : List ℚ × Place → Result (PlainBody × Place) Refusal
 bounds-of xs = Ok (bounds xs.0, xs.1)
 
-abbrev policy-of : List (PolicyEntry ℚ) × Place → Result (PlainBody × Place) Refusal
+abbrev policy-of : List (Policy ℚ) × Place → Result (PlainBody × Place) Refusal
 policy-of xs = Ok (policy_body xs.0, xs.1)
 
-abbrev rewards-of : List (PolicyEntry (Option ℚ)) × Place → Result (PlainBody × Place) Refusal
+abbrev rewards-of : List (Policy (Option ℚ)) × Place → Result (PlainBody × Place) Refusal
 rewards-of xs = Ok (reward_body xs.0, xs.1)
 
 -- a body that was read, which is this one
@@ -349,7 +341,7 @@ reach-again : (v : Version) (states n : ℕ) (zs : List ℚ) (cs rs rest : List 
 reach-again v states n zs cs rs rest limit ok width =
     let r = policy-again fraction_value IsNarrow fraction-is_value states limit v n zs cs rs rest ok width in (
       r.line,
-      ap (λ (q : Result (List (PolicyEntry ℚ) × Place) Refusal). q >>= policy-of) r.read ∙ ap (read-as r.line rest) (parts _ _ _ _ _ _ r.values r.choices r.ranks),
+      ap (λ (q : Result (List (Policy ℚ) × Place) Refusal). q >>= policy-of) r.read ∙ ap (read-as r.line rest) (parts _ _ _ _ _ _ r.back_to.first r.back_to.second r.back_to.third),
     )
   where
     parts : (zs ys : List ℚ) (cs ds rs ss : List ℕ) → zs ≡ ys → cs ≡ ds → rs ≡ ss → policy zs cs rs ≡ policy ys ds ss
@@ -361,7 +353,7 @@ reward-again : (v : Version) (states n : ℕ) (zs : List (Option ℚ)) (cs rs re
 reward-again v states n zs cs rs rest limit ok width =
     let r = policy-again reward_value IsValueNarrow reward-is_value states limit v n zs cs rs rest ok width in (
       r.line,
-      ap (λ (q : Result (List (PolicyEntry (Option ℚ)) × Place) Refusal). q >>= rewards-of) r.read ∙ ap (read-as r.line rest) (parts _ _ _ _ _ _ r.values r.choices r.ranks),
+      ap (λ (q : Result (List (Policy (Option ℚ)) × Place) Refusal). q >>= rewards-of) r.read ∙ ap (read-as r.line rest) (parts _ _ _ _ _ _ r.back_to.first r.back_to.second r.back_to.third),
     )
   where
     parts : (zs ys : List (Option ℚ)) (cs ds rs ss : List ℕ) → zs ≡ ys → cs ≡ ds → rs ≡ ss → rewards zs cs rs ≡ rewards ys ds ss

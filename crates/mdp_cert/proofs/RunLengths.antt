@@ -1,7 +1,8 @@
 -- How long the lines of the states are in a text of runs: where the words of an entry have at most 340 bytes, at most 380 bytes for each state.
-use Rattle.std.proofs.Common.{◌≡◌, ℕ, suc, ◌+◌, ◌*◌, ◌<◌, ◌≤◌, ◌^◌, Bool, true, false, cond, eqb, List, [], ◌∷◌, ◌++◌, length, codes, decimal, refl, arith, lit<}
+use Rattle.std.proofs.Common.{◌≡◌, ℕ, suc, ◌+◌, ◌*◌, ◌<◌, ◌≤◌, ◌^◌, Bool, true, false, cond, eqb, List, [], ◌∷◌, ◌++◌, length, map, codes, decimal, refl, arith, lit<}
 use Rattle.std.proofs.lemmas.List.{length-append}
-use Rattle.std.specs.List.{AllByRecursion as Each}
+use Rattle.std.specs.List.{join_with_byte, AllByRecursion as Each}
+use Rattle.mdp_cert.specs.{Claims.{Value}, declared.pair.Pair.{Pair}, Pairs.{pair_columns, IsPairInWidth, pairs}}
 use Rattle.mdp_text.proofs.Lengths.{number_short, blank_length, line_length}
 use Rattle.mdp_text.specs.Spelling.{line, ◌␣◌, end_text}
 use Rattle.mdp_cert.specs.{Runs.{Columns, Run, run, single, before_runs, longest_runs}, Spelling.{entry_text, run_text, run_lines}}
@@ -101,3 +102,40 @@ module _ {A : Type 0} (k : Columns A) (P : A → Type 0) (short : (x : A) → P 
       let l = states_lines_short xs limit h in
       let a = length-append (run_lines k 0 (longest_runs k xs)) (line end_text) in
       omega (arith, l, a)
+
+  -- a line for each state
+  singles_size : (xs : List A) → size (map single xs) ≡ length xs
+  singles_size [] = refl
+  singles_size (x ∷ xs) = let n = singles_size xs in omega (arith, n)
+
+  singles_width : (xs : List A) → Each P xs → AreInWidth (map single xs)
+  singles_width [] h = tt
+  singles_width (x ∷ xs) h = (h.0, singles_width xs h.1)
+
+  pub singles_short : (xs : List A) → length xs ≤ 2 ^ 20 → Each P xs → length (run_lines k 0 (map single xs) ++ line end_text) ≤ 380 * length xs + 4
+  singles_short xs limit h =
+      let n = singles_size xs in
+      let l = lines_short 0 (map single xs) (omega (arith, n, limit)) (singles_width xs h) in
+      let a = length-append (run_lines k 0 (map single xs)) (line end_text) in
+      omega (arith, n, l, a)
+
+-- ---- entries of several words
+
+joined : (w : List ℕ) (ws : List (List ℕ)) → length (join_with_byte 32 (w ∷ ws)) ≤ length w + (1 + length (join_with_byte 32 ws))
+joined w [] = omega arith
+joined w (u ∷ ws) = let a = length-append w (32 ∷ join_with_byte 32 (u ∷ ws)) in omega (arith, a)
+
+module _ {V E : Type 0} (P : V → Type 0) (Q : E → Type 0) where
+  pub pair_short : (k : Value V) (l : Columns E) (a b : ℕ) → ((v : V) → P v → length (k.spell v) ≤ a) → ((x : E) → Q x → length (entry_text l x) ≤ b)
+      → (p : Pair V E) → IsPairInWidth P Q p → length (entry_text (pair_columns k l) p) ≤ a + (1 + b)
+  pair_short k l a b h g p w = let i = h p.first w.first in let j = g p.others w.others in let n = joined (k.spell p.first) (l.words p.others) in omega (arith, i, j, n)
+
+  pub pairs_width : (vs : List V) (xs : List E) → Each P vs → Each Q xs → Each (IsPairInWidth P Q) (pairs vs xs)
+  pairs_width [] xs h k = tt
+  pairs_width (v ∷ vs) [] h k = tt
+  pairs_width (v ∷ vs) (x ∷ xs) h k = (record { first = h.0; others = k.0 }, pairs_width vs xs h.1 k.1)
+
+pub pairs_count : {V E : Type 0} (vs : List V) (xs : List E) → length (pairs vs xs) ≤ length vs
+pairs_count [] xs = omega arith
+pairs_count (v ∷ vs) [] = omega arith
+pairs_count (v ∷ vs) (x ∷ xs) = let n = pairs_count vs xs in omega (arith, n)

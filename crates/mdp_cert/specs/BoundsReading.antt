@@ -7,9 +7,8 @@ use Rattle.mdp_text.specs.{declared.error.Refusal.{Refusal}, Lines.{◌>>=◌, r
 use Rattle.mdp_text.specs.{Words.{first_of, words_behind, whole_at}, Heads.{init_parse, Head, head_by}}
 use Rattle.mdp_cert.specs.{declared.version.Version.TheVariants.{Two}, Cert.{PlainClaim, upper, reach, until, reward, mean, witness, may_be_infinite}}
 use Rattle.mdp_cert.specs.{Claims.{fraction_value, reward_value}, Reading.{claim_at, spread_at, entries_to_end}, declared.init.BoundsInit.{BoundsInit}}
-use Rattle.mdp_cert.specs.{declared.init.BoundsInit.TheVariants.{Missing, Between}, declared.ranked_entry.RankedEntry.{RankedEntry}}
-use Rattle.mdp_cert.specs.{declared.gains_entry.GainsEntry.{GainsEntry}, BoundsCert.{PlainBounds, probabilities, rewards, gains, Certificate, is_of_bounds}}
-use Rattle.mdp_cert.specs.{Entries.{ranked_columns, gains_columns}, BoundsSpelling.{version_text}}
+use Rattle.mdp_cert.specs.{declared.init.BoundsInit.TheVariants.{Missing, Between}, BoundsCert.{PlainBounds, probabilities, rewards, gains, Certificate, is_of_bounds}}
+use Rattle.mdp_cert.specs.{Entries.{Ranked, ranked_columns, Gains, gains_columns}, BoundsSpelling.{version_text}}
 
 -- ---- the lines of claim, states and init
 
@@ -46,15 +45,16 @@ head_from p = head_by bounds_claim_at (λ claim. init_at (may_be_infinite claim)
 
 -- ---- the lines behind them
 
-abbrev pub reach_body : List (RankedEntry ℚ) → PlainBounds
-reach_body xs = probabilities (map (λ x. x.lower) xs) (map (λ x. x.upper) xs) (map (λ x. x.choice) xs) (map (λ x. x.rank) xs)
+abbrev pub reach_body : List (Ranked ℚ) → PlainBounds
+reach_body xs = probabilities (map (λ x. x.first) xs) (map (λ x. x.others.first) xs) (map (λ x. x.others.others.first) xs) (map (λ x. x.others.others.others) xs)
 
-abbrev pub reward_body : List (RankedEntry (Option ℚ)) → PlainBounds
-reward_body xs = rewards (map (λ x. x.lower) xs) (map (λ x. x.upper) xs) (map (λ x. x.choice) xs) (map (λ x. x.rank) xs)
+abbrev pub reward_body : List (Ranked (Option ℚ)) → PlainBounds
+reward_body xs = rewards (map (λ x. x.first) xs) (map (λ x. x.others.first) xs) (map (λ x. x.others.others.first) xs) (map (λ x. x.others.others.others) xs)
 
-abbrev pub mean_body : ℚ → List GainsEntry → PlainBounds
+abbrev pub mean_body : ℚ → List Gains → PlainBounds
 mean_body spread xs =
-    gains (map (λ x. x.lower) xs) (map (λ x. x.upper) xs) (map (λ x. x.bound) xs) (map (λ x. x.bias) xs) (map (λ x. x.choice) xs) spread
+    gains (map (λ x. x.first) xs) (map (λ x. x.others.first) xs) (map (λ x. x.others.others.first) xs) (map (λ x. x.others.others.others.first) xs)
+    (map (λ x. x.others.others.others.others) xs) spread
 
 -- those of a mean payoff, with the line `end`
 abbrev pub mean_from : ℕ → Place → Result (PlainBounds × Place) Refusal

@@ -1,61 +1,67 @@
--- The words of a certificate of bounds behind the number of a state.
-use Rattle.std.specs.Prelude.{ℕ, ◌<◌, ◌^◌, ◌&&◌, ◌==◌, List, [], ◌∷◌, decimal, Option, Some, None, option_and_then}
+-- The words of each claim behind the number of a state.
+use Rattle.std.specs.Prelude.{ℕ, List}
 use Rattle.mdp_math.specs.Rational.{ℚ}
-use Rattle.mdp_num.specs.{Value.{spelling, IsNarrow}, Canonical.{canonical_of}, Equal.{eq_ℚ}}
-use Rattle.mdp_text.specs.Words.{whole_of}
-use Rattle.mdp_cert.specs.{Runs.{Columns}, Claims.{Value}, declared.ranked_entry.RankedEntry.{RankedEntry}, declared.gains_entry.GainsEntry.{GainsEntry}}
+use Rattle.mdp_num.specs.Value.{IsNarrow}
+use Rattle.mdp_cert.specs.{Runs.{Columns}, Claims.{Value, fraction_value}, declared.pair.Pair.{Pair}}
+use Rattle.mdp_cert.specs.Pairs.{IsShort, number_value, word_columns, pair_columns, IsPairInWidth, pairs}
 
--- ---- a lower value, an upper value, a choice and a rank: LOWER UPPER CHOICE RANK
+-- ---- an upper bound: V
 
-abbrev pub ranked_parse : {V : Type 0} → Value V → List (List ℕ) → Option (RankedEntry V)
-ranked_parse k (l ∷ u ∷ c ∷ r ∷ []) = option_and_then (λ lower. option_and_then (λ upper. option_and_then
-    (λ choice. option_and_then (λ rank. Some (record { lower = lower; upper = upper; choice = choice; rank = rank })) (whole_of r)) (whole_of c)) (k.parse u)) (k.parse l)
-ranked_parse k ws = None
+abbrev pub bound_columns : Columns ℚ
+bound_columns = word_columns fraction_value
 
-abbrev pub ranked_columns : {V : Type 0} → Value V → Columns (RankedEntry V)
-ranked_columns k = record {
-  width = 4;
-  parse = ranked_parse k;
-  words = λ x. k.spell x.lower ∷ k.spell x.upper ∷ decimal x.choice ∷ decimal x.rank ∷ [];
-  same = λ x y. k.same x.lower y.lower && k.same x.upper y.upper && (x.choice == y.choice) && (x.rank == y.rank);
-}
+-- ---- a value, a choice and a rank: V CHOICE RANK
 
-pub record IsRankedInWidth {V : Type 0} (IsInWidth : V → Type 0) (x : RankedEntry V) : Type 0 where
-  pub lower : IsInWidth x.lower
-  pub upper : IsInWidth x.upper
-  pub choice : x.choice < 2 ^ 32
-  pub rank : x.rank < 2 ^ 32
+abbrev pub Policy : Type 0 → Type 0
+Policy V = Pair V (Pair ℕ ℕ)
+
+abbrev pub policy_columns : {V : Type 0} → Value V → Columns (Policy V)
+policy_columns k = pair_columns k (pair_columns number_value (word_columns number_value))
+
+abbrev pub IsPolicyInWidth : {V : Type 0} → (V → Type 0) → Policy V → Type 0
+IsPolicyInWidth IsInWidth x = IsPairInWidth IsInWidth (IsPairInWidth IsShort IsShort) x
+
+-- the entries of three lists
+abbrev pub policies : {V : Type 0} → List V → List ℕ → List ℕ → List (Policy V)
+policies values choices ranks = pairs values (pairs choices ranks)
+
+-- ---- a gain, a bound, a bias and a choice: GAIN BOUND BIAS CHOICE
+
+abbrev pub Mean : Type 0
+Mean = Pair ℚ (Pair ℚ (Pair ℚ ℕ))
+
+abbrev pub mean_columns : Columns Mean
+mean_columns = pair_columns fraction_value (pair_columns fraction_value (pair_columns fraction_value (word_columns number_value)))
+
+abbrev pub IsMeanInWidth : Mean → Type 0
+IsMeanInWidth x = IsPairInWidth IsNarrow (IsPairInWidth IsNarrow (IsPairInWidth IsNarrow IsShort)) x
 
 -- the entries of four lists
-abbrev pub ranked_of : {V : Type 0} → List V → List V → List ℕ → List ℕ → List (RankedEntry V)
-ranked_of (l ∷ lower) (u ∷ upper) (c ∷ choices) (r ∷ ranks) = record { lower = l; upper = u; choice = c; rank = r } ∷ ranked_of lower upper choices ranks
-ranked_of lower upper choices ranks = []
+abbrev pub means : List ℚ → List ℚ → List ℚ → List ℕ → List Mean
+means gain bound bias choices = pairs gain (pairs bound (pairs bias choices))
 
--- ---- a lower gain, an upper gain, a bound, a bias and a choice: LOWER UPPER BOUND BIAS CHOICE
+-- ---- of bounds: one value more, which stands first
 
-abbrev pub gains_parse : List (List ℕ) → Option GainsEntry
-gains_parse (l ∷ u ∷ a ∷ b ∷ c ∷ []) = option_and_then (λ lower. option_and_then (λ upper. option_and_then (λ bound. option_and_then
-    (λ bias. option_and_then (λ choice. Some (record { lower = lower; upper = upper; bound = bound; bias = bias; choice = choice })) (whole_of c))
-    (canonical_of b)) (canonical_of a)) (canonical_of u)) (canonical_of l)
-gains_parse ws = None
+abbrev pub Ranked : Type 0 → Type 0
+Ranked V = Pair V (Policy V)
 
-abbrev pub gains_columns : Columns GainsEntry
-gains_columns = record {
-  width = 5;
-  parse = gains_parse;
-  words = λ x. spelling x.lower ∷ spelling x.upper ∷ spelling x.bound ∷ spelling x.bias ∷ decimal x.choice ∷ [];
-  same = λ x y. eq_ℚ x.lower y.lower && eq_ℚ x.upper y.upper && eq_ℚ x.bound y.bound && eq_ℚ x.bias y.bias && (x.choice == y.choice);
-}
+abbrev pub ranked_columns : {V : Type 0} → Value V → Columns (Ranked V)
+ranked_columns k = pair_columns k (policy_columns k)
 
-pub record IsGainsInWidth (x : GainsEntry) : Type 0 where
-  pub lower : IsNarrow x.lower
-  pub upper : IsNarrow x.upper
-  pub bound : IsNarrow x.bound
-  pub bias : IsNarrow x.bias
-  pub choice : x.choice < 2 ^ 32
+abbrev pub IsRankedInWidth : {V : Type 0} → (V → Type 0) → Ranked V → Type 0
+IsRankedInWidth IsInWidth x = IsPairInWidth IsInWidth (IsPairInWidth IsInWidth (IsPairInWidth IsShort IsShort)) x
 
--- the entries of five lists
-abbrev pub gains_of : List ℚ → List ℚ → List ℚ → List ℚ → List ℕ → List GainsEntry
-gains_of (l ∷ lower) (u ∷ upper) (a ∷ bound) (b ∷ bias) (c ∷ choices) =
-    record { lower = l; upper = u; bound = a; bias = b; choice = c } ∷ gains_of lower upper bound bias choices
-gains_of lower upper bound bias choices = []
+abbrev pub ranked_of : {V : Type 0} → List V → List V → List ℕ → List ℕ → List (Ranked V)
+ranked_of lower upper choices ranks = pairs lower (policies upper choices ranks)
+
+abbrev pub Gains : Type 0
+Gains = Pair ℚ Mean
+
+abbrev pub gains_columns : Columns Gains
+gains_columns = pair_columns fraction_value mean_columns
+
+abbrev pub IsGainsInWidth : Gains → Type 0
+IsGainsInWidth x = IsPairInWidth IsNarrow (IsPairInWidth IsNarrow (IsPairInWidth IsNarrow (IsPairInWidth IsNarrow IsShort))) x
+
+abbrev pub gains_of : List ℚ → List ℚ → List ℚ → List ℚ → List ℕ → List Gains
+gains_of lower upper bound bias choices = pairs lower (means upper bound bias choices)

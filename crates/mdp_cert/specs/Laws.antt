@@ -3,7 +3,7 @@ use Rattle.std.specs.Prelude.{◌≡◌, ◌↔◌, ◌⊎◌, ℕ, zero, suc, �
 use Rattle.std.specs.List.{position_or_len, before_first, after_first}
 use Rattle.mdp_text.specs.{declared.error.CertKind.TheVariants.{End}, declared.error.Refusal.{Refusal}, Lines.{is_line_feed}, Spelling.{line}}
 use Rattle.mdp_cert.specs.{declared.version.Version.{Version}, Cert.{Certificate, IsValueNarrow, Fits}, Runs.{Columns}}
-use Rattle.mdp_cert.specs.Claims.{fraction_value, reward_value, bound_columns, policy_columns, IsPolicyInWidth, mean_columns, IsMeanInWidth}
+use Rattle.mdp_cert.specs.{Claims.{fraction_value, reward_value}, Entries.{bound_columns, policy_columns, IsPolicyInWidth, mean_columns, IsMeanInWidth}}
 use Rattle.mdp_cert.specs.{Spelling.{text_in, text_of, old_text_of}, Reading.{outcome}}
 use Rattle.mdp_num.specs.Value.{IsNarrow}
 

@@ -2,6 +2,7 @@ pub mod Cert
 pub mod Plain
 pub mod Runs
 pub mod Claims
+pub mod Pairs
 pub mod Listed
 pub mod Witness
 pub mod Spelling

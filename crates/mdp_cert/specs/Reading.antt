@@ -11,10 +11,9 @@ use Rattle.mdp_text.specs.{declared.error.Refusal.{Refusal}, declared.init.Init.
 use Rattle.mdp_text.specs.Lines.{◌>>=◌, refused, refuse_if, or_refused, is_line, Place, place, line_by, nothing_behind}
 use Rattle.mdp_text.specs.Heads.{valued_at, start_at, Head, head_by}
 use Rattle.mdp_text.specs.{Words.{words, first_of, begins_with, words_behind, whole_at, frac_at, behind, is_quote, name_and_rest}, Spelling.{end_text}}
-use Rattle.mdp_cert.specs.{declared.version.Version.{Version}, declared.version.Version.TheVariants.{One, Two}, declared.mean_entry.MeanEntry.{MeanEntry}}
-use Rattle.mdp_cert.specs.declared.policy_entry.PolicyEntry.{PolicyEntry}
+use Rattle.mdp_cert.specs.{declared.version.Version.{Version}, declared.version.Version.TheVariants.{One, Two}}
 use Rattle.mdp_cert.specs.Cert.{PlainClaim, upper, reach, until, reward, mean, witness, may_be_infinite, is_witness, is_at_least_zero, PlainBody, bounds, policy, rewards, gains, Certificate}
-use Rattle.mdp_cert.specs.{Runs.{Columns, Run, run, single, entries_of}, Claims.{fraction_value, reward_value, bound_columns, policy_columns, mean_columns}}
+use Rattle.mdp_cert.specs.{Runs.{Columns, Run, run, single, entries_of}, Claims.{fraction_value, reward_value}, Entries.{bound_columns, Policy, policy_columns, Mean, mean_columns}}
 use Rattle.mdp_cert.specs.{Listed.{Listed}, Witness.{flow_listed, flow_body, floor_listed, floor_body}, Spelling.{version_text}}
 
 -- ---- the version
@@ -177,14 +176,14 @@ entries_to_end v k states p = do
   end ← line_by (is_line kind.Shape end_text) entries.1
   Ok (entries.0, end.1)
 
-abbrev pub policy_body : List (PolicyEntry ℚ) → PlainBody
-policy_body xs = policy (map (λ x. x.value) xs) (map (λ x. x.choice) xs) (map (λ x. x.rank) xs)
+abbrev pub policy_body : List (Policy ℚ) → PlainBody
+policy_body xs = policy (map (λ x. x.first) xs) (map (λ x. x.others.first) xs) (map (λ x. x.others.others) xs)
 
-abbrev pub reward_body : List (PolicyEntry (Option ℚ)) → PlainBody
-reward_body xs = rewards (map (λ x. x.value) xs) (map (λ x. x.choice) xs) (map (λ x. x.rank) xs)
+abbrev pub reward_body : List (Policy (Option ℚ)) → PlainBody
+reward_body xs = rewards (map (λ x. x.first) xs) (map (λ x. x.others.first) xs) (map (λ x. x.others.others) xs)
 
-abbrev pub mean_body : ℚ → List MeanEntry → PlainBody
-mean_body spread xs = gains (map (λ x. x.gain) xs) (map (λ x. x.bound) xs) (map (λ x. x.bias) xs) (map (λ x. x.choice) xs) spread
+abbrev pub mean_body : ℚ → List Mean → PlainBody
+mean_body spread xs = gains (map (λ x. x.first) xs) (map (λ x. x.others.first) xs) (map (λ x. x.others.others.first) xs) (map (λ x. x.others.others.others) xs) spread
 
 -- the line `spread K` of a certificate of mean payoffs
 unfoldable pub spread_at : ℕ → List ℕ → Result ℚ Refusal

@@ -4,7 +4,7 @@ use Rattle.mdp_math.specs.Rational.{ℚ}
 use Rattle.mdp_num.specs.Value.{spelling}
 use Rattle.mdp_cert.specs.{declared.version.Version.{Version}, declared.version.Version.TheVariants.{One, Two}}
 use Rattle.mdp_cert.specs.Cert.{PlainClaim, upper, reach, until, reward, mean, witness, PlainBody, bounds, policy, rewards, gains, flow, floor, Certificate}
-use Rattle.mdp_cert.specs.{Runs.{Columns, Run, runs_in}, Claims.{fraction_value, reward_value, bound_columns, policy_columns, policies, mean_columns, means}}
+use Rattle.mdp_cert.specs.{Runs.{Columns, Run, runs_in}, Claims.{fraction_value, reward_value}, Entries.{bound_columns, policy_columns, policies, mean_columns, means}}
 use Rattle.mdp_cert.specs.{Listed.{Listed}, Witness.{flow_listed, flow_lines, floor_listed, floor_lines}}
 use Rattle.mdp_text.specs.Spelling.{line, ◌␣◌, quoted, dir_text, states_text, init_text, end_text}
 

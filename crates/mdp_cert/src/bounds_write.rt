@@ -5,13 +5,11 @@ ghost use Rattle.mdp_cert.specs.BoundsSpelling.{init_text, head_text, body_text,
 
 use crate::bounds_body::BoundsBody;
 use crate::bounds_cert::BoundsCert;
-use crate::gains_lines::LentMean;
+use crate::gains_lines::push_gains;
 use crate::init::BoundsInit;
 use crate::push::{push_claim, push_spread};
-use crate::ranked_lines::{LentReach, LentReward};
+use crate::ranked_lines::push_ranked;
 use crate::values::push_value;
-use crate::version::Version;
-use crate::write::push_to_end;
 use mdp_num::{Frac, Memory};
 use mdp_text::Part::Bytes;
 use mdp_text::{or_cut_back, push_number, push_parts, push_start};
@@ -61,11 +59,25 @@ fn push_body(out: &mut Vec<u8>, cert: &BoundsCert) -> Result<(), Memory>
 {
     let states = cert.states;
     match &cert.body {
-        BoundsBody::Reach(cert) => push_to_end(out, Version::Two, states, &LentReach { cert }),
-        BoundsBody::Reward(cert) => push_to_end(out, Version::Two, states, &LentReward { cert }),
+        BoundsBody::Reach(cert) => push_ranked(
+            out,
+            states,
+            &cert.lower,
+            &cert.upper,
+            &cert.choices,
+            &cert.ranks,
+        ),
+        BoundsBody::Reward(cert) => push_ranked(
+            out,
+            states,
+            &cert.lower,
+            &cert.upper,
+            &cert.choices,
+            &cert.ranks,
+        ),
         BoundsBody::Mean(cert) => {
             push_spread(out, &cert.spread)?;
-            push_to_end(out, Version::Two, states, &LentMean { cert })
+            push_gains(out, states, cert)
         }
     }
 }

@@ -1,4 +1,4 @@
-ghost use Rattle.std.specs.Prelude.{◌≡◌, ◌<◌, ◌++◌, List, length, slice_index_or, OnOk};
+ghost use Rattle.std.specs.Prelude.{◌≡◌, ◌<◌, ◌==◌, ◌++◌, List, length, slice_index_or, OnOk};
 ghost use Rattle.mdp_text.specs.{Answer.{Keeps}, Words.{words}};
 ghost use Rattle.mdp_cert.specs.{Runs.{Columns}, Spelling.{entry_text}};
 
@@ -9,10 +9,10 @@ use mdp_num::Memory;
 pub trait Entry: Copy + Drop {
     ghost columns: { Columns Self };
 
-    /// How many words stand behind the numbers of states.
-    fn width() -> u8
-        ensures width { result ≡ columns.width }
-        ensures some { 0 < result };
+    /// Whether so many words stand behind the numbers of states.
+    fn has_width(count: usize) -> bool
+        ensures width { result ≡ (count == columns.width) }
+        ensures some { 0 < columns.width };
 
     /// What these words say, where each is the number due.
     fn read(text: &[u8]) -> Option<Self>
@@ -22,6 +22,7 @@ pub trait Entry: Copy + Drop {
     /// Appends the words, with a blank between each two.
     fn push_words(&self, out: &mut Vec<u8>) -> Result<(), Memory>
         ensures text { OnOk result (out.new.items ≡ out.old.items ++ entry_text columns self.now) }
+        ensures some { 0 < length (columns.words self.now) }
         ensures front { Keeps out.old.items out.new.items };
 
     /// Whether two states say the same.

@@ -2,8 +2,9 @@
 //! breaks a rule.
 //!
 //! The lines of states are the same for all claims: in version 1 a line for each state, in version 2 a line for each longest run of states with
-//! the same words. They are read in `state_lines` and written in `write`, over any `Entry`: the words behind a state's number. To add a claim with
-//! a line for each state, give its words (`Columns` in specs/Claims, `IsColumns` in proofs/Columns), an `Entry` and the `Lists` that keep it, and
+//! the same words. They are read in `state_lines` and written in `write`, over any `Entry`: the words behind a state's number. An entry of several
+//! words is a `Pair` of the first one's value and what the others say; so to add a claim with a line for each state, name its pairs of `Value`s
+//! (specs/Entries), write its lists by `LentPair` and take them from the entries by `First`, `Others` and `Behind`, and give
 //! a case in `push_body` and `body_from`; whether its values may be infinite is a case of `may_be_infinite`. A line more before those of the
 //! states is read and written in these cases. A body that lists lines of its own up to the line `end`, as that of a subsystem, gives a `Line` and
 //! the `Lines` that keep it instead (`Listed` in specs/Listed, `IsListed` in proofs/OneByOne); `listed` reads and writes them.
@@ -30,7 +31,6 @@ mod floor_line;
 mod floor_lines;
 mod flow_line;
 mod flow_lines;
-mod gains_entry;
 mod gains_lines;
 mod head;
 mod head_lines;
@@ -38,12 +38,11 @@ mod init;
 mod laws;
 mod listed;
 mod mark;
-mod mean_entry;
 mod mean_lines;
-mod policy_entry;
+mod pair;
+mod pairs;
 mod policy_lines;
 mod push;
-mod ranked_entry;
 mod ranked_lines;
 mod read;
 mod state_lines;
@@ -70,6 +69,8 @@ pub use init::BoundsInit;
 pub use laws::{refusal_law, text_law};
 pub use mdp_text::{CertError, CertKind, Init, Refusal};
 pub use mean_lines::spread_at;
+pub use pair::Pair;
+pub use pairs::{Behind, First, Lent, LentPair, Others};
 pub use push::{push_claim, push_spread};
 pub use read::read_cert;
 pub use state_lines::entries_to_end;

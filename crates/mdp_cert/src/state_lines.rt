@@ -1,15 +1,39 @@
 ghost use Rattle.std.specs.Prelude.{◌≡◌, [], ◌+◌, ◌<◌, ◌≤◌, ◌^◌, ◌++◌, ◌==◌, ◌||◌, not, nat_lt, Ok, Err, OnOk, IfOk, MatchResult, length};
-ghost use Rattle.std.proofs.Math.ListN.{replicate};
-ghost use Rattle.mdp_text.specs.{Answer.{Refuses}, Lines.{place}};
+ghost use Rattle.std.{specs.Bool.{OnTrue}, proofs.Math.ListN.{replicate}};
+ghost use Rattle.mdp_text.specs.{Answer.{Refuses}, Lines.{place}, Words.{words, words_behind}};
 ghost use Rattle.mdp_cert.specs.{Runs.{run}, Reading.{state_at, run_at, is_same, line_of_states, longest_at, run_in, entries_from, entries_to_end}};
 
 use crate::entries::Entry;
 use crate::version::Version;
 use mdp_text::{
     CertError, CertKind, Refusal, begins_with, cut_word, is_line, next_line, refuse_if, whole_of,
-    words_behind,
+    word_count, words_behind,
 };
 use std::alloc::{AllocError, Global};
+
+/// Whether so many words are these numbers and the words of an entry.
+fn is_count<E: Entry>(numbers: usize, count: usize) -> bool
+    ensures count { result ≡ (count == numbers + E.columns.width) }
+    ensures some { OnTrue result (numbers < count) }
+{
+    count >= numbers && E::has_width(count - numbers)
+}
+
+/// The words behind the first one, where it is the one that is due and so many numbers and the words of an entry follow; else `Shape`.
+fn numbered<'a, E: Entry>(
+    numbers: usize,
+    line: u64,
+    text: &'a [u8],
+    due: &[u8],
+) -> Result<&'a [u8], Refusal>
+    ensures words { let found = words_behind due.now (numbers + E.columns.width) line text.now in MatchResult result (λ a. found ≡ Ok (words a.now)) (λ e. found ≡ Err e) }
+    ensures count { IfOk result (λ a. length (words a.now) ≡ numbers + E.columns.width) }
+    ensures some { IfOk result (λ a. numbers < length (words a.now)) }
+{
+    let count = word_count(text) - 1;
+    refuse_if(CertKind::Shape, line, !is_count::<E>(numbers, count))?;
+    words_behind(line, text, due, count)
+}
 
 /// The entry of the line `state S WORDS`, where S is the state that is due, and that no more states follow in it.
 #[tactic(auto, unfolding(crate::specs::Reading::state_at, crate::specs::Reading::entry_at, mdp_text::specs::Words::whole_at))]
@@ -17,7 +41,7 @@ fn state_at<E: Entry>(due: u32, line: u64, text: &[u8]) -> Result<(E, u32), Refu
     ensures said { let due_run = state_at E.columns due line text.now in MatchResult result (λ r. due_run ≡ Ok (run r.0 r.1)) (λ e. due_run ≡ Err e) }
     ensures alone { IfOk result (λ r. r.1 ≡ 0) }
 {
-    let behind = words_behind(line, text, b"state", 1 + usize::from(E::width()))?;
+    let behind = numbered::<E>(1, line, text, b"state")?;
     let (state, behind) = cut_word(behind);
     let (Some(state), Some(entry)) = (whole_of(state), E::read(behind)) else {
         return Err(Refusal {
@@ -42,7 +66,7 @@ fn run_at<E: Entry>(states: u32, due: u32, line: u64, text: &[u8]) -> Result<(E,
     ensures said { let due_run = run_at E.columns states due line text.now in MatchResult result (λ r. due_run ≡ Ok (run r.0 r.1)) (λ e. due_run ≡ Err e) }
     ensures inside { IfOk result (λ r. due + r.1 < states) }
 {
-    let behind = words_behind(line, text, b"run", 2 + usize::from(E::width()))?;
+    let behind = numbered::<E>(2, line, text, b"run")?;
     let (first, behind) = cut_word(behind);
     let (last, behind) = cut_word(behind);
     let (Some(first), Some(last), Some(entry)) = (whole_of(first), whole_of(last), E::read(behind))

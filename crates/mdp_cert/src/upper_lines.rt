@@ -1,4 +1,4 @@
-ghost use Rattle.mdp_cert.specs.Claims.{bound_columns};
+ghost use Rattle.mdp_cert.specs.{Entries.{bound_columns}};
 
 use crate::entries::{Entry, Lists};
 use mdp_claims::UpperCert;
@@ -9,8 +9,8 @@ use mdp_text::only_word;
 impl Entry for Frac {
     ghost columns = { bound_columns };
 
-    fn width() -> u8 {
-        1
+    fn has_width(count: usize) -> bool {
+        count == 1
     }
 
     fn read(text: &[u8]) -> Option<Frac> {

@@ -9,6 +9,8 @@ use crate::cert::Cert;
 use crate::entries::{Entry, Lists};
 use crate::laws::text_law;
 use crate::listed::push_listed;
+use crate::mean_lines::push_means;
+use crate::policy_lines::push_policy;
 use crate::push::{push_claim, push_run, push_spread};
 use crate::version::Version;
 use mdp_num::Memory;
@@ -113,11 +115,25 @@ fn push_body(out: &mut Vec<u8>, version: Version, cert: &Cert) -> Result<(), Mem
 {
     match &cert.body {
         Body::Upper(bounds) => push_to_end(out, version, cert.states, bounds),
-        Body::Reach(policy) => push_to_end(out, version, cert.states, policy),
-        Body::Reward(policy) => push_to_end(out, version, cert.states, policy),
+        Body::Reach(policy) => push_policy(
+            out,
+            version,
+            cert.states,
+            &policy.values,
+            &policy.choices,
+            &policy.ranks,
+        ),
+        Body::Reward(policy) => push_policy(
+            out,
+            version,
+            cert.states,
+            &policy.values,
+            &policy.choices,
+            &policy.ranks,
+        ),
         Body::Mean(mean) => {
             push_spread(out, &mean.spread)?;
-            push_to_end(out, version, cert.states, mean)
+            push_means(out, version, cert.states, mean)
         }
         Body::Flow(flow) => push_listed(out, flow.kept.len() + flow.flows.len(), flow),
         Body::Floor(floor) => push_listed(out, floor.kept.len(), floor),

@@ -1,19 +1,20 @@
 -- The text of a certificate of bounds of discounted rewards has at most 2^30 bytes.
-use Rattle.std.proofs.Common.{◌≡◌, ℕ, ◌+◌, ◌*◌, ◌<◌, ◌≤◌, ◌^◌, true, List, [], ◌∷◌, ◌++◌, length, codes, decimal, Option, Some, None, IfSome, arith, lit<, ltb→lt, T, sym, subst}
-use Rattle.std.proofs.{lemmas.List.{length-append}, lemmas.List.Elements.{recursion_from_All}}
+use Rattle.std.proofs.Common.{◌≡◌, ℕ, ◌+◌, ◌*◌, ◌<◌, ◌≤◌, ◌^◌, true, List, [], ◌∷◌, length, map, codes, decimal, Option, Some, None, IfSome, arith, lit<, ltb→lt, T, sym, subst}
+use Rattle.std.proofs.{lemmas.List.{length-append, length-map}, lemmas.List.Elements.{recursion_from_All}}
 use Rattle.std.specs.{Prelude.{IsTrue}, List.{AllByRecursion as Each}}
 use Rattle.mdp_math.specs.Rational.{ℚ}
 use Rattle.mdp_num.specs.Value.{spelling, IsNarrow}
-use Rattle.mdp_text.proofs.Lengths.{number_short, spelling_short, blank_length, line_length, name_short, quoted_length, states_short}
-use Rattle.mdp_text.specs.Spelling.{line, ◌␣◌, quoted, states_text}
+use Rattle.mdp_text.proofs.Lengths.{number_short, spelling_short, blank_length, name_short, quoted_length, states_short}
+use Rattle.mdp_text.specs.Spelling.{◌␣◌, quoted, states_text}
 use Rattle.mdp_rows.specs.{Name.{is_name}, declared.dir.Dir.{Dir}}
 use Rattle.mdp_cert.specs.Claims.{reward_text}
-use Rattle.mdp_discount_text.specs.{Spelling.{claim_text, remainder_text}, Entries.{lower_text, between_columns, IsEntryInWidth, entries_of}}
+use Rattle.mdp_discount_text.specs.{Spelling.{claim_text, remainder_text}, Entries.{lower, lower_text, lower_value, between_columns, IsEntryInWidth, entries_of}}
+use Rattle.mdp_cert.specs.{Claims.{reward_value}, Pairs.{IsShort, number_value, word_columns, pair_columns, IsPairInWidth, pairs}}
 use Rattle.mdp_discount_text.specs.BoundsSpelling.{version_text, init_text, head_text, text_of}
 use Rattle.mdp_discount_bounds.specs.{Cert.{Certificate, Fits, IsValueNarrow, is_init}, declared.init.InitialBounds.{InitialBounds}}
 use Rattle.mdp_command.specs.Files.{most_bytes}
 use Rattle.mdp_command.proofs.HeadLengths.{five_lines}
-use Rattle.mdp_cert.proofs.RunLengths.{lines_of, closed_short}
+use Rattle.mdp_cert.proofs.RunLengths.{lines_of, closed_short, pair_short, pairs_width, pairs_count}
 use Rattle.mdp_command_bounds_search.proofs.TextLength.{two_words}
 
 -- ---- the lines before those of the states
@@ -52,27 +53,6 @@ init_short n (Some i) limit inside w =
 remainder_short : (x : ℚ) → IsNarrow x → length (remainder_text x) ≤ 100
 remainder_short x h = let a = blank_length (codes "remainder") (spelling x) in let s = spelling_short x h in omega (arith, a, s)
 
--- ---- the lines of the states
-
-between_short : (l u : List ℕ) (c : ℕ) → length l ≤ 80 → length u ≤ 80 → c < 2 ^ 32 → length (l ␣ (u ␣ decimal c)) ≤ 340
-between_short l u c hl hu hc =
-    let a = blank_length l (u ␣ decimal c) in
-    let b = blank_length u (decimal c) in
-    let y = number_short c hc in
-    omega (arith, a, b, hl, hu, y)
-
-entries_width : (ls us : List (Option ℚ)) (cs : List ℕ) → Each IsValueNarrow ls → Each IsValueNarrow us → Each (λ c. c < 2 ^ 32) cs → Each IsEntryInWidth (entries_of ls us cs)
-entries_width (l ∷ ls) (u ∷ us) (c ∷ cs) p q o = (record { lower = p.0; upper = q.0; choice = o.0 }, entries_width ls us cs p.1 q.1 o.1)
-entries_width [] us cs p q o = tt
-entries_width (l ∷ ls) [] cs p q o = tt
-entries_width (l ∷ ls) (u ∷ us) [] p q o = tt
-
-entries_count : (ls us : List (Option ℚ)) (cs : List ℕ) → length (entries_of ls us cs) ≤ length ls
-entries_count (l ∷ ls) (u ∷ us) (c ∷ cs) = let n = entries_count ls us cs in omega (arith, n)
-entries_count [] us cs = omega arith
-entries_count (l ∷ ls) [] cs = omega arith
-entries_count (l ∷ ls) (u ∷ us) [] = omega arith
-
 -- ---- the whole
 
 module _ (c : Certificate) (fits : Fits c) where
@@ -90,13 +70,18 @@ module _ (c : Certificate) (fits : Fits c) where
   lines_short : length (lines_of between_columns (entries_of c.lower c.upper c.choices)) ≤ 380 * length c.lower + 4
   lines_short =
       let few = fits.limit in
-      let count = entries_count c.lower c.upper c.choices in
-      let l = closed_short between_columns IsEntryInWidth
-      (λ x h. between_short (lower_text x.lower) (reward_text x.upper) x.choice (lower_short x.lower h.lower) (upper_short x.upper h.upper) h.choice)
-      (entries_of c.lower c.upper c.choices) (omega (arith, count, few))
-      (entries_width c.lower c.upper c.choices (recursion_from_All IsValueNarrow c.lower fits.lower_width) (recursion_from_All IsValueNarrow c.upper fits.upper_width)
-      (recursion_from_All (λ x. x < 2 ^ 32) c.choices fits.choices_width)) in
-      omega (arith, l, count)
+      let size = length-map c.lower lower in
+      let count = pairs_count (map lower c.lower) (pairs c.upper c.choices) in
+      let two = pair_short IsValueNarrow IsShort reward_value (word_columns number_value) 80 10 upper_short number_short in
+      let words = pair_short (λ l. IsValueNarrow l.value) (IsPairInWidth IsValueNarrow IsShort) lower_value (pair_columns reward_value (word_columns number_value)) 80 91 (λ l h. lower_short l.value h) two in
+      let l = closed_short between_columns IsEntryInWidth (λ x h. let w = words x h in omega (arith, w)) (entries_of c.lower c.upper c.choices) (omega (arith, count, size, few))
+      (pairs_width (λ l. IsValueNarrow l.value) _ (map lower c.lower) (pairs c.upper c.choices) (each c.lower (recursion_from_All IsValueNarrow c.lower fits.lower_width))
+      (pairs_width IsValueNarrow IsShort c.upper c.choices (recursion_from_All IsValueNarrow c.upper fits.upper_width) (recursion_from_All IsShort c.choices fits.choices_width))) in
+      omega (arith, l, count, size)
+    where
+      each : (ls : List (Option ℚ)) → Each IsValueNarrow ls → Each (λ l. IsValueNarrow l.value) (map lower ls)
+      each [] h = tt
+      each (l ∷ ls) h = (h.0, each ls h.1)
 
   pub text_short : length (text_of c) ≤ most_bytes
   unfolding text_of

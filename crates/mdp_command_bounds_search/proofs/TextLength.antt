@@ -1,5 +1,5 @@
 -- The text of a certificate of bounds has at most 2^30 bytes.
-use Rattle.std.proofs.Common.{◌≡◌, ℕ, ◌+◌, ◌*◌, ◌<◌, ◌≤◌, ◌^◌, true, List, [], ◌∷◌, ◌++◌, length}
+use Rattle.std.proofs.Common.{◌≡◌, ℕ, ◌+◌, ◌*◌, ◌<◌, ◌≤◌, ◌^◌, true, List, ◌++◌, length}
 use Rattle.std.proofs.{Common.{codes, decimal, Option, Some, None, arith, lit<, ltb→lt, T, sym, subst}, lemmas.Bool.{and_parts}, lemmas.List.{length-append}}
 use Rattle.std.proofs.lemmas.List.Elements.{recursion_from_All}
 use Rattle.std.specs.List.{AllByRecursion as Each}
@@ -8,11 +8,13 @@ use Rattle.mdp_num.specs.Value.{spelling, IsNarrow}
 use Rattle.mdp_text.proofs.Lengths.{number_short, spelling_short, blank_length, line_length, name_short, dir_length, quoted_length, states_short}
 use Rattle.mdp_text.specs.Spelling.{line, ◌␣◌, quoted, dir_text, states_text}
 use Rattle.mdp_rows.specs.{Name.{is_name}, declared.dir.Dir.{Dir}}
-use Rattle.mdp_cert.proofs.{RunLengths.{lines_of, closed_short}, BoundsBodies.{reach-counts, reward-counts, mean-counts}}
+use Rattle.mdp_cert.proofs.{RunLengths.{lines_of, closed_short, pair_short, pairs_width, pairs_count}, BoundsBodies.{reach-counts, reward-counts, mean-counts}}
 use Rattle.mdp_cert.specs.Cert.{PlainClaim, upper, reach, until, reward, mean, witness, are_names, IsValueNarrow}
 use Rattle.mdp_cert.specs.{Claims.{Value, fraction_value, reward_value, reward_text}, Spelling.{claim_text, spread_text}}
 use Rattle.mdp_cert.specs.BoundsCert.{PlainBounds, probabilities, rewards, gains, Certificate, Fits, is_init_of, is_body_of, IsInitInWidth, IsBodyInWidth}
-use Rattle.mdp_cert.specs.Entries.{ranked_columns, IsRankedInWidth, ranked_of, gains_columns, IsGainsInWidth, gains_of}
+use Rattle.mdp_cert.specs.Pairs.{number_value, word_columns, pair_columns, IsPairInWidth, pairs}
+use Rattle.mdp_cert.specs.Pairs.{IsShort as IsSmall}
+use Rattle.mdp_cert.specs.Entries.{policy_columns, IsPolicyInWidth, policies, mean_columns, IsMeanInWidth, means, ranked_columns, IsRankedInWidth, ranked_of, gains_columns, IsGainsInWidth, gains_of}
 use Rattle.mdp_cert.specs.{BoundsSpelling.{version_text, init_text, head_text, body_text, text_of}, declared.init.BoundsInit.{BoundsInit}}
 use Rattle.mdp_cert.specs.declared.init.BoundsInit.TheVariants.{Missing, Between}
 use Rattle.mdp_command.specs.Files.{most_bytes}
@@ -77,66 +79,6 @@ init_line_short claim n (Between s x y) limit inside w =
     let v = reward_short y w.1 in
     omega (arith, a, b, c, l, u, v)
 
--- ---- the lines of the states
-
-ranked_short : (l u : List ℕ) (c r : ℕ) → length l ≤ 80 → length u ≤ 80 → c < 2 ^ 32 → r < 2 ^ 32 → length (l ␣ (u ␣ (decimal c ␣ decimal r))) ≤ 340
-ranked_short l u c r hl hu hc hr =
-    let a = blank_length l (u ␣ (decimal c ␣ decimal r)) in
-    let b = blank_length u (decimal c ␣ decimal r) in
-    let d = blank_length (decimal c) (decimal r) in
-    let y = number_short c hc in
-    let z = number_short r hr in
-    omega (arith, a, b, d, hl, hu, y, z)
-
-gains_short : (l u a b : ℚ) (c : ℕ) → IsNarrow l → IsNarrow u → IsNarrow a → IsNarrow b → c < 2 ^ 32
-    → length (spelling l ␣ (spelling u ␣ (spelling a ␣ (spelling b ␣ decimal c)))) ≤ 340
-gains_short l u a b c hl hu ha hb hc =
-    let v = blank_length (spelling l) (spelling u ␣ (spelling a ␣ (spelling b ␣ decimal c))) in
-    let w = blank_length (spelling u) (spelling a ␣ (spelling b ␣ decimal c)) in
-    let x = blank_length (spelling a) (spelling b ␣ decimal c) in
-    let y = blank_length (spelling b) (decimal c) in
-    let p = spelling_short l hl in
-    let q = spelling_short u hu in
-    let r = spelling_short a ha in
-    let s = spelling_short b hb in
-    let n = number_short c hc in
-    omega (arith, v, w, x, y, p, q, r, s, n)
-
-module _ {V : Type 0} (P : V → Type 0) where
-  ranked_width : (ls us : List V) (cs rs : List ℕ) → Each P ls → Each P us → Each (λ c. c < 2 ^ 32) cs → Each (λ r. r < 2 ^ 32) rs
-      → Each (IsRankedInWidth P) (ranked_of ls us cs rs)
-  ranked_width (l ∷ ls) (u ∷ us) (c ∷ cs) (r ∷ rs) p q o n = (record { lower = p.0; upper = q.0; choice = o.0; rank = n.0 }, ranked_width ls us cs rs p.1 q.1 o.1 n.1)
-  ranked_width [] us cs rs p q o n = tt
-  ranked_width (l ∷ ls) [] cs rs p q o n = tt
-  ranked_width (l ∷ ls) (u ∷ us) [] rs p q o n = tt
-  ranked_width (l ∷ ls) (u ∷ us) (c ∷ cs) [] p q o n = tt
-
-  -- no more entries than lower values
-  ranked_count : (ls us : List V) (cs rs : List ℕ) → length (ranked_of ls us cs rs) ≤ length ls
-  ranked_count (l ∷ ls) (u ∷ us) (c ∷ cs) (r ∷ rs) = let n = ranked_count ls us cs rs in omega (arith, n)
-  ranked_count [] us cs rs = omega arith
-  ranked_count (l ∷ ls) [] cs rs = omega arith
-  ranked_count (l ∷ ls) (u ∷ us) [] rs = omega arith
-  ranked_count (l ∷ ls) (u ∷ us) (c ∷ cs) [] = omega arith
-
-gains_width : (ls us zs bs : List ℚ) (cs : List ℕ) → Each IsNarrow ls → Each IsNarrow us → Each IsNarrow zs → Each IsNarrow bs → Each (λ c. c < 2 ^ 32) cs
-    → Each IsGainsInWidth (gains_of ls us zs bs cs)
-gains_width (l ∷ ls) (u ∷ us) (z ∷ zs) (b ∷ bs) (c ∷ cs) p q r o n =
-    (record { lower = p.0; upper = q.0; bound = r.0; bias = o.0; choice = n.0 }, gains_width ls us zs bs cs p.1 q.1 r.1 o.1 n.1)
-gains_width [] us zs bs cs p q r o n = tt
-gains_width (l ∷ ls) [] zs bs cs p q r o n = tt
-gains_width (l ∷ ls) (u ∷ us) [] bs cs p q r o n = tt
-gains_width (l ∷ ls) (u ∷ us) (z ∷ zs) [] cs p q r o n = tt
-gains_width (l ∷ ls) (u ∷ us) (z ∷ zs) (b ∷ bs) [] p q r o n = tt
-
-gains_count : (ls us zs bs : List ℚ) (cs : List ℕ) → length (gains_of ls us zs bs cs) ≤ length ls
-gains_count (l ∷ ls) (u ∷ us) (z ∷ zs) (b ∷ bs) (c ∷ cs) = let n = gains_count ls us zs bs cs in omega (arith, n)
-gains_count [] us zs bs cs = omega arith
-gains_count (l ∷ ls) [] zs bs cs = omega arith
-gains_count (l ∷ ls) (u ∷ us) [] bs cs = omega arith
-gains_count (l ∷ ls) (u ∷ us) (z ∷ zs) [] cs = omega arith
-gains_count (l ∷ ls) (u ∷ us) (z ∷ zs) (b ∷ bs) [] = omega arith
-
 -- ---- the whole
 
 -- at most so many bytes for each state, and a line of the spread
@@ -147,19 +89,27 @@ module _ (states : ℕ) (limit : states ≤ 2 ^ 20) where
   ranked_lines_short : {V : Type 0} (k : Value V) (P : V → Type 0) → ((v : V) → P v → length (k.spell v) ≤ 80) → (ls us : List V) (cs rs : List ℕ) → length ls ≡ states
       → Each P ls → Each P us → Each (λ c. c < 2 ^ 32) cs → Each (λ r. r < 2 ^ 32) rs → IsShort states (lines_of (ranked_columns k) (ranked_of ls us cs rs))
   ranked_lines_short k P short ls us cs rs size p q o n =
-      let count = ranked_count P ls us cs rs in
-      let l = closed_short (ranked_columns k) (IsRankedInWidth P)
-      (λ x h. ranked_short (k.spell x.lower) (k.spell x.upper) x.choice x.rank (short x.lower h.lower) (short x.upper h.upper) h.choice h.rank)
-      (ranked_of ls us cs rs) (omega (arith, count, size, limit)) (ranked_width P ls us cs rs p q o n) in
+      let count = pairs_count ls (policies us cs rs) in
+      let two = pair_short IsSmall IsSmall number_value (word_columns number_value) 10 10 number_short number_short in
+      let three = pair_short P (IsPairInWidth IsSmall IsSmall) k (pair_columns number_value (word_columns number_value)) 80 21 short two in
+      let words = pair_short P (IsPolicyInWidth P) k (policy_columns k) 80 102 short three in
+      let l = closed_short (ranked_columns k) (IsRankedInWidth P) (λ x h. let w = words x h in omega (arith, w)) (ranked_of ls us cs rs) (omega (arith, count, size, limit))
+      (pairs_width P (IsPolicyInWidth P) ls (policies us cs rs) p (pairs_width P (IsPairInWidth IsSmall IsSmall) us (pairs cs rs) q (pairs_width IsSmall IsSmall cs rs o n))) in
       omega (arith, l, count, size)
 
   gains_lines_short : (ls us zs bs : List ℚ) (cs : List ℕ) (spread : ℚ) → length ls ≡ states → Each IsNarrow ls → Each IsNarrow us → Each IsNarrow zs → Each IsNarrow bs
       → Each (λ c. c < 2 ^ 32) cs → IsNarrow spread → IsShort states (line (spread_text spread) ++ lines_of gains_columns (gains_of ls us zs bs cs))
   gains_lines_short ls us zs bs cs spread size p q r o n narrow =
-      let count = gains_count ls us zs bs cs in
+      let count = pairs_count ls (means us zs bs cs) in
       let lines = lines_of gains_columns (gains_of ls us zs bs cs) in
-      let l = closed_short gains_columns IsGainsInWidth (λ x h. gains_short x.lower x.upper x.bound x.bias x.choice h.lower h.upper h.bound h.bias h.choice)
-      (gains_of ls us zs bs cs) (omega (arith, count, size, limit)) (gains_width ls us zs bs cs p q r o n) in
+      let two = pair_short IsNarrow IsSmall fraction_value (word_columns number_value) 80 10 spelling_short number_short in
+      let three = pair_short IsNarrow (IsPairInWidth IsNarrow IsSmall) fraction_value (pair_columns fraction_value (word_columns number_value)) 80 91 spelling_short two in
+      let four = pair_short IsNarrow (IsPairInWidth IsNarrow (IsPairInWidth IsNarrow IsSmall)) fraction_value (pair_columns fraction_value (pair_columns fraction_value (word_columns number_value))) 80 172
+      spelling_short three in
+      let words = pair_short IsNarrow IsMeanInWidth fraction_value mean_columns 80 253 spelling_short four in
+      let l = closed_short gains_columns IsGainsInWidth (λ x h. let w = words x h in omega (arith, w)) (gains_of ls us zs bs cs) (omega (arith, count, size, limit))
+      (pairs_width IsNarrow IsMeanInWidth ls (means us zs bs cs) p (pairs_width IsNarrow _ us (pairs zs (pairs bs cs)) q (pairs_width IsNarrow _ zs (pairs bs cs) r
+      (pairs_width IsNarrow IsSmall bs cs o n)))) in
       let a = length-append (line (spread_text spread)) lines in
       let b = line_length (spread_text spread) in
       let d = blank_length (codes "spread") (spelling spread) in

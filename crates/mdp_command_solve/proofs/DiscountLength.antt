@@ -1,15 +1,18 @@
 -- The text of a certificate of the discounted reward has at most 2^30 bytes.
-use Rattle.std.proofs.Common.{◌≡◌, ℕ, suc, ◌+◌, ◌*◌, ◌<◌, ◌≤◌, ◌^◌, true, List, [], ◌∷◌, ◌++◌, length, codes, decimal, arith, lit<, ltb→lt, T, sym, subst}
+use Rattle.std.proofs.Common.{◌≡◌, ℕ, ◌<◌, ◌≤◌, ◌^◌, true, List, length, codes, arith, lit<, ltb→lt, T, sym, subst}
 use Rattle.std.proofs.{lemmas.List.{length-append}, lemmas.List.Elements.{recursion_from_All}}
-use Rattle.std.specs.{Prelude.{IsTrue}, List.{AllByRecursion as Each}}
+use Rattle.std.specs.{Prelude.{IsTrue}}
 use Rattle.mdp_math.specs.Rational.{ℚ}
 use Rattle.mdp_num.specs.Value.{spelling, IsNarrow}
 use Rattle.mdp_rows.specs.{Name.{is_name}, declared.dir.Dir.{Dir}}
 use Rattle.mdp_text.specs.{declared.init.Init.{Init}, declared.init.Init.TheVariants.{Missing, Finite, Infinite, Start}}
-use Rattle.mdp_text.specs.{Spelling.{line, ◌␣◌, quoted, dir_text, states_text, init_text, end_text}, Heads.{IsInitInWidth}}
-use Rattle.mdp_text.proofs.Lengths.{number_short, spelling_short, blank_length, line_length, name_short, dir_length, quoted_length, states_short, IsShortInit, init_short}
+use Rattle.mdp_text.specs.{Spelling.{◌␣◌, quoted, dir_text, states_text, init_text}, Heads.{IsInitInWidth}}
+use Rattle.mdp_text.proofs.Lengths.{number_short, spelling_short, blank_length, name_short, dir_length, quoted_length, states_short, IsShortInit, init_short}
 use Rattle.mdp_discount_rules.specs.Cert.{is_init, IsInitNarrow, Certificate, Fits}
-use Rattle.mdp_discount_text.specs.Spelling.{version_text, claim_text, remainder_text, state_text, state_lines, head_text, text_of}
+use Rattle.mdp_discount_text.specs.Spelling.{version_text, claim_text, remainder_text, head_text, text_of}
+use Rattle.mdp_cert.specs.{declared.version.Version.TheVariants.{One}, Claims.{fraction_value}, Pairs.{IsShort, number_value, word_columns, IsPairInWidth, pairs}, Spelling.{closed_lines}}
+use Rattle.mdp_cert.proofs.RunLengths.{singles_short, pair_short, pairs_width, pairs_count}
+use Rattle.mdp_discount_text.specs.Entries.{priced_columns}
 use Rattle.mdp_command.specs.Files.{most_bytes}
 use Rattle.mdp_command.proofs.HeadLengths.{five_lines}
 
@@ -46,29 +49,6 @@ in_width (Start state) narrow = tt
 remainder_short : (x : ℚ) → IsNarrow x → length (remainder_text x) ≤ 100
 remainder_short x h = let a = blank_length (codes "remainder") (spelling x) in let s = spelling_short x h in omega (arith, a, s)
 
--- ---- the lines of the states
-
-state_short : (s : ℕ) (v : ℚ) (c : ℕ) → s < 2 ^ 32 → IsNarrow v → c < 2 ^ 32 → length (line (state_text s v c)) ≤ 120
-state_short s v c hs hv hc =
-    let a = blank_length (codes "state") (decimal s ␣ spelling v ␣ decimal c) in
-    let b = blank_length (decimal s) (spelling v ␣ decimal c) in
-    let d = blank_length (spelling v) (decimal c) in
-    let e = line_length (state_text s v c) in
-    let x = number_short s hs in
-    let y = spelling_short v hv in
-    let z = number_short c hc in
-    omega (arith, a, b, d, e, x, y, z)
-
-lines_short : (s : ℕ) (vs : List ℚ) (cs : List ℕ) → s + length vs ≤ 2 ^ 20 → Each IsNarrow vs → Each (λ c. c < 2 ^ 32) cs → length (state_lines s vs cs) ≤ 120 * length vs
-lines_short s [] cs limit p q = omega arith
-lines_short s (v ∷ vs) [] limit p q = omega arith
-lines_short s (v ∷ vs) (c ∷ cs) limit p q =
-    let w : 2 ^ 20 < 2 ^ 32 = lit< tt in
-    let a = state_short s v c (omega (arith, limit, w)) p.0 q.0 in
-    let b = lines_short (suc s) vs cs (omega (arith, limit)) p.1 q.1 in
-    let e = length-append (line (state_text s v c)) (state_lines (suc s) vs cs) in
-    omega (arith, a, b, e)
-
 -- ---- the whole
 
 module _ (c : Certificate) (fits : Fits c) where
@@ -88,7 +68,10 @@ module _ (c : Certificate) (fits : Fits c) where
   text_short =
       let few = fits.limit in
       let h = head_short in
-      let l = lines_short 0 c.values c.choices (omega (arith, few)) (recursion_from_All _ _ fits.values_width) (recursion_from_All _ _ fits.choices_width) in
-      let a = length-append (head_text c) (state_lines 0 c.values c.choices ++ line end_text) in
-      let b = length-append (state_lines 0 c.values c.choices) (line end_text) in
-      omega (arith, few, h, l, a, b)
+      let xs = pairs c.values c.choices in
+      let n = pairs_count c.values c.choices in
+      let words = pair_short IsNarrow IsShort fraction_value (word_columns number_value) 80 10 spelling_short number_short in
+      let l = singles_short priced_columns (IsPairInWidth IsNarrow IsShort) (λ x w. let s = words x w in omega (arith, s)) xs (omega (arith, few, n))
+      (pairs_width IsNarrow IsShort c.values c.choices (recursion_from_All _ _ fits.values_width) (recursion_from_All _ _ fits.choices_width)) in
+      let a = length-append (head_text c) (closed_lines One priced_columns xs) in
+      omega (arith, few, n, h, l, a)

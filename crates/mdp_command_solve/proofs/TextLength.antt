@@ -1,5 +1,5 @@
 -- The text of a certificate whose claim is no subsystem's has at most 2^30 bytes.
-use Rattle.std.proofs.Common.{◌≡◌, ℕ, ◌+◌, ◌*◌, ◌<◌, ◌≤◌, ◌^◌, Bool, true, false, List, [], ◌∷◌, ◌++◌, length, codes, decimal, Option, Some, None, arith, lit<}
+use Rattle.std.proofs.Common.{◌≡◌, ℕ, ◌+◌, ◌*◌, ◌<◌, ◌≤◌, ◌^◌, Bool, true, false, List, ◌++◌, length, codes, Option, Some, None, arith, lit<}
 use Rattle.std.proofs.{Common.{ltb→lt, T, sym, subst, not}, lemmas.Bool.{and_parts}, lemmas.List.{length-append}, lemmas.List.Elements.{recursion_from_All}}
 use Rattle.std.specs.List.{AllByRecursion as Each}
 use Rattle.mdp_math.specs.Rational.{ℚ}
@@ -8,11 +8,12 @@ use Rattle.mdp_rows.specs.{Name.{is_name}, declared.dir.Dir.{Dir}}
 use Rattle.mdp_text.specs.{declared.init.Init.{Init}, declared.init.Init.TheVariants.{Missing, Finite, Infinite, Start}}
 use Rattle.mdp_text.specs.Spelling.{line, ◌␣◌, quoted, dir_text, states_text, init_text}
 use Rattle.mdp_claims.specs.declared.subsystem.Flow.{Flow}
-use Rattle.mdp_cert.proofs.{RunLengths.{lines_of, closed_short}, Growth.{bounds-entries, Entries, policy-entries, reward-entries, MeanEntries, gains-entries}}
-use Rattle.mdp_cert.proofs.{Means.{Back, back}, Policies.{length-policies}}
+use Rattle.mdp_cert.proofs.{RunLengths.{lines_of, closed_short, pair_short, pairs_width, pairs_count}, Growth.{bounds-entries, Entries, policy-entries, reward-entries, MeanEntries, gains-entries}}
 use Rattle.mdp_cert.specs.Cert.{PlainClaim, upper, reach, until, reward, mean, witness, are_names, may_be_infinite, is_witness, IsValueNarrow, IsBodyInWidth, Certificate, Fits}
 use Rattle.mdp_cert.specs.Cert.{PlainBody, bounds, policy, rewards, gains, flow, floor, is_init_of, is_body_of}
-use Rattle.mdp_cert.specs.Claims.{Value, fraction_value, reward_value, reward_text, bound_columns, policy_columns, IsPolicyInWidth, policies, mean_columns, IsMeanInWidth, means}
+use Rattle.mdp_cert.specs.Claims.{Value, fraction_value, reward_value, reward_text}
+use Rattle.mdp_cert.specs.Pairs.{IsShort, number_value, word_columns, pair_columns, IsPairInWidth, pairs}
+use Rattle.mdp_cert.specs.Entries.{bound_columns, policy_columns, IsPolicyInWidth, policies, mean_columns, IsMeanInWidth, means}
 use Rattle.mdp_cert.specs.Spelling.{claim_text, head_text, spread_text, text_in, text_of}
 use Rattle.mdp_text.proofs.Lengths.{number_short, spelling_short, blank_length, line_length, name_short, dir_length, quoted_length, states_short, IsShortInit, init_short}
 
@@ -67,41 +68,6 @@ claim_short (witness dir label threshold) plain h = cc plain
 
 -- ---- the lines of the states
 
-entry_short : (word : List ℕ) (c r : ℕ) → length word ≤ 80 → c < 2 ^ 32 → r < 2 ^ 32 → length (word ␣ (decimal c ␣ decimal r)) ≤ 340
-entry_short word c r hv hc hr =
-    let a = blank_length word (decimal c ␣ decimal r) in
-    let b = blank_length (decimal c) (decimal r) in
-    let y = number_short c hc in
-    let z = number_short r hr in
-    omega (arith, a, b, hv, y, z)
-
-means_short : (g z b : ℚ) (c : ℕ) → IsNarrow g → IsNarrow z → IsNarrow b → c < 2 ^ 32 → length (spelling g ␣ (spelling z ␣ (spelling b ␣ decimal c))) ≤ 340
-means_short g z b c hg hz hb hc =
-    let x = blank_length (spelling g) (spelling z ␣ (spelling b ␣ decimal c)) in
-    let y = blank_length (spelling z) (spelling b ␣ decimal c) in
-    let w = blank_length (spelling b) (decimal c) in
-    let p = spelling_short g hg in
-    let q = spelling_short z hz in
-    let r = spelling_short b hb in
-    let n = number_short c hc in
-    omega (arith, x, y, w, p, q, r, n)
-
-means_width :
-    (gs zs bs : List ℚ) (cs : List ℕ) → Each IsNarrow gs → Each IsNarrow zs → Each IsNarrow bs → Each (λ c. c < 2 ^ 32) cs → Each IsMeanInWidth (means gs zs bs cs)
-means_width (g ∷ gs) (z ∷ zs) (b ∷ bs) (c ∷ cs) p q o n =
-    (record { gain = p.0; bound = q.0; bias = o.0; choice = n.0 }, means_width gs zs bs cs p.1 q.1 o.1 n.1)
-means_width [] zs bs cs p q o n = tt
-means_width (g ∷ gs) [] bs cs p q o n = tt
-means_width (g ∷ gs) (z ∷ zs) [] cs p q o n = tt
-means_width (g ∷ gs) (z ∷ zs) (b ∷ bs) [] p q o n = tt
-
-module _ {V : Type 0} (P : V → Type 0) where
-  entries_width : (zs : List V) (cs rs : List ℕ) → Each P zs → Each (λ c. c < 2 ^ 32) cs → Each (λ r. r < 2 ^ 32) rs → Each (IsPolicyInWidth P) (policies zs cs rs)
-  entries_width (z ∷ zs) (c ∷ cs) (r ∷ rs) p q o = (record { value = p.0; choice = q.0; rank = o.0 }, entries_width zs cs rs p.1 q.1 o.1)
-  entries_width [] cs rs p q o = tt
-  entries_width (z ∷ zs) [] rs p q o = tt
-  entries_width (z ∷ zs) (c ∷ cs) [] p q o = tt
-
 reward_short : (v : Option ℚ) → IsValueNarrow v → length (reward_text v) ≤ 80
 reward_short None h = omega arith
 reward_short (Some x) h = spelling_short x h
@@ -140,11 +106,11 @@ module _ (states : ℕ) (limit : states ≤ 2 ^ 20) where
       → Each (λ r. r < 2 ^ 32) rs → length (lines_of (policy_columns k) (policies zs cs rs)) ≤ 380 * states + 4
   three_short k P short zs cs rs sizes p q o =
       let x = sizes.values in
-      let y = sizes.choices in
-      let z = sizes.ranks in
-      let n = length-policies zs cs rs (omega (arith, x, y)) (omega (arith, x, z)) in
-      let l = closed_short (policy_columns k) (IsPolicyInWidth P) (λ p h. entry_short (k.spell p.value) p.choice p.rank (short p.value h.value) h.choice h.rank)
-      (policies zs cs rs) (omega (arith, x, n, limit)) (entries_width P zs cs rs p q o) in
+      let n = pairs_count zs (pairs cs rs) in
+      let words = pair_short P (IsPairInWidth IsShort IsShort) k (pair_columns number_value (word_columns number_value)) 80 21 short
+      (pair_short IsShort IsShort number_value (word_columns number_value) 10 10 number_short number_short) in
+      let l = closed_short (policy_columns k) (IsPolicyInWidth P) (λ p h. let w = words p h in omega (arith, w)) (policies zs cs rs) (omega (arith, x, n, limit))
+      (pairs_width P (IsPairInWidth IsShort IsShort) zs (pairs cs rs) p (pairs_width IsShort IsShort cs rs q o)) in
       omega (arith, x, n, l)
 
   bounds_short : (zs : List ℚ) → length zs ≡ states → Each IsNarrow zs → length (lines_of bound_columns zs) ≤ 380 * states + 4
@@ -157,12 +123,13 @@ module _ (states : ℕ) (limit : states ≤ 2 ^ 20) where
       → length (lines_of mean_columns (means gs zs bs cs)) ≤ 380 * states + 4
   means_lines_short gs zs bs cs sizes p q o n =
       let x = sizes.gains in
-      let y = sizes.bounds in
-      let z = sizes.biases in
-      let w = sizes.choices in
-      let count = Back.count (back gs zs bs cs (record { bounds = omega (arith, x, y); biases = omega (arith, x, z); choices = omega (arith, x, w) })) in
-      let l = closed_short mean_columns IsMeanInWidth (λ x h. means_short x.gain x.bound x.bias x.choice h.gain h.bound h.bias h.choice)
-      (means gs zs bs cs) (omega (arith, x, count, limit)) (means_width gs zs bs cs p q o n) in
+      let count = pairs_count gs (pairs zs (pairs bs cs)) in
+      let two = pair_short IsNarrow IsShort fraction_value (word_columns number_value) 80 10 spelling_short number_short in
+      let three = pair_short IsNarrow (IsPairInWidth IsNarrow IsShort) fraction_value (pair_columns fraction_value (word_columns number_value)) 80 91 spelling_short two in
+      let words = pair_short IsNarrow (IsPairInWidth IsNarrow (IsPairInWidth IsNarrow IsShort)) fraction_value (pair_columns fraction_value (pair_columns fraction_value (word_columns number_value))) 80 172
+      spelling_short three in
+      let l = closed_short mean_columns IsMeanInWidth (λ x h. let w = words x h in omega (arith, w)) (means gs zs bs cs) (omega (arith, x, count, limit))
+      (pairs_width IsNarrow _ gs (pairs zs (pairs bs cs)) p (pairs_width IsNarrow _ zs (pairs bs cs) q (pairs_width IsNarrow IsShort bs cs o n))) in
       omega (arith, x, count, l)
 
 module _ (c : Certificate) (fits : Fits c) (plain : is_witness c.claim ≡ false) where

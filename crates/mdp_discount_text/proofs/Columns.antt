@@ -1,16 +1,17 @@
 -- What is shown of the words of a state's line.
-use Rattle.std.proofs.Common.{◌≡◌, ℕ, ◌<◌, ◌≤◌, true, false, eqb, ◌&&◌, List, [], ◌∷◌, decimal, Option, Some, None, refl, subst, arith}
-use Rattle.std.proofs.{lemmas.Bool.{and_parts}, lemmas.Bool.Decides.{nat_tests}}
-use Rattle.std.specs.{Prelude.{codes}, Option.{option_and_then}}
+use Rattle.std.proofs.Common.{◌≡◌, ℕ, ◌<◌, ◌≤◌, false, eqb, List, Option, Some, None, refl, ap, subst, arith}
+use Rattle.std.proofs.lemmas.Bool.Decides.{nat_tests}
+use Rattle.std.specs.{Prelude.{codes}, Option.{option_map}}
 use Rattle.mdp_math.specs.Rational.{ℚ}
-use Rattle.mdp_num.specs.Canonical.{canonical_of}
-use Rattle.mdp_text.specs.Words.{whole_of, reward_parse}
-use Rattle.mdp_text.proofs.{Pieces.{Free}, Joined.{AllFree, free-whole}}
+use Rattle.mdp_num.specs.{Value.{IsNarrow}, Canonical.{canonical_of}}
+use Rattle.mdp_text.specs.Words.{reward_parse}
+use Rattle.mdp_text.proofs.Pieces.{Free}
 use Rattle.mdp_cert.specs.Cert as cert
-use Rattle.mdp_cert.specs.Claims.{reward_text, reward_same}
-use Rattle.mdp_cert.proofs.Columns.{IsColumns, is-columns, or-found, or-again, free-or, and_then-some, whole-of-found, whole-of-again, reward-found, reward-again, free-reward, reward-is_value, number-same, number-itself}
+use Rattle.mdp_cert.specs.{Claims.{fraction_value, reward_value, reward_text}, Pairs.{IsShort, number_value, word_columns, pair_columns, IsPairInWidth}}
+use Rattle.mdp_cert.proofs.Columns.{IsColumns, IsValue, fraction-is_value, or-found, or-again, free-or, reward-found, reward-again, free-reward, reward-is_value}
+use Rattle.mdp_cert.proofs.WordByWord.{number-is_value, word-is_columns, pair-is_columns}
 use Rattle.mdp_discount_bounds.specs.Cert.{IsValueNarrow}
-use Rattle.mdp_discount_text.specs.{declared.entry.BoundsEntry.{BoundsEntry}, Entries.{lower_text, lower_parse, between_parse, between_columns, IsEntryInWidth}}
+use Rattle.mdp_discount_text.specs.{declared.entry.Lower.{Lower}, Entries.{priced_columns, lower, lower_text, lower_parse, lower_value, between_columns, IsEntryInWidth}}
 
 -- ---- a value in width, as mdp_cert has it
 
@@ -33,6 +34,9 @@ upper-again x h = reward-again x (as-cert x h)
 pub free-upper : (c : ℕ) (x : Option ℚ) → c < 45 → IsValueNarrow x → Free c (reward_text x)
 free-upper c x lt h = free-reward c x lt (as-cert x h)
 
+upper-is_value : IsValue reward_value IsValueNarrow
+upper-is_value = record { found = upper-found; again = upper-again; free = free-upper; same = reward-is_value.same; itself = reward-is_value.itself }
+
 -- ---- a lower value
 
 inf-none : canonical_of (codes "-inf") ≡ None
@@ -54,56 +58,25 @@ lower-again x h = or-again (codes "-inf") inf-none lower_text refl (λ y. refl) 
 pub free-lower : (c : ℕ) (x : Option ℚ) → c < 45 → IsValueNarrow x → Free c (lower_text x)
 free-lower c x lt h = free-or (codes "-inf") inf-none lower_text refl (λ y. refl) c x (free-inf c lt) lt (as-cert x h)
 
--- ---- a lower value, an upper value and a choice
-
-abbrev entry-words : BoundsEntry → List (List ℕ)
-entry-words x = lower_text x.lower ∷ reward_text x.upper ∷ decimal x.choice ∷ []
-
-abbrev with-choice : Option ℚ → Option ℚ → ℕ → Option BoundsEntry
-with-choice lower upper choice = Some (record { lower = lower; upper = upper; choice = choice })
-
-abbrev with-upper : List ℕ → Option ℚ → Option ℚ → Option BoundsEntry
-with-upper c lower upper = option_and_then (with-choice lower upper) (whole_of c)
-
-abbrev with-lower : List ℕ → List ℕ → Option ℚ → Option BoundsEntry
-with-lower u c lower = option_and_then (with-upper c lower) (reward_parse u)
-
-entry-found : (ws : List (List ℕ)) (x : BoundsEntry) → between_parse ws ≡ Some x → (ws ≡ entry-words x) × IsEntryInWidth x
-entry-found [] x e = absurd cc
-entry-found (l ∷ []) x e = absurd cc
-entry-found (l ∷ u ∷ []) x e = absurd cc
-entry-found (l ∷ u ∷ c ∷ w ∷ ws) x e = absurd cc
-entry-found (l ∷ u ∷ c ∷ []) x e =
-    let one = and_then-some (with-lower u c) (lower_parse l) x e in
-    let two = and_then-some (with-upper c one.0) (reward_parse u) x one.2 in
-    let three = and_then-some (with-choice one.0 two.0) (whole_of c) x two.2 in
-    let same : (let y : BoundsEntry = record { lower = one.0; upper = two.0; choice = three.0 } in y) ≡ x = cc in
-    let s = lower-found l one.0 one.1 in
-    let t = upper-found u two.0 two.1 in
-    let v = whole-of-found c three.0 three.1 in
-    subst (λ (y : BoundsEntry). (l ∷ u ∷ c ∷ [] ≡ entry-words y) × IsEntryInWidth y) same (
-      rw (← s.0, ← t.0, ← v.0) refl,
-      record { lower = s.1; upper = t.1; choice = v.1 },
-    )
-
-entry-again : (x : BoundsEntry) → IsEntryInWidth x → between_parse (entry-words x) ≡ Some x
-entry-again x h = rw (lower-again x.lower h.lower, upper-again x.upper h.upper, whole-of-again x.choice h.choice) refl
-
-entry-same : (x y : BoundsEntry) → (reward_same x.lower y.lower && reward_same x.upper y.upper && eqb x.choice y.choice) ≡ true → x ≡ y
-entry-same x y e =
-    let p = and_parts (reward_same x.lower y.lower && reward_same x.upper y.upper) (eqb x.choice y.choice) e in
-    let q = and_parts (reward_same x.lower y.lower) (reward_same x.upper y.upper) p.0 in
-    parts x.lower y.lower x.upper y.upper x.choice y.choice (reward-is_value.same _ _ q.0) (reward-is_value.same _ _ q.1) (number-same _ _ p.1)
+lower-is_value : IsValue lower_value (λ l. IsValueNarrow l.value)
+lower-is_value = record {
+  found = λ w l e. found w l (lower_parse w) refl e;
+  again = λ l h. ap (option_map lower) (lower-again l.value h);
+  free = λ c l lt h. free-lower c l.value lt h;
+  same = λ l m e. ap lower (reward-is_value.same l.value m.value e);
+  itself = λ l. reward-is_value.itself l.value;
+}
   where
-    parts : (a b z w : Option ℚ) (c d : ℕ) → a ≡ b → z ≡ w → c ≡ d
-        → (let u : BoundsEntry = record { lower = a; upper = z; choice = c } in u) ≡ record { lower = b; upper = w; choice = d }
-    parts a b z w c d p q o = rw (p, q, o) refl
+    found : (w : List ℕ) (l : Lower) (o : Option (Option ℚ)) → lower_parse w ≡ o → option_map lower o ≡ Some l → (w ≡ lower_text l.value) × IsValueNarrow l.value
+    found w l None r e = absurd cc
+    found w l (Some x) r e = let same : lower x ≡ l = cc in subst (λ (m : Lower). (w ≡ lower_text m.value) × IsValueNarrow m.value) same (lower-found w x r)
 
-entry-itself : (x : BoundsEntry) → (reward_same x.lower x.lower && reward_same x.upper x.upper && eqb x.choice x.choice) ≡ true
-entry-itself x = rw (reward-is_value.itself x.lower, reward-is_value.itself x.upper, number-itself x.choice) refl
+-- ---- the words of a line
 
-entry-free : (c : ℕ) (x : BoundsEntry) → c < 45 → IsEntryInWidth x → AllFree c (entry-words x)
-entry-free c x lt h = (free-lower c x.lower lt h.lower, (free-upper c x.upper lt h.upper, (free-whole c x.choice (omega arith) h.choice, tt)))
+pub priced-is_columns : IsColumns priced_columns (IsPairInWidth IsNarrow IsShort)
+priced-is_columns = pair-is_columns fraction_value IsNarrow fraction-is_value (word_columns number_value) IsShort (word-is_columns number_value IsShort number-is_value)
 
 pub between-is_columns : IsColumns between_columns IsEntryInWidth
-between-is_columns = is-columns between_columns IsEntryInWidth (omega arith) (λ x. refl) entry-found entry-again entry-free entry-same entry-itself
+between-is_columns =
+    pair-is_columns lower_value (λ l. IsValueNarrow l.value) lower-is_value (pair_columns reward_value (word_columns number_value)) (IsPairInWidth IsValueNarrow IsShort)
+    (pair-is_columns reward_value IsValueNarrow upper-is_value (word_columns number_value) IsShort (word-is_columns number_value IsShort number-is_value))

@@ -7,6 +7,7 @@ use Rattle.mdp_rows.specs.declared.dir.Dir.TheVariants.{Max}
 use Rattle.mdp_text.specs.declared.init.Init.TheVariants.{Finite}
 use Rattle.mdp_discount_rules.specs.Cert.{Certificate}
 use Rattle.mdp_discount_text.specs.{Spelling.{text_of}, Text.{is_factor}}
+use Rattle.mdp_cert.specs.Spelling.{run_text, run_lines}
 
 -- to wait at 0 for 1 in each step, or to move to 1, which earns 3 in each step, by factor 1/2
 abbrev wait : Certificate
@@ -22,7 +23,7 @@ wait = record {
 
 written :
     text_of wait ≡ codes "mdp-discount 1\nclaim max discount \"-\" 1/2\nstates 2\ninit 0 3\nremainder 6\nstate 0 3 1\nstate 1 6 0\nend\n"
-unfolding text_of spelling of_int ratio gcd gcd_with_fuel digits
+unfolding text_of run_text run_lines spelling of_int ratio gcd gcd_with_fuel digits
 written = refl
 
 -- factors: 0 is one; 1 and -1/2 are none

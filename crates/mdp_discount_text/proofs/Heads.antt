@@ -1,10 +1,10 @@
 -- The lines of claim, states, init and remainder are read exactly where they are the texts of what is read.
-use Rattle.std.proofs.Common.{◌≡◌, ℕ, ◌+◌, ◌<◌, ◌≤◌, ◌^◌, Bool, true, false, not, cond, ltb, List, [], ◌∷◌, ◌++◌}
+use Rattle.std.proofs.Common.{◌≡◌, ℕ, ◌<◌, ◌≤◌, ◌^◌, Bool, true, false, not, cond, ltb, List, [], ◌∷◌}
 use Rattle.std.proofs.{Common.{drop, decimal, Option, Some, None, Result, Ok, refl, ap, subst, ◌∙◌, arith}, lemmas.Bool.{not-false}}
 use Rattle.std.proofs.lemmas.Bool.Decides.{nat_tests}
 use Rattle.std.specs.{Prelude.{codes, IfSome}, List.{join_with_byte}, Str.{bytes_eq}}
 use Rattle.mdp_math.specs.Rational.{ℚ}
-use Rattle.mdp_text.specs.{declared.error.CertKind.TheVariants.{Number, Count}, declared.error.Refusal.{Refusal}, Lines.{◌>>=◌, refuse_if, Place, place}}
+use Rattle.mdp_text.specs.{declared.error.CertKind.TheVariants.{Number, Count}, declared.error.Refusal.{Refusal}, Lines.{◌>>=◌, refuse_if, Place}}
 use Rattle.mdp_text.specs.{Words.{first_of, words_behind, whole_at, reward_parse}, Spelling.{◌␣◌}}
 use Rattle.mdp_cert.specs.Claims.{reward_text}
 use Rattle.mdp_cert.proofs.Numbered.{given-other}
@@ -98,21 +98,11 @@ free-init states (Some i) limit h =
     free-join 10 (codes "init" ∷ decimal i.state ∷ lower_text i.lower ∷ reward_text i.upper ∷ []) refl
     (refl, (free-whole 10 i.state (omega arith) (omega arith), (free-lower 10 i.lower (omega arith) h.width.0, (free-upper 10 i.upper (omega arith) h.width.1, tt))))
 
-init-lines : AreInits init_at init_text IsInit
+pub init-lines : AreInits init_at init_text IsInit
 init-lines = record { found = init-found; again = init-again; free = free-init }
 
 -- ---- the four lines
 
-abbrev pub IsHead : BoundsHead → Type 0
-IsHead = four.IsHead init_at init_text IsInit
-
-abbrev pub lines-of-head : BoundsHead → List ℕ
-lines-of-head = four.lines-of-head init_at init_text IsInit
-
 pub head-found : (p : Place) (h : BoundsHead) (q : Place) → head_from p ≡ Ok (h, q) → four.FoundHead init_at init_text IsInit p h q
 unfolding head_from
 head-found p h q e = four.head-found init_at init_text IsInit init-lines p h q e
-
-pub head-again : (n : ℕ) (h : BoundsHead) (rest : List ℕ) → IsHead h → head_from (place n (lines-of-head h ++ rest)) ≡ Ok (h, place (n + 1 + 1 + 1 + 1) rest)
-unfolding head_from
-head-again n h rest is = four.head-again init_at init_text IsInit init-lines n h rest is

@@ -1,6 +1,6 @@
 pub mod Factors
 pub mod ClaimLines
-pub mod Reading
+pub mod Whole
 pub mod FourLines
 pub mod Outcomes
 mod Examples

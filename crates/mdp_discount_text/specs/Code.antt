@@ -1,8 +1,7 @@
 -- What the code has read, as the definitions see it.
 use Rattle.mdp_text.specs.declared.init.Init.{Init}
 use Rattle.mdp_discount_text.specs.{Text.{Claim, DiscountHead}, declared.claim_line.ClaimLine.{ClaimLine}, declared.claim_line.ClaimWords.{ClaimWords}}
-use Rattle.mdp_discount_text.specs.{declared.head_lines.Head.{Head}, declared.state_lines.Columns.{Columns}}
-use Rattle.mdp_discount_text.specs.Text as read
+use Rattle.mdp_discount_text.specs.declared.head_lines.Head.{Head}
 
 abbrev pub said_claim : ClaimWords → Claim
 said_claim c = record { dir = c.dir; name = c.name.now; factor = c.factor }
@@ -12,6 +11,3 @@ plain_claim c = record { dir = c.dir; name = c.name.items; factor = c.factor }
 
 abbrev pub plain_head : Head → DiscountHead Init
 plain_head h = record { front = record { claim = plain_claim h.claim; states = h.states; init = h.init }; remainder = h.remainder }
-
-abbrev pub plain_columns : Columns → read.Columns
-plain_columns c = record { values = c.values.items; choices = c.choices.items }

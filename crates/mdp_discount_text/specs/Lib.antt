@@ -1,8 +1,8 @@
+pub mod Entries
 pub mod Spelling
 pub mod Text
 pub mod Code
 pub mod Laws
-pub mod Entries
 pub mod BoundsSpelling
 pub mod Reading
 pub mod BoundsCode

@@ -7,8 +7,8 @@ use Rattle.mdp_math.specs.Rational.{ℚ}
 use Rattle.mdp_text.specs.declared.error.CertKind.TheVariants as kind
 use Rattle.mdp_text.specs.{declared.error.Refusal.{Refusal}, Lines.{◌>>=◌, refuse_if, or_refused, is_line, Place, place, next_line, line_by, nothing_behind}}
 use Rattle.mdp_text.specs.Words.{first_of, words_behind, whole_at, reward_parse, behind}
-use Rattle.mdp_cert.specs.{declared.version.Version.TheVariants.{Two}, Reading.{entries_to_end}}
-use Rattle.mdp_discount_text.specs.{Text.{DiscountHead, head_with}, declared.entry.BoundsEntry.{BoundsEntry}, Entries.{lower_parse, between_columns}}
+use Rattle.mdp_cert.specs.{declared.version.Version.TheVariants.{Two}, declared.pair.Pair.{Pair}, Reading.{entries_to_end}}
+use Rattle.mdp_discount_text.specs.{Text.{DiscountHead, head_with}, declared.entry.Lower.{Lower}, Entries.{lower_parse, between_columns}}
 use Rattle.mdp_discount_text.specs.BoundsSpelling.{version_text}
 use Rattle.mdp_discount_bounds.specs.{Cert.{Certificate}, declared.init.InitialBounds.{InitialBounds}}
 
@@ -43,16 +43,16 @@ head_from p = head_with init_at p
 
 -- ---- the whole
 
-abbrev pub certificate_of : BoundsHead → List BoundsEntry → Certificate
+abbrev pub certificate_of : BoundsHead → List (Pair Lower (Pair (Option ℚ) ℕ)) → Certificate
 certificate_of head xs = record {
   dir = head.front.claim.dir;
   name = head.front.claim.name;
   factor = head.front.claim.factor;
   init = head.front.init;
   remainder = head.remainder;
-  lower = map (λ x. x.lower) xs;
-  upper = map (λ x. x.upper) xs;
-  choices = map (λ x. x.choice) xs;
+  lower = map (λ x. x.first.value) xs;
+  upper = map (λ x. x.others.first) xs;
+  choices = map (λ x. x.others.others) xs;
 }
 
 -- the certificate of which the bytes are the text, or the first line that breaks a rule

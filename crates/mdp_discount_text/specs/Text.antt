@@ -1,15 +1,16 @@
 -- Reading the text of a certificate of the discounted reward line by line: the certificate, or the first line that breaks a rule. Each line is judged
 -- by its shape first, then by its numbers from left to right, then by what they count.
-use Rattle.std.specs.Prelude.{ℕ, zero, suc, ◌&&◌, not, Bool, false, List, [], ◌∷◌, drop, codes, Option, Some, None, option_and_then, option_map, Result, Ok, ◌==◌, if◌then◌else◌, pos}
+use Rattle.std.specs.Prelude.{ℕ, ◌&&◌, Bool, false, List, map, codes, Option, Some, None, option_and_then, option_map, Result, Ok, if◌then◌else◌, pos}
 use Rattle.std.specs.Option.{option_or}
 use Rattle.mdp_math.specs.Rational.{ℚ, of_int, le_ℚ, lt_ℚ}
 use Rattle.mdp_num.specs.Canonical.{canonical_of}
 use Rattle.mdp_rows.specs.{declared.dir.Dir.{Dir}, declared.dir.Dir.TheVariants.{Max, Min}}
 use Rattle.mdp_text.specs.declared.error.CertKind.TheVariants as kind
 use Rattle.mdp_text.specs.{declared.error.Refusal.{Refusal}, declared.init.Init.{Init}}
-use Rattle.mdp_text.specs.Lines.{◌>>=◌, refuse_if, or_refused, is_line, Place, place, line_by, nothing_behind}
-use Rattle.mdp_text.specs.{Words.{first_of, words_behind, whole_at, frac_at, behind, name_and_rest}, Heads.{valued_at, Head, head_by}, Spelling.{end_text}}
-use Rattle.mdp_discount_text.specs.{Spelling.{version_text}, declared.state_lines.StateLine.{StateLine}}
+use Rattle.mdp_text.specs.Lines.{◌>>=◌, or_refused, is_line, Place, place, line_by, nothing_behind}
+use Rattle.mdp_text.specs.{Words.{first_of, words_behind, frac_at, behind, name_and_rest}, Heads.{valued_at, Head, head_by}}
+use Rattle.mdp_cert.specs.{declared.version.Version.TheVariants.{One}, declared.pair.Pair.{Pair}, Reading.{entries_to_end}}
+use Rattle.mdp_discount_text.specs.{Spelling.{version_text}, Entries.{priced_columns}}
 use Rattle.mdp_discount_rules.specs.Cert.{Certificate}
 
 -- ---- the claim
@@ -69,41 +70,17 @@ head_with init_at p = do
 unfoldable pub head_from : Place → Result (DiscountHead Init × Place) Refusal
 head_from p = head_with init_at p
 
--- ---- the lines of the states
-
--- the value and the choice of the state that is due
-unfoldable pub state_at : ℕ → ℕ → List ℕ → Result StateLine Refusal
-state_at due n text = do
-  behind ← words_behind (codes "state") 3 n text
-  state ← whole_at n (first_of behind)
-  value ← frac_at n (first_of (drop 1 behind))
-  choice ← whole_at n (first_of (drop 1 (drop 1 behind)))
-  order ← refuse_if kind.Count n (not (state == due))
-  Ok (record { value = value; choice = choice })
-
-pub record Columns : Type 0 where
-  pub values : List ℚ
-  pub choices : List ℕ
-
-abbrev pub before_others : StateLine → Result (Columns × Place) Refusal → Result (Columns × Place) Refusal
-before_others x others = others >>= λ p. Ok (record { values = x.value ∷ p.0.values; choices = x.choice ∷ p.0.choices }, p.1)
-
--- so many states, from the one that is due on
-unfoldable pub states_from : ℕ → ℕ → Place → Result (Columns × Place) Refusal
-states_from zero due p = Ok (record { values = []; choices = [] }, p)
-states_from (suc left) due p = line_by (state_at due) p >>= λ said. before_others said.0 (states_from left (suc due) said.1)
-
 -- ---- the whole
 
-abbrev pub certificate_of : DiscountHead Init → Columns → Certificate
-certificate_of head columns = record {
+abbrev pub certificate_of : DiscountHead Init → List (Pair ℚ ℕ) → Certificate
+certificate_of head xs = record {
   dir = head.front.claim.dir;
   name = head.front.claim.name;
   factor = head.front.claim.factor;
   init = head.front.init;
   remainder = head.remainder;
-  values = columns.values;
-  choices = columns.choices;
+  values = map (λ x. x.first) xs;
+  choices = map (λ x. x.others) xs;
 }
 
 -- the certificate of which the bytes are the text, or the first line that breaks a rule
@@ -111,7 +88,6 @@ unfoldable pub outcome : List ℕ → Result Certificate Refusal
 outcome bytes = do
   version ← line_by (is_line kind.Version version_text) (place 1 bytes)
   head ← head_from version.1
-  columns ← states_from head.0.front.states 0 head.1
-  end ← line_by (is_line kind.Shape end_text) columns.1
-  nothing ← nothing_behind end.1
-  Ok (certificate_of head.0 columns.0)
+  xs ← entries_to_end One priced_columns head.0.front.states head.1
+  nothing ← nothing_behind xs.1
+  Ok (certificate_of head.0 xs.0)

@@ -1,46 +1,36 @@
 ghost use Rattle.std.specs.Prelude.{◌≡◌, IfOk, map};
-ghost use Rattle.mdp_discount_text.specs.Entries.{between_columns, entries_of};
+ghost use Rattle.mdp_discount_text.specs.Entries.{lower_value, entries_of};
 
-use crate::entry::BoundsEntry;
+use crate::entry::Lower;
 use crate::lower::{lower_of, lower_part};
-use mdp_cert::{Column, Entry, Lists, Value, column_of, push_value, three_words};
+use mdp_cert::{Behind, Column, First, Lists, Others, Pair, Value, column_of};
 use mdp_discount_bounds::DiscountBounds;
 use mdp_num::{Frac, Memory};
-use mdp_text::{push_parts, push_word, reward_of, whole_of};
+use mdp_text::push_parts;
 use std::alloc::{AllocError, Global};
 
-/// The line of a state: two values and a choice.
-impl Entry for BoundsEntry {
-    ghost columns = { between_columns };
+/// A fraction, or `-inf` where there is none.
+impl Value for Lower {
+    ghost value = { lower_value };
 
-    fn width() -> u8 {
-        3
-    }
-
-    fn read(text: &[u8]) -> Option<BoundsEntry> {
-        let (lower, upper, choice) = three_words(text);
-        match (lower_of(lower), reward_of(upper), whole_of(choice)) {
-            (Some(lower), Some(upper), Some(choice)) => Some(BoundsEntry {
-                lower,
-                upper,
-                choice,
-            }),
-            _ => None,
+    fn read_word(word: &[u8]) -> Option<Lower> {
+        match lower_of(word) {
+            Some(value) => Some(Lower { value }),
+            None => None,
         }
     }
 
-    fn push_words(&self, out: &mut Vec<u8>) -> Result<(), Memory> {
-        push_parts(out, &[lower_part(&self.lower)])?;
-        push_value(out, &self.upper)?;
-        push_word(out, u64::from(self.choice))
+    fn push_word(&self, out: &mut Vec<u8>) -> Result<(), Memory> {
+        push_parts(out, &[lower_part(&self.value)])
     }
 
-    fn is_same(&self, other: &BoundsEntry) -> bool {
-        self.lower.is_same_value(&other.lower)
-            && self.upper.is_same_value(&other.upper)
-            && self.choice == other.choice
+    fn is_same_value(&self, other: &Lower) -> bool {
+        self.value.is_same_value(&other.value)
     }
 }
+
+/// The line of a state: two values and a choice.
+pub(crate) type Entry = Pair<Lower, Pair<Option<Frac>, u32>>;
 
 /// Bounds, lent to be written.
 #[derive(Drop)]
@@ -49,56 +39,34 @@ pub(crate) struct LentBounds<'a> {
 }
 
 impl Lists for LentBounds<'_> {
-    type Item = BoundsEntry;
+    type Item = Pair<Lower, Pair<Option<Frac>, u32>>;
 
     ghost entries = { λ c. entries_of c.bounds.now.lower.items c.bounds.now.upper.items c.bounds.now.choices.items };
 
-    fn entry(&self, state: u32) -> BoundsEntry {
+    fn entry(&self, state: u32) -> Pair<Lower, Pair<Option<Frac>, u32>> {
         let place = state as usize;
-        BoundsEntry {
-            lower: self.bounds.lower[place],
-            upper: self.bounds.upper[place],
-            choice: self.bounds.choices[place],
+        Pair {
+            first: Lower {
+                value: self.bounds.lower[place],
+            },
+            others: Pair {
+                first: self.bounds.upper[place],
+                others: self.bounds.choices[place],
+            },
         }
     }
 }
 
 /// The column of lower values.
-struct Lower;
+struct LowerValue;
 
-impl Column<BoundsEntry> for Lower {
+impl Column<Entry> for LowerValue {
     type Item = Option<Frac>;
 
-    ghost field = { λ x. x.lower };
+    ghost field = { λ x. x.first.value };
 
-    fn of(entry: &BoundsEntry) -> Option<Frac> {
-        entry.lower
-    }
-}
-
-/// The column of upper values.
-struct Upper;
-
-impl Column<BoundsEntry> for Upper {
-    type Item = Option<Frac>;
-
-    ghost field = { λ x. x.upper };
-
-    fn of(entry: &BoundsEntry) -> Option<Frac> {
-        entry.upper
-    }
-}
-
-/// The column of choices.
-struct Choice;
-
-impl Column<BoundsEntry> for Choice {
-    type Item = u32;
-
-    ghost field = { λ x. x.choice };
-
-    fn of(entry: &BoundsEntry) -> u32 {
-        entry.choice
+    fn of(entry: &Entry) -> Option<Frac> {
+        entry.first.value
     }
 }
 
@@ -106,17 +74,17 @@ impl Column<BoundsEntry> for Choice {
 pub(crate) fn bounds_of(
     alloc: Global,
     remainder: Frac,
-    entries: &[BoundsEntry],
+    entries: &[Entry],
 ) -> Result<DiscountBounds, AllocError>
-    ensures lower { IfOk result (λ b. b.lower.items ≡ map (λ x. x.lower) entries.now) }
-    ensures upper { IfOk result (λ b. b.upper.items ≡ map (λ x. x.upper) entries.now) }
-    ensures choices { IfOk result (λ b. b.choices.items ≡ map (λ x. x.choice) entries.now) }
+    ensures lower { IfOk result (λ b. b.lower.items ≡ map (λ x. x.first.value) entries.now) }
+    ensures upper { IfOk result (λ b. b.upper.items ≡ map (λ x. x.others.first) entries.now) }
+    ensures choices { IfOk result (λ b. b.choices.items ≡ map (λ x. x.others.others) entries.now) }
     ensures remainder { IfOk result (λ b. b.remainder ≡ remainder) }
 {
     Ok(DiscountBounds {
-        lower: column_of::<Lower, _>(alloc, entries)?,
-        upper: column_of::<Upper, _>(alloc, entries)?,
-        choices: column_of::<Choice, _>(alloc, entries)?,
+        lower: column_of::<LowerValue, _>(alloc, entries)?,
+        upper: column_of::<Behind<First>, _>(alloc, entries)?,
+        choices: column_of::<Behind<Others>, _>(alloc, entries)?,
         remainder,
     })
 }

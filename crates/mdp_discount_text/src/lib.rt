@@ -1,5 +1,5 @@
 //! The text of certificates of the discounted reward, and of certificates of its bounds, a `mdp-bounds 1`: written, and read exactly, with the first line
-//! that breaks a rule. The runs of states are those of mdp_cert.
+//! that breaks a rule. The lines of the states are those of mdp_cert.
 #![tactic(auto)]
 
 mod bounds_head_lines;
@@ -14,7 +14,6 @@ mod laws;
 mod lower;
 mod push;
 mod read;
-mod state_lines;
 mod write;
 
 pub use bounds_head_lines::is_discount_claim;

@@ -4,8 +4,9 @@ ghost use Rattle.mdp_discount_rules.specs.Plain.{plain};
 ghost use Rattle.mdp_discount_text.specs.Text.{outcome};
 
 use crate::head_lines::head_from;
-use crate::state_lines::states_from;
+use mdp_cert::{First, Others, Pair, Version, column_of, entries_to_end};
 use mdp_discount_rules::DiscountCert;
+use mdp_num::Frac;
 use mdp_text::{CertError, CertKind, is_line, next_line, nothing_behind};
 use std::alloc::Global;
 
@@ -18,17 +19,23 @@ pub fn read_discount(alloc: Global, bytes: &[u8]) -> Result<DiscountCert, CertEr
     let (text, rest) = next_line(1, bytes)?;
     is_line(CertKind::Version, b"mdp-discount 1", 1, text)?;
     let (head, rest) = head_from(alloc, rest)?;
-    let (columns, line, rest) = states_from(alloc, head.states, 6, rest)?;
-    let (text, rest) = next_line(line, rest)?;
-    is_line(CertKind::Shape, b"end", line, text)?;
-    nothing_behind(line + 1, rest)?;
+    let (entries, line, rest) = entries_to_end::<Pair<Frac, u32>>(
+        alloc,
+        Version::One,
+        head.states,
+        6,
+        rest,
+    )?;
+    nothing_behind(line, rest)?;
+    let values = column_of::<First, _>(alloc, &entries)?;
+    let choices = column_of::<Others, _>(alloc, &entries)?;
     Ok(DiscountCert {
         dir: head.claim.dir,
         name: head.claim.name,
         factor: head.claim.factor,
         init: head.init,
         remainder: head.remainder,
-        values: columns.values,
-        choices: columns.choices,
+        values,
+        choices,
     })
 }

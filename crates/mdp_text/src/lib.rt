@@ -29,4 +29,4 @@ pub use push::{
     push_values, push_whole, push_word,
 };
 pub use widths::{all_narrow, all_short};
-pub use words::{begins_with, cut_word, only_word, words_behind};
+pub use words::{begins_with, cut_word, only_word, word_count, words_behind};

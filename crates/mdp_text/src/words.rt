@@ -32,8 +32,9 @@ fn blank_count(text: &[u8]) -> usize
 }
 
 /// How many words a text has.
-fn word_count(text: &[u8]) -> usize
-    ensures { result ≡ length (words text.now) }
+pub fn word_count(text: &[u8]) -> usize
+    ensures count { result ≡ length (words text.now) }
+    ensures some { 0 < result }
 {
     blank_count(text) + 1
 }

@@ -1,8 +1,7 @@
 use Rattle.std.proofs.Common.{◌≡◌, true, sym, ap, ◌∙◌}
 use Rattle.mdp_cert.specs.{Cert.{plain_claim}, declared.bounds_body.BoundsBody.{BoundsBody}, declared.bounds_cert.BoundsCert.{BoundsCert}}
 use Rattle.mdp_cert.specs.BoundsCert.{plain_body, is_body_of}
-use Rattle.mdp_cert.proofs.Ranked as ranked
-use Rattle.mdp_cert.proofs.Gains as gained
+use Rattle.mdp_cert.proofs.StateWords.{back, gains-back}
 use Rattle.mdp_cert.proofs.BoundsBodies.{reach-counts, reward-counts, mean-counts}
 use Rattle.mdp_cert.proofs.bounds_write.push_body.Goals as goal
 
@@ -10,24 +9,26 @@ use Rattle.mdp_cert.proofs.bounds_write.push_body.Goals as goal
 of-body : (cert : BoundsCert) (body : BoundsBody) → cert.body ≡ body → is_body_of (plain_claim cert.claim) cert.states (plain_body body) ≡ true
 of-body cert body is = ap (λ (b : BoundsBody). is_body_of (plain_claim cert.claim) cert.states (plain_body b)) (sym is) ∙ cert.entries
 
-pub push_to_end-requires : goal.push_to_end-requires
-push_to_end-requires c =
+pub push_ranked-requires : goal.push_ranked-requires
+push_ranked-requires c =
     let cert = c.args.cert.now in
     let x = c.in-Reach.cert in
-    ranked.count cert.states x.lower.items x.upper.items x.choices.items x.ranks.items
-    (reach-counts (plain_claim cert.claim) cert.states x.lower.items x.upper.items x.choices.items x.ranks.items (of-body cert _ c.in-Reach.is))
+    rw (c.deref.ensures.value, c.deref-in-Reach.ensures.value, c.deref-in-Reach-2.ensures.value, c.deref-in-Reach-3.ensures.value)
+    (back cert.states x.lower.items x.upper.items x.choices.items x.ranks.items
+    (reach-counts (plain_claim cert.claim) cert.states x.lower.items x.upper.items x.choices.items x.ranks.items (of-body cert _ c.in-Reach.is))).count
 
-pub push_to_end-requires-in-Reward : goal.push_to_end-requires-in-Reward
-push_to_end-requires-in-Reward c =
+pub push_ranked-requires-in-Reward : goal.push_ranked-requires-in-Reward
+push_ranked-requires-in-Reward c =
     let cert = c.args.cert.now in
     let x = c.in-Reward.cert in
-    ranked.count cert.states x.lower.items x.upper.items x.choices.items x.ranks.items
-    (reward-counts (plain_claim cert.claim) cert.states x.lower.items x.upper.items x.choices.items x.ranks.items (of-body cert _ c.in-Reward.is))
+    rw (c.deref-in-Reward.ensures.value, c.deref-in-Reward-2.ensures.value, c.deref-in-Reward-3.ensures.value, c.deref-in-Reward-4.ensures.value)
+    (back cert.states x.lower.items x.upper.items x.choices.items x.ranks.items
+    (reward-counts (plain_claim cert.claim) cert.states x.lower.items x.upper.items x.choices.items x.ranks.items (of-body cert _ c.in-Reward.is))).count
 
-pub push_to_end-requires-in-Mean : goal.push_to_end-requires-in-Mean
-push_to_end-requires-in-Mean c =
+pub push_gains-requires : goal.push_gains-requires
+push_gains-requires c =
     let cert = c.args.cert.now in
     let x = c.in-Mean.cert in
     let e =
     mean-counts (plain_claim cert.claim) cert.states x.lower.items x.upper.items x.bound.items x.bias.items x.choices.items x.spread (of-body cert _ c.in-Mean.is) in
-    gained.count cert.states x.lower.items x.upper.items x.bound.items x.bias.items x.choices.items e
+    (gains-back cert.states x.lower.items x.upper.items x.bound.items x.bias.items x.choices.items e).count

@@ -1,45 +1,38 @@
-use Rattle.std.proofs.Common.{◌≡◌, ℕ, true, length, List, sym, ap, ◌∙◌, arith}
-use Rattle.mdp_cert.specs.{declared.body.Body.{Body}, declared.cert.Cert.{Cert}, Cert.{plain_claim, plain_body, is_body_of}, Claims.{policies}}
-use Rattle.mdp_cert.proofs.{Growth.{Entries, bounds-entries, policy-entries, reward-entries, gains-entries, lines-of-flow, lines-of-floor}, Means.{back}}
-use Rattle.mdp_cert.proofs.Policies.{length-policies}
+use Rattle.std.proofs.Common.{◌≡◌, true, sym, ap, ◌∙◌, arith}
+use Rattle.mdp_cert.specs.{declared.body.Body.{Body}, declared.cert.Cert.{Cert}, Cert.{plain_claim, plain_body, is_body_of}}
+use Rattle.mdp_cert.proofs.{Growth.{bounds-entries, policy-entries, reward-entries, gains-entries, lines-of-flow, lines-of-floor}}
+use Rattle.mdp_cert.proofs.StateWords.{three-back, back}
 use Rattle.mdp_cert.proofs.write.push_body.Goals as goal
 
 -- a certificate of this body has the entries that the body is to have
 of-body : (cert : Cert) (body : Body) → cert.body ≡ body → is_body_of (plain_claim cert.claim) cert.states (plain_body body) ≡ true
 of-body cert body is = ap (λ (b : Body). is_body_of (plain_claim cert.claim) cert.states (plain_body b)) (sym is) ∙ cert.entries
 
--- as many entries of a policy as states
-many : {V : Type 0} (states : ℕ) (zs : List V) (cs rs : List ℕ) → Entries states zs cs rs → length (policies zs cs rs) ≡ states
-many states zs cs rs e = length-policies zs cs rs (omega (arith, e.values, e.choices)) (omega (arith, e.values, e.ranks)) ∙ e.values
-
 pub push_to_end-requires : goal.push_to_end-requires
 push_to_end-requires c =
     let cert = c.args.cert.now in bounds-entries (plain_claim cert.claim) cert.states c.in-Upper.bounds.values.items (of-body cert _ c.in-Upper.is)
 
-pub push_to_end-requires-in-Reach : goal.push_to_end-requires-in-Reach
-push_to_end-requires-in-Reach c =
+pub push_policy-requires : goal.push_policy-requires
+push_policy-requires c =
     let cert = c.args.cert.now in
     let x = c.in-Reach.policy in
-    many cert.states x.values.items x.choices.items x.ranks.items
-    (policy-entries (plain_claim cert.claim) cert.states x.values.items x.choices.items x.ranks.items (of-body cert _ c.in-Reach.is))
+    let e = policy-entries (plain_claim cert.claim) cert.states x.values.items x.choices.items x.ranks.items (of-body cert _ c.in-Reach.is) in
+    rw (c.deref.ensures.value, c.deref-in-Reach.ensures.value, c.deref-in-Reach-2.ensures.value) (three-back cert.states x.values.items x.choices.items x.ranks.items e.values e.choices e.ranks).count
 
-pub push_to_end-requires-in-Reward : goal.push_to_end-requires-in-Reward
-push_to_end-requires-in-Reward c =
+pub push_policy-requires-in-Reward : goal.push_policy-requires-in-Reward
+push_policy-requires-in-Reward c =
     let cert = c.args.cert.now in
     let x = c.in-Reward.policy in
-    many cert.states x.values.items x.choices.items x.ranks.items
-    (reward-entries (plain_claim cert.claim) cert.states x.values.items x.choices.items x.ranks.items (of-body cert _ c.in-Reward.is))
+    let e = reward-entries (plain_claim cert.claim) cert.states x.values.items x.choices.items x.ranks.items (of-body cert _ c.in-Reward.is) in
+    rw (c.deref-in-Reward.ensures.value, c.deref-in-Reward-2.ensures.value, c.deref-in-Reward-3.ensures.value) (three-back cert.states x.values.items x.choices.items x.ranks.items e.values e.choices e.ranks).count
 
-pub push_to_end-requires-in-Mean : goal.push_to_end-requires-in-Mean
-push_to_end-requires-in-Mean c =
+pub push_means-requires : goal.push_means-requires
+push_means-requires c =
     let cert = c.args.cert.now in
     let x = c.in-Mean.mean in
     let e =
     gains-entries (plain_claim cert.claim) cert.states x.gains.items x.bound.items x.bias.items x.choices.items x.spread (of-body cert _ c.in-Mean.is) in
-    let b =
-    back x.gains.items x.bound.items x.bias.items x.choices.items
-    (record { bounds = omega (arith, e.gains, e.bounds); biases = omega (arith, e.gains, e.biases); choices = omega (arith, e.gains, e.choices) }) in
-    b.count ∙ e.gains
+    (back cert.states x.gains.items x.bound.items x.bias.items x.choices.items (record { lower = e.gains; upper = e.bounds; choices = e.biases; ranks = e.choices })).count
 
 pub push_listed-requires : goal.push_listed-requires
 push_listed-requires c =

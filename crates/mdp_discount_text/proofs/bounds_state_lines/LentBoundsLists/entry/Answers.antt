@@ -1,15 +1,15 @@
 use Rattle.std.proofs.Common.{arith}
-use Rattle.mdp_discount_text.proofs.Entries.{inside, entry-at}
+use Rattle.mdp_discount_text.proofs.Entries.{inside-all, entry-at}
 use Rattle.mdp_discount_text.proofs.bounds_state_lines.LentBoundsLists.entry.Goals as goal
 
 pub index-requires : goal.index-requires
-index-requires c = let x = c.args.self.now.bounds.now in omega (arith, (inside x.lower.items x.upper.items x.choices.items c.args.state c.requires).lower)
+index-requires c = let x = c.args.self.now.bounds.now in omega (arith, (inside-all x.lower.items x.upper.items x.choices.items c.args.state c.requires).lower)
 
 pub index-requires-2 : goal.index-requires-2
-index-requires-2 c = let x = c.args.self.now.bounds.now in omega (arith, (inside x.lower.items x.upper.items x.choices.items c.args.state c.requires).upper)
+index-requires-2 c = let x = c.args.self.now.bounds.now in omega (arith, (inside-all x.lower.items x.upper.items x.choices.items c.args.state c.requires).upper)
 
 pub index-requires-3 : goal.index-requires-3
-index-requires-3 c = let x = c.args.self.now.bounds.now in omega (arith, (inside x.lower.items x.upper.items x.choices.items c.args.state c.requires).choices)
+index-requires-3 c = let x = c.args.self.now.bounds.now in omega (arith, (inside-all x.lower.items x.upper.items x.choices.items c.args.state c.requires).choices)
 
 pub returns : goal.returns
 returns c =

@@ -1,5 +1,0 @@
-use Rattle.std.proofs.Common.{refl}
-use Rattle.mdp_cert.proofs.mean_lines.mean_body.Goals as goal
-
-pub returns : goal.returns
-returns c = rw (c.in_ok-column_of.ensures, c.in_ok-column_of-2.ensures, c.in_ok-column_of-3.ensures, c.in_ok-column_of-4.ensures) refl
