@@ -1,17 +1,23 @@
 -- The words of the command line, and the job that they are:
 --     solve MODEL ROWS DIR reach LABEL
+--     solve MODEL ROWS DIR until A B
 --     solve MODEL ROWS DIR reward NAME LABEL
 --     solve MODEL ROWS DIR mean NAME
 --     witness MODEL ROWS DIR LABEL THRESHOLD
+--     witness MODEL ROWS DIR until A B THRESHOLD
 --     check MODEL ROWS CERT
 --     drill NUMBER LAYERS WIDTH
 --     horizon MODEL ROWS DIR A B STEPS
---     horizon MODEL ROWS DIR reward NAME STEPS
+--     total MODEL ROWS DIR NAME STEPS
+--     curve MODEL ROWS DIR until A B STEPS DIGITS
+--     curve MODEL ROWS DIR total NAME STEPS DIGITS
 --     policy MODEL ROWS POLICY reach LABEL
+--     policy MODEL ROWS POLICY until A B
 --     chain MODEL ROWS POLICY
 --     discount MODEL ROWS DIR NAME FACTOR
 --     discount-check MODEL ROWS CERT
 --     bounds MODEL ROWS DIR reach LABEL DIGITS
+--     bounds MODEL ROWS DIR until A B DIGITS
 --     bounds MODEL ROWS DIR reward NAME LABEL DIGITS
 --     bounds MODEL ROWS DIR mean NAME DIGITS
 --     bounds MODEL ROWS DIR until A B STEPS DIGITS
@@ -26,8 +32,8 @@ use Rattle.mdp_math.specs.{Rational.{ℚ, of_int, lt_ℚ}, Result.{◌>>=◌}}
 use Rattle.mdp_num.specs.{Digits.{is_digits, number}, Numeral.{numeral_of}, declared.errors.NumeralError.{NumeralError}}
 use Rattle.mdp_rows.specs.{declared.dir.Dir.{Dir}, declared.dir.Dir.TheVariants.{Max, Min}, declared.rule.RowRule.{RowRule}}
 use Rattle.mdp_rows.specs.declared.rule.RowRule.TheVariants.{Exact, Scaled}
-use Rattle.mdp_job.specs.Job.{PlainQuery, reach, reward, mean, solve, witness, check, drill, horizon, horizon_reward, policy, chain, discount, discount_check}
-use Rattle.mdp_job.specs.Job.{bounds, bounds_until, bounds_total, bounds_discount, bounds_check, Asked, files_of}
+use Rattle.mdp_job.specs.Job.{PlainQuery, reach, until, reward, mean, solve, witness, check, drill, horizon, total, policy, chain, discount, discount_check}
+use Rattle.mdp_job.specs.Job.{bounds, bounds_until, bounds_total, bounds_discount, bounds_check, curve_until, curve_total, Asked, files_of}
 use Rattle.mdp_job.specs.declared.words_error.WordsError.{WordsError}
 use Rattle.mdp_job.specs.declared.words_error.WordsError.TheVariants.{Command, Number, Rows, Direction, Objective, Threshold, Drill, Steps, Factor, Digits}
 
@@ -54,6 +60,9 @@ check_of words = rows_of words >>= λ rule. Ok (check rule)
 abbrev pub reach_of : List (List ℕ) → Result PlainQuery WordsError
 reach_of words = if length words == 5 then Ok (reach (word_at words 4)) else Err Number
 
+abbrev pub until_of : List (List ℕ) → Result PlainQuery WordsError
+until_of words = if length words == 6 then Ok (until (word_at words 4) (word_at words 5)) else Err Number
+
 abbrev pub reward_of : List (List ℕ) → Result PlainQuery WordsError
 reward_of words = if length words == 6 then Ok (reward (word_at words 4) (word_at words 5)) else Err Number
 
@@ -63,8 +72,9 @@ mean_of words = if length words == 5 then Ok (mean (word_at words 4)) else Err N
 abbrev pub query_of : List (List ℕ) → Result PlainQuery WordsError
 query_of words =
     if bytes_eq (word_at words 3) (codes "reach") then reach_of words
+    else (if bytes_eq (word_at words 3) (codes "until") then until_of words
     else (if bytes_eq (word_at words 3) (codes "reward") then reward_of words
-    else (if bytes_eq (word_at words 3) (codes "mean") then mean_of words else Err Objective))
+    else (if bytes_eq (word_at words 3) (codes "mean") then mean_of words else Err Objective)))
 
 abbrev pub solve_of : List (List ℕ) → Asked
 solve_of words =
@@ -80,12 +90,25 @@ abbrev pub threshold_of : List ℕ → Result ℚ WordsError
 threshold_of word = threshold_by (numeral_of word)
 
 -- the words behind `witness`: the row rule, the direction, then the threshold
-abbrev pub witness_of : List (List ℕ) → Asked
-witness_of words =
+abbrev pub witness_reach_of : List (List ℕ) → Asked
+witness_reach_of words =
     if length words == 5
     then (rule_of (word_at words 1)
-    >>= (λ rule. dir_of (word_at words 2) >>= (λ dir. threshold_of (word_at words 4) >>= (λ threshold. Ok (witness rule dir (word_at words 3) threshold)))))
+    >>= (λ rule. dir_of (word_at words 2) >>= (λ dir. threshold_of (word_at words 4) >>= (λ threshold. Ok (witness rule dir None (word_at words 3) threshold)))))
     else Err Number
+
+-- the same of seven words, with two labels
+abbrev pub witness_until_of : List (List ℕ) → Asked
+witness_until_of words =
+    if length words == 7
+    then (rule_of (word_at words 1)
+    >>= (λ rule. dir_of (word_at words 2)
+    >>= (λ dir. threshold_of (word_at words 6) >>= (λ threshold. Ok (witness rule dir (Some (word_at words 4)) (word_at words 5) threshold)))))
+    else Err Number
+
+-- seven words of which the fourth is `until` name two labels
+abbrev pub witness_of : List (List ℕ) → Asked
+witness_of words = if (length words == 7) && bytes_eq (word_at words 3) (codes "until") then witness_until_of words else witness_reach_of words
 
 -- digits, at least one and at most so many: the number that they write
 abbrev pub whole_word : ℕ → List ℕ → Option ℕ
@@ -115,28 +138,37 @@ abbrev pub steps_of : List ℕ → Result ℕ WordsError
 steps_of word = ok_or (whole_word 7 word) Steps
 
 -- the words behind `horizon`: the row rule, the direction, then the steps
-abbrev pub until_within_of : List (List ℕ) → Asked
-until_within_of words =
-    rule_of (word_at words 1)
-    >>= (λ rule. dir_of (word_at words 2)
-    >>= (λ dir. steps_of (word_at words 5) >>= (λ steps. Ok (horizon rule dir (stay_of (word_at words 3)) (word_at words 4) steps))))
-
-abbrev pub reward_within_of : List (List ℕ) → Asked
-reward_within_of words =
-    rule_of (word_at words 1)
-    >>= (λ rule. dir_of (word_at words 2) >>= (λ dir. steps_of (word_at words 5) >>= (λ steps. Ok (horizon_reward rule dir (word_at words 4) steps))))
-
--- the word `reward` asks for a reward; any other word in its place is a label, or `-`
 abbrev pub horizon_of : List (List ℕ) → Asked
 horizon_of words =
-    if length words == 6 then (if bytes_eq (word_at words 3) (codes "reward") then reward_within_of words else until_within_of words) else Err Number
+    if length words == 6
+    then (rule_of (word_at words 1)
+    >>= (λ rule. dir_of (word_at words 2)
+    >>= (λ dir. steps_of (word_at words 5) >>= (λ steps. Ok (horizon rule dir (stay_of (word_at words 3)) (word_at words 4) steps)))))
+    else Err Number
+
+-- the words behind `total`: the same
+abbrev pub total_of : List (List ℕ) → Asked
+total_of words =
+    if length words == 5
+    then (rule_of (word_at words 1)
+    >>= (λ rule. dir_of (word_at words 2) >>= (λ dir. steps_of (word_at words 4) >>= (λ steps. Ok (total rule dir (word_at words 3) steps)))))
+    else Err Number
 
 -- the words behind `policy`: the row rule, then the objective
-abbrev pub policy_of : List (List ℕ) → Asked
-policy_of words =
+abbrev pub policy_reach_of : List (List ℕ) → Asked
+policy_reach_of words =
     if length words == 5
-    then (rule_of (word_at words 1) >>= (λ rule. if bytes_eq (word_at words 3) (codes "reach") then Ok (policy rule (word_at words 4)) else Err Objective))
+    then (rule_of (word_at words 1) >>= (λ rule. if bytes_eq (word_at words 3) (codes "reach") then Ok (policy rule None (word_at words 4)) else Err Objective))
     else Err Number
+
+-- the row rule of six words, with two labels
+abbrev pub policy_until_of : List (List ℕ) → Asked
+policy_until_of words =
+    if length words == 6 then (rule_of (word_at words 1) >>= (λ rule. Ok (policy rule (Some (word_at words 4)) (word_at words 5)))) else Err Number
+
+-- six words of which the fourth is `until` name two labels
+abbrev pub policy_of : List (List ℕ) → Asked
+policy_of words = if (length words == 6) && bytes_eq (word_at words 3) (codes "until") then policy_until_of words else policy_reach_of words
 
 -- the words behind `chain`
 abbrev pub chain_of : List (List ℕ) → Asked
@@ -177,7 +209,7 @@ abbrev pub digits_of : List ℕ → Result ℕ WordsError
 digits_of word = if begins_with_zero word then Err Digits else few_digits (whole_word 2 word)
 
 -- the words behind `bounds`: how many there are at least, the row rule, the direction, the objective, how many words that has, and its own words; the
--- digits come last. Where it is none of three, the query is that of all but the last word, as for `solve`
+-- digits come last. Where it is none of three, or `until` without a deadline, the query is that of all but the last word, as for `solve`
 abbrev pub bounds_query_of : List (List ℕ) → Result PlainQuery WordsError
 bounds_query_of words = query_of (take (length words - 1) words)
 
@@ -208,7 +240,7 @@ bounds_discount_of rule dir words =
 
 abbrev pub bounds_by : RowRule → Dir → List (List ℕ) → Asked
 bounds_by rule dir words =
-    if bytes_eq (word_at words 3) (codes "until") then bounds_until_of rule dir words
+    if bytes_eq (word_at words 3) (codes "until") && (length words == 8) then bounds_until_of rule dir words
     else (if bytes_eq (word_at words 3) (codes "total") then bounds_total_of rule dir words
     else (if bytes_eq (word_at words 3) (codes "discount") then bounds_discount_of rule dir words else bounds_best_of rule dir words))
 
@@ -221,16 +253,46 @@ bounds_of words =
 abbrev pub bounds_check_of : List (List ℕ) → Asked
 bounds_check_of words = rows_of words >>= λ rule. Ok (bounds_check rule)
 
--- the words behind a command that is neither `solve` nor `check` nor `drill`
+-- the words behind `curve`: how many there are at least, the row rule, the direction, the objective, how many words that has, the steps, then the digits
+abbrev pub curve_until_of : RowRule → Dir → List (List ℕ) → Asked
+curve_until_of rule dir words =
+    if length words == 8
+    then (steps_of (word_at words 6)
+    >>= (λ steps. digits_of (word_at words 7) >>= (λ digits. Ok (curve_until rule dir (stay_of (word_at words 4)) (word_at words 5) steps digits))))
+    else Err Number
+
+abbrev pub curve_total_of : RowRule → Dir → List (List ℕ) → Asked
+curve_total_of rule dir words =
+    if length words == 7
+    then (steps_of (word_at words 5) >>= (λ steps. digits_of (word_at words 6) >>= (λ digits. Ok (curve_total rule dir (word_at words 4) steps digits))))
+    else Err Number
+
+abbrev pub curve_by : RowRule → Dir → List (List ℕ) → Asked
+curve_by rule dir words =
+    if bytes_eq (word_at words 3) (codes "until") then curve_until_of rule dir words
+    else (if bytes_eq (word_at words 3) (codes "total") then curve_total_of rule dir words else Err Objective)
+
+abbrev pub curve_of : List (List ℕ) → Asked
+curve_of words =
+    if nat_lt (length words) 4 then Err Number
+    else (rule_of (word_at words 1) >>= (λ rule. dir_of (word_at words 2) >>= (λ dir. curve_by rule dir words)))
+
+-- the words behind a command whose answer is no certificate and no verdict
+abbrev pub direct_of : List ℕ → List (List ℕ) → Asked
+direct_of command words =
+    if bytes_eq command (codes "horizon") then horizon_of words
+    else (if bytes_eq command (codes "total") then total_of words
+    else (if bytes_eq command (codes "curve") then curve_of words
+    else (if bytes_eq command (codes "policy") then policy_of words
+    else (if bytes_eq command (codes "chain") then chain_of words else Err Command))))
+
+-- the words behind a command that is none of `solve`, `witness`, `check` and `drill`
 abbrev pub other_of : List ℕ → List (List ℕ) → Asked
 other_of command words =
-    if bytes_eq command (codes "horizon") then horizon_of words
-    else (if bytes_eq command (codes "policy") then policy_of words
-    else (if bytes_eq command (codes "chain") then chain_of words
-    else (if bytes_eq command (codes "discount") then discount_of words
+    if bytes_eq command (codes "discount") then discount_of words
     else (if bytes_eq command (codes "discount-check") then discount_check_of words
     else (if bytes_eq command (codes "bounds") then bounds_of words
-    else (if bytes_eq command (codes "bounds-check") then bounds_check_of words else Err Command))))))
+    else (if bytes_eq command (codes "bounds-check") then bounds_check_of words else direct_of command words)))
 
 -- a command, and the words behind it
 abbrev pub job_by : List ℕ → List (List ℕ) → Asked

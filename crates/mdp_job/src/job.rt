@@ -1,10 +1,11 @@
 ghost use Rattle.std.specs.{Prelude.{◌≡◌, ◌<◌, ◌^◌, option_map, length, map, Ok, Err, pos}, Result.{MatchResult}, String.{string_bytes}};
 ghost use Rattle.mdp_math.specs.Rational.{of_int, lt_ℚ};
 ghost use Rattle.mdp_job.specs.Job.{asked, plain_query};
-ghost use Rattle.mdp_job.specs.Words.{job_of, rule_of, dir_of, reach_of, reward_of, mean_of, query_of, solve_of, threshold_of, witness_of, rows_of, check_of, drill_by};
-ghost use Rattle.mdp_job.specs.Words.{drill_of, stay_of, steps_of, until_within_of, reward_within_of, horizon_of, policy_of, chain_of, factor_of, discount_of, discount_check_of};
+ghost use Rattle.mdp_job.specs.Words.{job_of, rule_of, dir_of, reach_of, until_of, reward_of, mean_of, query_of, solve_of, threshold_of, witness_reach_of, witness_until_of, witness_of};
+ghost use Rattle.mdp_job.specs.Words.{rows_of, check_of, drill_by, drill_of, stay_of, steps_of, horizon_of, total_of, policy_reach_of, policy_until_of, policy_of, chain_of};
+ghost use Rattle.mdp_job.specs.Words.{factor_of, discount_of, discount_check_of};
 ghost use Rattle.mdp_job.specs.Words.{digits_of, bounds_query_of, bounds_digits_of, bounds_best_of, bounds_until_of, bounds_total_of, bounds_discount_of, bounds_by, bounds_of};
-ghost use Rattle.mdp_job.specs.Words.{bounds_check_of, other_of, job_by};
+ghost use Rattle.mdp_job.specs.Words.{bounds_check_of, curve_until_of, curve_total_of, curve_by, curve_of, direct_of, other_of, job_by};
 
 use crate::digits::whole_word;
 use crate::words_error::WordsError;
@@ -16,6 +17,8 @@ use mdp_rows::{Dir, MAX_STATES, RowRule};
 pub enum Query<'a> {
     /// The probability of reaching a state with this label.
     Reach { label: &'a [u8] },
+    /// The probability of reaching a state with this label by way of states with the label `stay` alone.
+    Until { stay: &'a [u8], label: &'a [u8] },
     /// The reward of this name until a state with this label.
     Reward { name: &'a [u8], label: &'a [u8] },
     /// The mean payoff of the reward of this name: its gain, without end.
@@ -25,18 +28,20 @@ pub enum Query<'a> {
 /// What the words ask for.
 #[derive(Clone, Copy)]
 pub enum Job<'a> {
-    /// `solve MODEL ROWS DIR reach LABEL`, `solve MODEL ROWS DIR reward NAME LABEL` and `solve MODEL ROWS DIR mean NAME`: the best values in the
-    /// direction, with a policy and a certificate.
+    /// `solve MODEL ROWS DIR reach LABEL`, `solve MODEL ROWS DIR until A B`, `solve MODEL ROWS DIR reward NAME LABEL` and
+    /// `solve MODEL ROWS DIR mean NAME`: the best values in the direction, with a policy and a certificate.
     Solve {
         rule: RowRule,
         dir: Dir,
         query: Query<'a>,
     },
-    /// `witness MODEL ROWS DIR LABEL THRESHOLD`: a subsystem on which the best probability, in the direction, of reaching a state with the label from
-    /// the one initial state is still at least the threshold.
+    /// `witness MODEL ROWS DIR LABEL THRESHOLD` and `witness MODEL ROWS DIR until A B THRESHOLD`: a subsystem on which the best probability, in the
+    /// direction, of reaching a state with the label from the one initial state, on a way that keeps to states with the label `stay` (to any states,
+    /// where that is none), is still at least the threshold.
     Witness {
         rule: RowRule,
         dir: Dir,
+        stay: Option<&'a [u8]>,
         label: &'a [u8],
         threshold: Frac,
     },
@@ -59,17 +64,18 @@ pub enum Job<'a> {
         label: &'a [u8],
         steps: u32,
     },
-    /// `horizon MODEL ROWS DIR reward NAME STEPS`: the best total of the rewards of this name within so many steps.
-    HorizonReward {
+    /// `total MODEL ROWS DIR NAME STEPS`: the best total of the rewards of this name within so many steps.
+    Total {
         rule: RowRule,
         dir: Dir,
         name: &'a [u8],
         steps: u32,
     },
-    /// `policy MODEL ROWS POLICY reach LABEL`: the probabilities with which a given policy reaches a state with the label, and where another choice
-    /// is better.
+    /// `policy MODEL ROWS POLICY reach LABEL` and `policy MODEL ROWS POLICY until A B`: the probabilities with which a given policy reaches a state with
+    /// the label, on a way that keeps to states with the label `stay` (to any states, where that is none), and where another choice is better.
     Policy {
         rule: RowRule,
+        stay: Option<&'a [u8]>,
         label: &'a [u8],
     },
     /// `chain MODEL ROWS POLICY`: the model in which each state keeps only the choice that a given policy, or a certificate, names.
@@ -88,9 +94,9 @@ pub enum Job<'a> {
     DiscountCheck {
         rule: RowRule,
     },
-    /// `bounds MODEL ROWS DIR reach LABEL DIGITS`, `bounds MODEL ROWS DIR reward NAME LABEL DIGITS` and `bounds MODEL ROWS DIR mean NAME DIGITS`: a lower
-    /// and an upper value for each state, between which the best value, in the direction, lies, and a policy; the search tries for so many digits, from 1
-    /// to 30.
+    /// `bounds MODEL ROWS DIR reach LABEL DIGITS`, `bounds MODEL ROWS DIR until A B DIGITS`, `bounds MODEL ROWS DIR reward NAME LABEL DIGITS` and
+    /// `bounds MODEL ROWS DIR mean NAME DIGITS`: a lower and an upper value for each state, between which the best value, in the direction, lies, and a
+    /// policy; the search tries for so many digits, from 1 to 30.
     Bounds {
         rule: RowRule,
         dir: Dir,
@@ -106,7 +112,7 @@ pub enum Job<'a> {
         steps: u32,
         digits: u32,
     },
-    /// `bounds MODEL ROWS DIR total NAME STEPS DIGITS`: the same of `horizon MODEL ROWS DIR reward NAME STEPS`.
+    /// `bounds MODEL ROWS DIR total NAME STEPS DIGITS`: the same of `total MODEL ROWS DIR NAME STEPS`.
     BoundsTotal {
         rule: RowRule,
         dir: Dir,
@@ -125,6 +131,24 @@ pub enum Job<'a> {
     /// `bounds-check MODEL ROWS CERT`: whether a certificate of bounds holds of the model, read under the row rule.
     BoundsCheck {
         rule: RowRule,
+    },
+    /// `curve MODEL ROWS DIR until A B STEPS DIGITS`: for each number of steps up to this one a lower and an upper value of what
+    /// `horizon MODEL ROWS DIR A B STEPS` asks for at the one initial state, so many digits near, from 1 to 30.
+    CurveUntil {
+        rule: RowRule,
+        dir: Dir,
+        stay: Option<&'a [u8]>,
+        label: &'a [u8],
+        steps: u32,
+        digits: u32,
+    },
+    /// `curve MODEL ROWS DIR total NAME STEPS DIGITS`: the same of `total MODEL ROWS DIR NAME STEPS`.
+    CurveTotal {
+        rule: RowRule,
+        dir: Dir,
+        name: &'a [u8],
+        steps: u32,
+        digits: u32,
     },
 }
 
@@ -158,6 +182,19 @@ fn reach_of<'a>(words: &'a [String]) -> Result<Query<'a>, WordsError>
         return Err(WordsError::Number);
     };
     Ok(Query::Reach {
+        label: label.as_bytes(),
+    })
+}
+
+/// The query that the words of `solve` or `bounds` name, where the objective is `until`.
+fn until_of<'a>(words: &'a [String]) -> Result<Query<'a>, WordsError>
+    ensures { MatchResult result (λ q. until_of (map string_bytes words.now) ≡ Ok (plain_query q)) (λ e. until_of (map string_bytes words.now) ≡ Err e) }
+{
+    let [_, _, _, _, stay, label] = words else {
+        return Err(WordsError::Number);
+    };
+    Ok(Query::Until {
+        stay: stay.as_bytes(),
         label: label.as_bytes(),
     })
 }
@@ -196,6 +233,9 @@ fn query_of<'a>(words: &'a [String]) -> Result<Query<'a>, WordsError>
     if objective == "reach" {
         return reach_of(words);
     }
+    if objective == "until" {
+        return until_of(words);
+    }
     if objective == "reward" {
         return reward_of(words);
     }
@@ -230,9 +270,9 @@ fn threshold_of(word: &str) -> Result<Frac, WordsError>
     }
 }
 
-/// The job that the words behind `witness` are.
-fn witness_of<'a>(words: &'a [String]) -> Result<Job<'a>, WordsError>
-    ensures { asked result ≡ witness_of (map string_bytes words.now) }
+/// The job that the words behind `witness` are, where they name one label.
+fn witness_reach_of<'a>(words: &'a [String]) -> Result<Job<'a>, WordsError>
+    ensures { asked result ≡ witness_reach_of (map string_bytes words.now) }
 {
     let [_, rows, dir, label, threshold] = words else {
         return Err(WordsError::Number);
@@ -243,9 +283,39 @@ fn witness_of<'a>(words: &'a [String]) -> Result<Job<'a>, WordsError>
     Ok(Job::Witness {
         rule,
         dir,
+        stay: None,
         label: label.as_bytes(),
         threshold,
     })
+}
+
+/// The job that the words behind `witness` are, where they name two labels.
+fn witness_until_of<'a>(words: &'a [String]) -> Result<Job<'a>, WordsError>
+    ensures { asked result ≡ witness_until_of (map string_bytes words.now) }
+{
+    let [_, rows, dir, _, stay, label, threshold] = words else {
+        return Err(WordsError::Number);
+    };
+    let rule = rule_of(rows.as_str())?;
+    let dir = dir_of(dir.as_str())?;
+    let threshold = threshold_of(threshold.as_str())?;
+    Ok(Job::Witness {
+        rule,
+        dir,
+        stay: Some(stay.as_bytes()),
+        label: label.as_bytes(),
+        threshold,
+    })
+}
+
+/// The job that the words behind `witness` are: seven words of which the fourth is `until` name two labels.
+fn witness_of<'a>(words: &'a [String]) -> Result<Job<'a>, WordsError>
+    ensures { asked result ≡ witness_of (map string_bytes words.now) }
+{
+    if words.len() == 7 && words[3].as_str() == "until" {
+        return witness_until_of(words);
+    }
+    witness_reach_of(words)
 }
 
 /// The row rule of the words MODEL ROWS CERT, with which a certificate is held against a model.
@@ -286,50 +356,41 @@ fn steps_of(word: &str) -> Result<u32, WordsError>
     }
 }
 
-/// The job that the words behind `horizon` are, where they ask for a way to a label.
-fn until_within_of<'a>(words: &'a [String]) -> Result<Job<'a>, WordsError>
-    requires { 5 < length words.now }
-    ensures { asked result ≡ until_within_of (map string_bytes words.now) }
-{
-    let rule = rule_of(words[1].as_str())?;
-    let dir = dir_of(words[2].as_str())?;
-    let steps = steps_of(words[5].as_str())?;
-    Ok(Job::Horizon {
-        rule,
-        dir,
-        stay: stay_of(words[3].as_str()),
-        label: words[4].as_bytes(),
-        steps,
-    })
-}
-
-/// The job that the words behind `horizon` are, where they ask for a reward.
-fn reward_within_of<'a>(words: &'a [String]) -> Result<Job<'a>, WordsError>
-    requires { 5 < length words.now }
-    ensures { asked result ≡ reward_within_of (map string_bytes words.now) }
-{
-    let rule = rule_of(words[1].as_str())?;
-    let dir = dir_of(words[2].as_str())?;
-    let steps = steps_of(words[5].as_str())?;
-    Ok(Job::HorizonReward {
-        rule,
-        dir,
-        name: words[4].as_bytes(),
-        steps,
-    })
-}
-
-/// The job that the words behind `horizon` are: the word `reward` asks for a reward, any other word in its place is a label, or `-`.
+/// The job that the words behind `horizon` are.
 fn horizon_of<'a>(words: &'a [String]) -> Result<Job<'a>, WordsError>
     ensures { asked result ≡ horizon_of (map string_bytes words.now) }
 {
-    if words.len() != 6 {
+    let [_, rows, dir, stay, label, steps] = words else {
         return Err(WordsError::Number);
-    }
-    if words[3].as_str() == "reward" {
-        return reward_within_of(words);
-    }
-    until_within_of(words)
+    };
+    let rule = rule_of(rows.as_str())?;
+    let dir = dir_of(dir.as_str())?;
+    let steps = steps_of(steps.as_str())?;
+    Ok(Job::Horizon {
+        rule,
+        dir,
+        stay: stay_of(stay.as_str()),
+        label: label.as_bytes(),
+        steps,
+    })
+}
+
+/// The job that the words behind `total` are.
+fn total_of<'a>(words: &'a [String]) -> Result<Job<'a>, WordsError>
+    ensures { asked result ≡ total_of (map string_bytes words.now) }
+{
+    let [_, rows, dir, name, steps] = words else {
+        return Err(WordsError::Number);
+    };
+    let rule = rule_of(rows.as_str())?;
+    let dir = dir_of(dir.as_str())?;
+    let steps = steps_of(steps.as_str())?;
+    Ok(Job::Total {
+        rule,
+        dir,
+        name: name.as_bytes(),
+        steps,
+    })
 }
 
 /// The job that the words behind `chain` are.
@@ -340,9 +401,9 @@ fn chain_of<'a>(words: &'a [String]) -> Result<Job<'a>, WordsError>
     Ok(Job::Chain { rule })
 }
 
-/// The job that the words behind `policy` are.
-fn policy_of<'a>(words: &'a [String]) -> Result<Job<'a>, WordsError>
-    ensures { asked result ≡ policy_of (map string_bytes words.now) }
+/// The job that the words behind `policy` are, where they name one label.
+fn policy_reach_of<'a>(words: &'a [String]) -> Result<Job<'a>, WordsError>
+    ensures { asked result ≡ policy_reach_of (map string_bytes words.now) }
 {
     let [_, rows, _, objective, label] = words else {
         return Err(WordsError::Number);
@@ -353,8 +414,34 @@ fn policy_of<'a>(words: &'a [String]) -> Result<Job<'a>, WordsError>
     }
     Ok(Job::Policy {
         rule,
+        stay: None,
         label: label.as_bytes(),
     })
+}
+
+/// The job that the words behind `policy` are, where they name two labels.
+fn policy_until_of<'a>(words: &'a [String]) -> Result<Job<'a>, WordsError>
+    ensures { asked result ≡ policy_until_of (map string_bytes words.now) }
+{
+    let [_, rows, _, _, stay, label] = words else {
+        return Err(WordsError::Number);
+    };
+    let rule = rule_of(rows.as_str())?;
+    Ok(Job::Policy {
+        rule,
+        stay: Some(stay.as_bytes()),
+        label: label.as_bytes(),
+    })
+}
+
+/// The job that the words behind `policy` are: six words of which the fourth is `until` name two labels.
+fn policy_of<'a>(words: &'a [String]) -> Result<Job<'a>, WordsError>
+    ensures { asked result ≡ policy_of (map string_bytes words.now) }
+{
+    if words.len() == 6 && words[3].as_str() == "until" {
+        return policy_until_of(words);
+    }
+    policy_reach_of(words)
 }
 
 /// Whether a fraction is below 1.
@@ -508,13 +595,13 @@ fn bounds_discount_of<'a>(
     })
 }
 
-/// The job of bounds that the words name, by the objective.
+/// The job of bounds that the words name, by the objective; `until` is a query as behind `solve`, but with a deadline where there are eight words.
 fn bounds_by<'a>(rule: RowRule, dir: Dir, words: &'a [String]) -> Result<Job<'a>, WordsError>
     requires { 5 < length words.now }
     ensures { asked result ≡ bounds_by rule dir (map string_bytes words.now) }
 {
     let objective = words[3].as_str();
-    if objective == "until" {
+    if objective == "until" && words.len() == 8 {
         return bounds_until_of(rule, dir, words);
     }
     if objective == "total" {
@@ -544,6 +631,70 @@ fn bounds_check_of<'a>(words: &'a [String]) -> Result<Job<'a>, WordsError>
 {
     let rule = rows_of(words)?;
     Ok(Job::BoundsCheck { rule })
+}
+
+/// The job of a curve that the words name, where the objective is `until`: two labels, the steps, then the digits.
+fn curve_until_of<'a>(rule: RowRule, dir: Dir, words: &'a [String]) -> Result<Job<'a>, WordsError>
+    ensures { asked result ≡ curve_until_of rule dir (map string_bytes words.now) }
+{
+    let [_, _, _, _, stay, label, steps, digits] = words else {
+        return Err(WordsError::Number);
+    };
+    let steps = steps_of(steps.as_str())?;
+    let digits = digits_of(digits.as_str())?;
+    Ok(Job::CurveUntil {
+        rule,
+        dir,
+        stay: stay_of(stay.as_str()),
+        label: label.as_bytes(),
+        steps,
+        digits,
+    })
+}
+
+/// The job of a curve that the words name, where the objective is `total`: the reward's name, the steps, then the digits.
+fn curve_total_of<'a>(rule: RowRule, dir: Dir, words: &'a [String]) -> Result<Job<'a>, WordsError>
+    ensures { asked result ≡ curve_total_of rule dir (map string_bytes words.now) }
+{
+    let [_, _, _, _, name, steps, digits] = words else {
+        return Err(WordsError::Number);
+    };
+    let steps = steps_of(steps.as_str())?;
+    let digits = digits_of(digits.as_str())?;
+    Ok(Job::CurveTotal {
+        rule,
+        dir,
+        name: name.as_bytes(),
+        steps,
+        digits,
+    })
+}
+
+/// The job of a curve that the words name, by the objective.
+fn curve_by<'a>(rule: RowRule, dir: Dir, words: &'a [String]) -> Result<Job<'a>, WordsError>
+    requires { 3 < length words.now }
+    ensures { asked result ≡ curve_by rule dir (map string_bytes words.now) }
+{
+    let objective = words[3].as_str();
+    if objective == "until" {
+        return curve_until_of(rule, dir, words);
+    }
+    if objective == "total" {
+        return curve_total_of(rule, dir, words);
+    }
+    Err(WordsError::Objective)
+}
+
+/// The job that the words behind `curve` are.
+fn curve_of<'a>(words: &'a [String]) -> Result<Job<'a>, WordsError>
+    ensures { asked result ≡ curve_of (map string_bytes words.now) }
+{
+    if words.len() < 4 {
+        return Err(WordsError::Number);
+    }
+    let rule = rule_of(words[1].as_str())?;
+    let dir = dir_of(words[2].as_str())?;
+    curve_by(rule, dir, words)
 }
 
 /// The most states in the layers of a model that is drawn.
@@ -584,19 +735,30 @@ fn drill_of<'a>(words: &'a [String]) -> Result<Job<'a>, WordsError>
     drill_by(number, layers, width)
 }
 
+/// The job that the words behind a command are, where its answer is no certificate and no verdict.
+fn direct_of<'a>(command: &str, words: &'a [String]) -> Result<Job<'a>, WordsError>
+    ensures { asked result ≡ direct_of command.now (map string_bytes words.now) }
+{
+    match command {
+        "horizon" => horizon_of(words),
+        "total" => total_of(words),
+        "curve" => curve_of(words),
+        "policy" => policy_of(words),
+        "chain" => chain_of(words),
+        _ => Err(WordsError::Command),
+    }
+}
+
 /// The job that the words behind a command are, where it is none of `solve`, `witness`, `check` and `drill`.
 fn other_of<'a>(command: &str, words: &'a [String]) -> Result<Job<'a>, WordsError>
     ensures { asked result ≡ other_of command.now (map string_bytes words.now) }
 {
     match command {
-        "horizon" => horizon_of(words),
-        "policy" => policy_of(words),
-        "chain" => chain_of(words),
         "discount" => discount_of(words),
         "discount-check" => discount_check_of(words),
         "bounds" => bounds_of(words),
         "bounds-check" => bounds_check_of(words),
-        _ => Err(WordsError::Command),
+        _ => direct_of(command, words),
     }
 }
 
@@ -614,9 +776,9 @@ fn job_by<'a>(command: &str, words: &'a [String]) -> Result<Job<'a>, WordsError>
 }
 
 /// The job that the words are, or the first refusal: `Command`, then `Number`, `Rows`, `Direction` and `Objective`, and `Number` again where an
-/// objective has another number of words; for `drill` `Drill`, for `horizon` `Steps`, for `policy` `Objective` behind `Rows`, for `discount` `Factor`
-/// and for `witness` `Threshold` behind `Direction`, and for `bounds` `Steps` or `Factor`, where the objective has one, and `Digits` behind all of
-/// these. It takes no memory.
+/// objective has another number of words; for `drill` `Drill`, for `horizon` and `total` `Steps`, for `policy` `Objective` behind `Rows`, for `discount`
+/// `Factor` and for `witness` `Threshold` behind `Direction`, and for `bounds` and `curve` `Steps` or `Factor`, where the objective has one, and `Digits`
+/// behind all of these. It takes no memory.
 pub fn job_of<'a>(words: &'a [String]) -> Result<Job<'a>, WordsError>
     ensures { asked result ≡ job_of words.now }
 {
