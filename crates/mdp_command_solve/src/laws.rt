@@ -14,5 +14,4 @@ pub fn solve_law()
     mdp_reach::query_law();
     mdp_reward::query_law();
     mdp_mean::mean_law();
-    mdp_subsystem_rules::stay_law();
 }

@@ -1,16 +1,13 @@
-ghost use Rattle.std.specs.Prelude.{◌≡◌, ◌⊎◌, Some, Err, IfOk, length};
-ghost use Rattle.mdp_spec.specs.Mdp.{states_of};
-ghost use Rattle.mdp_check.specs.Check.{goal_marks, way_by};
+ghost use Rattle.std.specs.Prelude.{◌≡◌, ◌⊎◌, Some, Err, IfOk};
+ghost use Rattle.mdp_check.specs.Check.{way_by};
 ghost use Rattle.mdp_command.specs.Prelude.{no_memory, said};
-ghost use Rattle.mdp_command_solve.specs.{Ways.{name_of, place_on_way}, Due.{claim_of, IsReachEnd, IsReachDue}, Solved.{IsReachPrinted}};
+ghost use Rattle.mdp_command_solve.specs.{Ways.{name_of, place_on_way, goals_by}, Due.{IsReachEnd, IsReachDue}, Solved.{IsReachPrinted}};
 
 use crate::certificate::certificate_of;
 use crate::ways::{cut_of, owned, place_on_way, way_in};
 use mdp_cert::text_law;
 use mdp_command::certificate_text;
-use mdp_graph::avoid_law;
 use mdp_job::Refusal;
-use mdp_policy_iteration::path_law;
 use mdp_reach::solve_reach;
 use mdp_rows::{Dir, Marks, Model};
 use mdp_wide::SolveError;
@@ -26,16 +23,12 @@ fn solve_on_way(
     stay: Option<&[u8]>,
     label: &[u8],
 ) -> Result<Vec<u8>, Refusal>
-    requires goals { length goals.now ≡ states_of model.now }
     requires way { way.now ≡ way_by model.now goals.now (name_of stay.entry) }
-    requires marked { goal_marks model.now (claim_of dir (name_of stay.entry) label.now) ≡ Some goals.now }
+    requires goals { goals_by model.now (name_of stay.entry) label.now ≡ Some goals.now }
     ensures due { (said result ≡ Err no_memory) ⊎ IsReachEnd dir (name_of stay.entry) label.now model.now goals.now (said result) }
     ensures printed { IfOk (said result) (IsReachPrinted dir (name_of stay.entry) label.now model.now) }
 {
     model.known();
-    way.known();
-    avoid_law();
-    path_law();
     text_law();
     let answer = match solve_reach(alloc, way, goals, dir) {
         Ok(answer) => answer,
