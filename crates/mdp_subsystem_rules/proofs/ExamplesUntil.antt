@@ -1,12 +1,12 @@
 -- Subsystems for until, on the model of four states: state 0 goes to 1 or to 3 with 1/2 each, or by its second choice to 1; state 1 goes back to 0
 -- with 1/2 and to 2, the goal, with 1/2; 3 fails.
-use Rattle.std.proofs.Common.{◌≡◌, ℕ, zero, suc, ◌<◌, Bool, true, false, true≢false, List, [], ◌∷◌, length, refl, sym, subst, ap, ◌∙◌, pos, arith}
+use Rattle.std.proofs.Common.{◌≡◌, ℕ, zero, suc, ◌<◌, Bool, true, false, true≢false, List, [], ◌∷◌, length, refl, sym, subst, pos, arith}
 use Rattle.std.proofs.lemmas.List.Elements.{All-from_recursion}
 use Rattle.mdp_math.specs.{Gcd.{gcd, gcd_with_fuel}, Rational.{ℚ, of_int, ratio, le_ℚ, lt_ℚ, ◌+ℚ◌, ◌*ℚ◌, ◌≤ℚ◌, ◌<ℚ◌}}
 use Rattle.mdp_math.proofs.{Ring.{◌⊕◌}, Linear.{linear, known}, Order.{0ℚ, ≤ℚ_trans, ≤ℚ_of_eq}, Tables.{AreEqual}}
 use Rattle.mdp_spec.specs.{Mdp.{Mdp, states_of, choices_at, row_at}, Row.{IsRow, IsMdp}, Unit.{unit_of}, Tree.{IsStrategy, unfolded, is_marked}}
 use Rattle.mdp_spec.specs.{Hit.{hit}, Sub.{sub_of}, Until.{until}, Bounds.{part}}
-use Rattle.mdp_spec.proofs.{Small.{entry, half, nought, one, back, back_goals}, Subsystem.{loop_is_row, sub_is_mdp}, Untils.{until-away}, Until.{until_is_hit_kept}}
+use Rattle.mdp_spec.proofs.{Small.{half, nought, one, back, back_goals}, Subsystem.{loop_is_row, sub_is_mdp}, Untils.{until-away}, Until.{until_is_hit_kept}}
 use Rattle.mdp_claims.specs.declared.subsystem.Flow.{Flow}
 use Rattle.mdp_subsystem_rules.specs.{Flow.{IsFlow, MeetsFlow, outflow, inflow, goal_flow, source, goal_source}, Until.{SubUntilMax}}
 use Rattle.mdp_subsystem_rules.proofs.{Fewer.{lost-none}, Flows.{sub_max_of_flow}, Picks.{greatest_place, greatest_place-below}, Untils.{sub_until_max}}

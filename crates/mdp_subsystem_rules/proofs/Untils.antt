@@ -3,9 +3,9 @@
 use Rattle.std.proofs.Common.{◌≡◌, ℕ, suc, ◌<◌, Bool, true, false, cond, List, [], ◌∷◌, refl, sym, ap, subst, ◌∙◌}
 use Rattle.mdp_math.specs.Rational.{ℚ, ◌+ℚ◌, ◌≤ℚ◌}
 use Rattle.mdp_spec.specs.{Mdp.{State, Mdp, states_of}, Row.{IsMdp}, Tree.{Tree, IsStrategy}, Hit.{hit}, Sub.{loop_at, cut_from, sub_of}}
-use Rattle.mdp_spec.specs.{Bounds.{part, SubMax, SubMaxWithin, SubMin}, Until.{until}}
+use Rattle.mdp_spec.specs.{Bounds.{part}, Until.{until}}
 use Rattle.mdp_spec.proofs.{Subsystem.{stays, sub-states, sub_is_mdp}, Until.{until_is_reach, reach_is_until}}
-use Rattle.mdp_subsystem_rules.specs.Until.{SubUntilMax, SubUntilMaxWithin, SubUntilMin, SubUntilMaxBySub, SubUntilMaxWithinBySub, SubUntilMinBySub}
+use Rattle.mdp_subsystem_rules.specs.Until.{SubUntilMaxBySub, SubUntilMaxWithinBySub, SubUntilMinBySub}
 
 -- ---- two cuts in either order
 
