@@ -1,5 +1,5 @@
 mod Examples
-pub mod Ways
+pub mod OnWay
 pub mod TextLength
 pub mod Printing
 pub mod Solved

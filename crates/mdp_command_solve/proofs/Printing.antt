@@ -26,7 +26,7 @@ use Rattle.mdp_command_solve.specs.Ways.{goals_by}
 use Rattle.mdp_command_solve.specs.Due.{claim_of, certificate_of, reward_certificate_of, mean_certificate_of}
 use Rattle.mdp_command_solve.specs.Solved.{IsClaimPrinted, IsReachPrinted, IsRewardPrinted, IsMeanPrinted}
 use Rattle.mdp_text.proofs.InitialState.{initial_below}
-use Rattle.mdp_command_solve.proofs.{TextLength.{text_short}, Ways.{way_states, marked}}
+use Rattle.mdp_command_solve.proofs.{TextLength.{text_short}, OnWay.{way_states, marked}}
 
 -- ---- an answer has an entry per state
 

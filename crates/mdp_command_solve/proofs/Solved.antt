@@ -26,7 +26,7 @@ use Rattle.mdp_command_solve.specs.Ways.{place_on_way}
 use Rattle.mdp_command_solve.specs.Due.{said_of_end, said_of_reward_end, said_of_mean_end, IsReachDue, IsRewardEnd, IsRewardDue, IsMeanDue, IsQueryDue, IsSolveDue}
 use Rattle.mdp_command_solve.specs.Laws.{IsBest, IsAnswerTo, IsBestReward, IsRewardAnswerTo, IsBestMean, IsMeanAnswerTo}
 use Rattle.mdp_command_solve.specs.Solved.{IsClaimPrinted, IsPrinted, IsClaimSolved, IsSolved}
-use Rattle.mdp_command_solve.proofs.Ways.{way_is_mdp}
+use Rattle.mdp_command_solve.proofs.OnWay.{way_is_mdp}
 
 -- ---- what is read is a model
 

@@ -11,7 +11,7 @@ use Rattle.mdp_check.specs.{Initial.{init_check, is_subsystem}, Check.{way_by, v
 use Rattle.mdp_farkas.specs.Initial.{init_fault}
 use Rattle.mdp_witness.specs.{Query.{PlainSubsystem, flow, floor}, Shown.{HasShape, Holds}}
 use Rattle.mdp_command_solve.specs.{Ways.{goals_by}, WitnessCertificate.{body_of, certificate_of}}
-use Rattle.mdp_command_solve.proofs.{Ways.{witness_marked}, WitnessFitting.{flow_fits, floor_fits}}
+use Rattle.mdp_command_solve.proofs.{OnWay.{witness_marked}, WitnessFitting.{flow_fits, floor_fits}}
 
 -- ---- the initial state
 

@@ -15,7 +15,7 @@ use Rattle.mdp_witness.specs.Shown as shown
 use Rattle.mdp_command_solve.specs.{Ways.{place_on_way, goals_by}, Laws.{IsBest}, WitnessCertificate.{certificate_of}, WitnessDue.{said_of_end, IsDueAt, IsStepDue}, WitnessLaws.{IsBelow}}
 use Rattle.mdp_command_solve.specs.WitnessShown.{IsWitnessOf}
 use Rattle.mdp_text.proofs.InitialState.{initial_below}
-use Rattle.mdp_command_solve.proofs.{Ways.{marks_each, way_states, way_is_mdp}, Solved.{best_on_way}, WitnessPrinting.{is_witness, witness_of}}
+use Rattle.mdp_command_solve.proofs.{OnWay.{marks_each, way_states, way_is_mdp}, Solved.{best_on_way}, WitnessPrinting.{is_witness, witness_of}}
 
 -- the best probabilities of the search are those of the laws
 best_is : (dir : Dir) (m : Mdp) (goals : List Bool) (z : List ℚ) (policy : List ℕ) → shown.IsBest dir m goals z policy → IsBest dir None m goals z policy

@@ -18,7 +18,7 @@ use Rattle.mdp_witness.specs.Shown.{kept_of, kept_in, HasShape, Holds, PolicyRea
 use Rattle.mdp_command_solve.specs.{Ways.{goals_by}, WitnessCertificate.{dir_of, certificate_of}, WitnessDue.{IsEndDue}}
 use Rattle.mdp_command_solve.specs.WitnessShown.{Reaches, IsWitness, IsWitnessOf, IsWitnessPrinted, IsWitnessShown}
 use Rattle.mdp_text.proofs.InitialState.{initial_below}
-use Rattle.mdp_command_solve.proofs.{Ways.{placed, way_states}, WitnessAccepting.{witness_accepted}, WitnessFew.{HasFewFlows, few_flows}, WitnessLength.{witness_text_short}}
+use Rattle.mdp_command_solve.proofs.{OnWay.{placed, way_states}, WitnessAccepting.{witness_accepted}, WitnessFew.{HasFewFlows, few_flows}, WitnessLength.{witness_text_short}}
 
 -- ---- a subsystem that was found
 

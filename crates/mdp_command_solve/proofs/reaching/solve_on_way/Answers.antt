@@ -5,7 +5,7 @@ use Rattle.mdp_reach.specs.Query as query
 use Rattle.mdp_reach.specs.Query.{EndsSo, HasOneEach}
 use Rattle.mdp_cert.specs.{Cert.{are_names, Fits}, Plain.{plain}, Spelling.{text_of}}
 use Rattle.mdp_command_solve.specs.{Ways.{name_of, owned_name}, Due.{claim_of, certificate_of}, Solved.{IsReachPrinted}}
-use Rattle.mdp_command_solve.proofs.{Ways.{names, marks_each, way_states}, Printing.{one_each, printed, text_printed}}
+use Rattle.mdp_command_solve.proofs.{OnWay.{names, marks_each, way_states}, Printing.{one_each, printed, text_printed}}
 use Rattle.mdp_command_solve.proofs.reaching.solve_on_way.Goals as goal
 
 pub solve_reach-requires : goal.solve_reach-requires
