@@ -170,7 +170,7 @@ init_inside (until dir stay label) n (Some s) (rewards lower high choices ranks)
 init_inside (reward dir name label) n (Some s) (rewards lower high choices ranks) e below =
     ap₂ (λ (a b : Bool). a && b) (ap₂ (λ (a b : Bool). a && b) (lt-ltb s n (below s refl)) (may_be_reward dir name label (reward_at lower s))) (may_be_reward dir name label (reward_at high s))
 init_inside (mean dir name) n (Some s) (rewards lower high choices ranks) e below = absurd cc
-init_inside (certificate.witness dir label threshold) n (Some s) (rewards lower high choices ranks) e below = absurd cc
+init_inside (certificate.witness dir stay label threshold) n (Some s) (rewards lower high choices ranks) e below = absurd cc
 init_inside claim n (Some s) (gains lower upper bound bias choices spread) e below = ap (λ (b : Bool). b && true && true) (lt-ltb s n (below s refl))
 
 -- ---- the certificate is accepted
