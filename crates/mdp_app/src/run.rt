@@ -1,4 +1,4 @@
-ghost use Rattle.std.specs.{Fn.{FnReturnsAt}, Prelude.{◌≡◌}};
+ghost use Rattle.std.specs.{Fn.{FnOnceReturnsAt}, Prelude.{◌≡◌}};
 ghost use Rattle.mdp_job.specs.Words.{job_of, model_path, second_path};
 ghost use Rattle.mdp_command.specs.{Opened.{OnFiles}, Prelude.{said, input, output}};
 ghost use Rattle.mdp_app.specs.{Run.{IsAnswered, IsWorkDone, IsComplete, HasRun}, Decided.{IsDecided}};
@@ -137,18 +137,20 @@ pub fn run<S: Source, C: Source, K: Sink>(
 }
 
 /// Opens the files that the words name, the model's and the second one, and runs the program on them.
-pub fn run_on_files<F: Source + Drop, O: Fn(&str) -> F, K: Sink>(
+pub fn run_on_files<F: Source + Drop, M: FnOnce(&str) -> F, O: FnOnce(&str) -> F, K: Sink>(
     alloc: Global,
     words: &[String],
-    open_file: O,
+    open_model: M,
+    open_second: O,
     out: &mut K,
 ) -> Status
-    requires { O.IsAlwaysCallable open_file }
-    ensures { OnFiles (FnReturnsAt O.Fn open_file) F.left F.faults (model_path words.now) (second_path words.now)
+    requires model { M.IsAlwaysCallable open_model }
+    requires second { O.IsAlwaysCallable open_second }
+    ensures { OnFiles (FnOnceReturnsAt M.FnOnce open_model) (FnOnceReturnsAt O.FnOnce open_second) F.left F.faults (model_path words.now) (second_path words.now)
         (λ model second. HasRun (job_of words.now) model second (output K.taken K.settled K.faults out.old out.new) result) }
 {
     let paths = paths_of(words);
-    let mut model = open_file(paths.model);
-    let mut second = open_file(paths.second);
+    let mut model = open_model(paths.model);
+    let mut second = open_second(paths.second);
     run(alloc, words, &mut model, &mut second, out)
 }
