@@ -6,7 +6,8 @@ ghost use Rattle.mdp_app.specs.{Run.{IsAnswered, IsWorkDone, IsComplete, HasRun}
 use mdp_command::{CertificateKind, check_files, written};
 use mdp_command_bounds_search::{bounds_discount_file, bounds_file};
 use mdp_command_horizon::{
-    horizon_file, horizon_reward_file, total_bounds_file, until_bounds_file,
+    horizon_file, total_bounds_file, total_curve_file, total_file, until_bounds_file,
+    until_curve_file,
 };
 use mdp_command_policy::{chain_file, policy_file};
 use mdp_command_solve::{
@@ -34,12 +35,11 @@ fn decided<S: Source, C: Source>(
         Job::Witness {
             rule,
             dir,
+            stay,
             label,
             threshold,
-        } => witness_file(alloc, rule, dir, label, threshold, model),
-        Job::Check { rule } => {
-            check_files(alloc, rule, Some(CertificateKind::Exact), model, second)
-        }
+        } => witness_file(alloc, rule, dir, stay, label, threshold, model),
+        Job::Check { rule } => check_files(alloc, rule, None, model, second),
         Job::Drill {
             number,
             layers,
@@ -52,13 +52,13 @@ fn decided<S: Source, C: Source>(
             label,
             steps,
         } => horizon_file(alloc, rule, dir, stay, label, steps, model),
-        Job::HorizonReward {
+        Job::Total {
             rule,
             dir,
             name,
             steps,
-        } => horizon_reward_file(alloc, rule, dir, name, steps, model),
-        Job::Policy { rule, label } => policy_file(alloc, rule, label, model, second),
+        } => total_file(alloc, rule, dir, name, steps, model),
+        Job::Policy { rule, stay, label } => policy_file(alloc, rule, stay, label, model, second),
         Job::Chain { rule } => chain_file(alloc, rule, model, second),
         Job::Discount {
             rule,
@@ -106,6 +106,21 @@ fn decided<S: Source, C: Source>(
         Job::BoundsCheck { rule } => {
             check_files(alloc, rule, Some(CertificateKind::Bounds), model, second)
         }
+        Job::CurveUntil {
+            rule,
+            dir,
+            stay,
+            label,
+            steps,
+            digits,
+        } => until_curve_file(alloc, rule, dir, stay, label, steps, digits, model),
+        Job::CurveTotal {
+            rule,
+            dir,
+            name,
+            steps,
+            digits,
+        } => total_curve_file(alloc, rule, dir, name, steps, digits, model),
     }
 }
 
