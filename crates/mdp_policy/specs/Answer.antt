@@ -1,5 +1,5 @@
 -- What the code answers, beside the definitions.
-use Rattle.std.specs.{Prelude.{◌≡◌, ℕ, Bool, List, Option, Some, Result, Ok, Err, option_map}, Borrow.{Bor}}
+use Rattle.std.specs.Prelude.{◌≡◌, ℕ, Bool, List, Option, Some, Result, Ok, Err}
 use Rattle.mdp_spec.specs.{Mdp.{Mdp, states_of}, Tree.{is_marked}}
 use Rattle.mdp_wide.specs.{declared.too_wide.Part.TheVariants.{Whole}, declared.too_wide.TooWide.{TooWide}, Errors.{SolveError}}
 use Rattle.mdp_wide.specs.declared.unfinished.Unfinished.TheVariants as error
@@ -10,10 +10,6 @@ use Rattle.mdp_policy.specs.{Way.{way_model, way_policy}, Written.{Answer, writt
 
 abbrev pub plain : PolicyValue → Answer
 plain v = record { values = v.values.items; up = v.up; down = v.down }
-
--- what a parameter holds, where it is given
-abbrev pub held : {A : Type 0} → Option (Bor A) → Option A
-held given = option_map (λ x. x.now) given
 
 -- ---- the value of a policy
 

@@ -1,6 +1,6 @@
-ghost use Rattle.std.specs.Prelude.{◌≡◌, ◌<◌, ◌++◌, codes, OnOk, Some, None};
+ghost use Rattle.std.specs.Prelude.{◌≡◌, ◌<◌, ◌++◌, codes, option_copied, OnOk, Some, None};
 ghost use Rattle.mdp_text.specs.{Answer.{Keeps}, Spelling.{line, dir_text}};
-ghost use Rattle.mdp_policy.specs.{Spelling.{version_text, query_text, change_text, improve_text}, Answer.{held}};
+ghost use Rattle.mdp_policy.specs.Spelling.{version_text, query_text, change_text, improve_text};
 
 use crate::value::Change;
 use mdp_num::Memory;
@@ -57,7 +57,7 @@ fn push_until(out: &mut Vec<u8>, stay: &[u8], label: &[u8]) -> Result<(), Memory
 
 /// Appends the line of what was asked.
 pub(crate) fn push_query(out: &mut Vec<u8>, stay: Option<&[u8]>, label: &[u8]) -> Result<(), Memory>
-    ensures text { OnOk result (out.new.items ≡ out.old.items ++ line (query_text (held stay.entry) label.now)) }
+    ensures text { OnOk result (out.new.items ≡ out.old.items ++ line (query_text (option_copied stay.entry) label.now)) }
     ensures front { Keeps out.old.items out.new.items }
 {
     match stay {

@@ -1,12 +1,11 @@
-ghost use Rattle.std.specs.Prelude.{◌≡◌, length, IfOk, IfSome, Some, None};
+ghost use Rattle.std.specs.Prelude.{◌≡◌, length, option_copied, IfOk, IfSome, Some, None};
 ghost use Rattle.mdp_spec.specs.{Mdp.{states_of}, Tree.{IsPolicy}, Sub.{policy_on}};
-ghost use Rattle.mdp_policy.specs.{Bounds.{PolicyBound, AreGreatest, SomeTreePasses, DeepTreesStayBelow}, Answer.{held, GivesOn}, declared.value.Change.{Change}};
+ghost use Rattle.mdp_policy.specs.{Bounds.{PolicyBound, AreGreatest, SomeTreePasses, DeepTreesStayBelow}, Answer.{GivesOn}, declared.value.Change.{Change}};
 
 use crate::value::{PolicyValue, reach_value};
-use mdp_num::Memory;
 use mdp_rows::{Marks, Model};
 use mdp_wide::SolveError;
-use std::alloc::Global;
+use std::alloc::{AllocError, Global};
 
 /// The policy as it is read on the way: its own choice at each state that is a goal or stays, and 0 at any other.
 fn policy_on(
@@ -15,7 +14,7 @@ fn policy_on(
     stay: &Marks,
     goals: &Marks,
     policy: &[u32],
-) -> Result<Vec<u32>, Memory>
+) -> Result<Vec<u32>, AllocError>
     requires stay { length stay.now ≡ states_of model.now }
     requires goals { length goals.now ≡ states_of model.now }
     requires policy { IsPolicy model.now policy.now }
@@ -66,12 +65,12 @@ pub fn value_of(
     requires stay { IfSome stay (λ marks. length marks.now ≡ states_of model.now) }
     requires goals { length goals.now ≡ states_of model.now }
     requires policy { IsPolicy model.now policy.now }
-    ensures written { GivesOn model.now (held stay.entry) goals.now policy.now result }
+    ensures written { GivesOn model.now (option_copied stay.entry) goals.now policy.now result }
     ensures each { IfOk result (λ v. length v.values.items ≡ states_of model.now) }
-    ensures bound { IfOk result (λ v. PolicyBound model.now (held stay.entry) goals.now v.values.items policy.now) }
-    ensures none_up { IfOk result (λ v. v.up ≡ None → AreGreatest model.now (held stay.entry) goals.now v.values.items policy.now) }
-    ensures up { IfOk result (λ v. (change : Change) → v.up ≡ Some change → SomeTreePasses model.now (held stay.entry) goals.now v.values.items change.state) }
-    ensures down { IfOk result (λ v. (change : Change) → v.down ≡ Some change → DeepTreesStayBelow model.now (held stay.entry) goals.now v.values.items change.state) }
+    ensures bound { IfOk result (λ v. PolicyBound model.now (option_copied stay.entry) goals.now v.values.items policy.now) }
+    ensures none_up { IfOk result (λ v. v.up ≡ None → AreGreatest model.now (option_copied stay.entry) goals.now v.values.items policy.now) }
+    ensures up { IfOk result (λ v. (change : Change) → v.up ≡ Some change → SomeTreePasses model.now (option_copied stay.entry) goals.now v.values.items change.state) }
+    ensures down { IfOk result (λ v. (change : Change) → v.down ≡ Some change → DeepTreesStayBelow model.now (option_copied stay.entry) goals.now v.values.items change.state) }
 {
     match stay {
         None => reach_value(alloc, model, goals, policy),

@@ -1,7 +1,7 @@
-ghost use Rattle.std.specs.Prelude.{◌≡◌, ◌++◌, length, OnOk, OnErr};
+ghost use Rattle.std.specs.Prelude.{◌≡◌, ◌++◌, length, option_copied, OnOk, OnErr};
 ghost use Rattle.mdp_spec.specs.Mdp.{states_of};
 ghost use Rattle.mdp_text.specs.Answer.{Keeps};
-ghost use Rattle.mdp_policy.specs.{Spelling.{head_text, changes_text, value_text}, Answer.{plain, held}};
+ghost use Rattle.mdp_policy.specs.{Spelling.{head_text, changes_text, value_text}, Answer.{plain}};
 
 use crate::push::{push_improve, push_query, push_version};
 use crate::value::PolicyValue;
@@ -28,7 +28,7 @@ fn push_head(
     value: &PolicyValue,
 ) -> Result<(), Memory>
     requires { length value.now.values.items ≡ states_of model.now }
-    ensures text { OnOk result (out.new.items ≡ out.old.items ++ head_text (held stay.entry) label.now model.now (plain value.now)) }
+    ensures text { OnOk result (out.new.items ≡ out.old.items ++ head_text (option_copied stay.entry) label.now model.now (plain value.now)) }
     ensures front { Keeps out.old.items out.new.items }
 {
     push_version(out)?;
@@ -47,7 +47,7 @@ fn push_lines(
     value: &PolicyValue,
 ) -> Result<(), Memory>
     requires { length value.now.values.items ≡ states_of model.now }
-    ensures text { OnOk result (out.new.items ≡ out.old.items ++ value_text (held stay.entry) label.now model.now (plain value.now)) }
+    ensures text { OnOk result (out.new.items ≡ out.old.items ++ value_text (option_copied stay.entry) label.now model.now (plain value.now)) }
     ensures front { Keeps out.old.items out.new.items }
 {
     push_head(out, model, stay, label, value)?;
@@ -68,7 +68,7 @@ pub fn write_value(
     out: &mut Vec<u8>,
 ) -> Result<(), Memory>
     requires { length value.now.values.items ≡ states_of model.now }
-    ensures text { OnOk result (out.new.items ≡ out.old.items ++ value_text (held stay.entry) label.now model.now (plain value.now)) }
+    ensures text { OnOk result (out.new.items ≡ out.old.items ++ value_text (option_copied stay.entry) label.now model.now (plain value.now)) }
     ensures unchanged { OnErr result (out.new.items ≡ out.old.items) }
 {
     let start = out.len();
