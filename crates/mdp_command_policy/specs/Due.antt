@@ -9,6 +9,7 @@ use Rattle.mdp_text.specs.declared.error.Refusal as text
 use Rattle.mdp_policy.specs.{Answer.{IsAnswerOn}, Way.{way_policy}, Spelling.{value_text}, Text.{policy_outcome}, Written.{Answer}}
 use Rattle.mdp_job.specs.Refusal.{PlainRefusal, query_size, query_label, query_choice, too_wide, policy_text}
 use Rattle.mdp_command.specs.{Files.{second_due}, Said.{Said}}
+use Rattle.mdp_command_policy.specs.declared.marking.Marked.{Marked}
 
 -- ---- the policy
 
@@ -27,11 +28,6 @@ pub record TakesNoChoice (m : Mdp) (policy : List ℕ) : Type 0 where
   pub past : length (choices_at m state) ≤ slice_index policy state
 
 -- ---- the states that the labels name
-
--- the states on the way, where they are asked for, and the goals
-pub record Marked : Type 0 where
-  pub stays : Option (List Bool)
-  pub goals : List Bool
 
 abbrev pub marks_at : Mdp → Option ℕ → Result (List Bool) PlainRefusal
 marks_at m None = Err query_label

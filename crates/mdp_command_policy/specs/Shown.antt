@@ -6,7 +6,7 @@ use Rattle.mdp_drn.specs.Reading.{Reads}
 use Rattle.mdp_policy.specs.{Answer.{IsAnswerOn}, Bounds.{PolicyBound, AreGreatest, SomeTreePasses, DeepTreesStayBelow}, Spelling.{value_text}, Text.{FitsText, policy_text}}
 use Rattle.mdp_policy.specs.{Written.{Answer}, declared.value.Change.{Change}}
 use Rattle.mdp_command.specs.{Files.{most_bytes}, Read.{IsWorkOnPair}, Said.{Said}, Streams.{Input}}
-use Rattle.mdp_command_policy.specs.Due.{Marked, marks_due, IsPolicyDue}
+use Rattle.mdp_command_policy.specs.{Due.{marks_due, IsPolicyDue}, declared.marking.Marked.{Marked}}
 
 -- the text of the value of a policy, with the states of the label as goals and, where it is asked, those of the label `stay` on the way
 pub record IsValuePrinted (stay : Option (List ℕ)) (label : List ℕ) (m : Mdp) (policy text : List ℕ) : Type 0 where

@@ -1,4 +1,4 @@
-ghost use Rattle.std.specs.Prelude.{◌≡◌, ℕ, List, length, IfOk, Some, None};
+ghost use Rattle.std.specs.Prelude.{◌≡◌, ◌<◌, ℕ, List, length, IfOk, Some, None};
 ghost use Rattle.mdp_spec.specs.{Mdp.{states_of}, Tree.{IsPolicy}};
 ghost use Rattle.mdp_elim.specs.System.{Leaves};
 ghost use Rattle.mdp_reach.specs.Query.{policy_rows};
@@ -89,6 +89,8 @@ pub(crate) fn reach_value(
     ensures none_up { IfOk result (λ v. v.up ≡ None → AreGreatest model.now None goals.now v.values.items policy.now) }
     ensures up { IfOk result (λ v. (change : Change) → v.up ≡ Some change → SomeTreePasses model.now None goals.now v.values.items change.state) }
     ensures down { IfOk result (λ v. (change : Change) → v.down ≡ Some change → DeepTreesStayBelow model.now None goals.now v.values.items change.state) }
+    ensures up_in { IfOk result (λ v. (change : Change) → v.up ≡ Some change → change.state < states_of model.now) }
+    ensures down_in { IfOk result (λ v. (change : Change) → v.down ≡ Some change → change.state < states_of model.now) }
 {
     model.known();
     along_law();

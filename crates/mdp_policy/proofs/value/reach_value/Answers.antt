@@ -47,3 +47,9 @@ returns-in-Ok-clause-up c = (valued (goal.at.returns-in-Ok-clause-up c).In-Ok).u
 
 pub returns-in-Ok-clause-down : goal.returns-in-Ok-clause-down
 returns-in-Ok-clause-down c = (valued (goal.at.returns-in-Ok-clause-down c).In-Ok).down
+
+pub returns-in-Ok-clause-up_in : goal.returns-in-Ok-clause-up_in
+returns-in-Ok-clause-up_in c = (valued (goal.at.returns-in-Ok-clause-up_in c).In-Ok).up_in
+
+pub returns-in-Ok-clause-down_in : goal.returns-in-Ok-clause-down_in
+returns-in-Ok-clause-down_in c = (valued (goal.at.returns-in-Ok-clause-down_in c).In-Ok).down_in
