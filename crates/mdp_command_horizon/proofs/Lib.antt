@@ -1,2 +1,3 @@
 pub mod Printing
 mod BoundsPrinting
+mod CurvePrinting
