@@ -1,4 +1,4 @@
-"""What tools/try_bounds and tools/try_rounds share: they run the program, read its texts, and write models."""
+"""What tools/try_bounds, tools/try_recheck and tools/try_rounds share: they run the program, read its texts, and write models."""
 
 import math
 import pathlib
@@ -7,6 +7,12 @@ from fractions import Fraction
 
 TOP = pathlib.Path(__file__).resolve().parent.parent
 INFINITE = {"inf": math.inf, "-inf": -math.inf}
+
+
+def built_program():
+    """The program that was built last; bin/mdp, which builds one, where there is none."""
+    places = [TOP / "out" / "mdp", TOP / "crates" / "mdp_app" / "out" / "mdp_app"]
+    return max((path for path in places if path.exists()), key=lambda path: path.stat().st_mtime, default=TOP / "bin" / "mdp")
 
 
 def run(*words):

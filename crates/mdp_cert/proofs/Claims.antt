@@ -240,7 +240,7 @@ all-again : (stay label : List ℕ) (t : ℚ) → is_name stay ≡ true → is_n
 all-again stay label t h g z narrow =
     let rest : List ℕ = 34 ∷ 32 ∷ 34 ∷ (label ++ (34 ∷ 32 ∷ spelling t)) in
     let at : position_or_len is_quote (stay ++ rest) ≡ length stay = byte-after 34 stay (32 ∷ 34 ∷ (label ++ (34 ∷ 32 ∷ spelling t))) (quote-free-name stay h) in
-    rw (at, take-append_seam stay rest, drop-append_seam stay rest, h, behind-again (codes "\" \"") (label ++ (34 ∷ 32 ∷ spelling t)), said-again label t g z narrow) refl
+    rw (at, take-append_seam stay rest, drop-append_seam stay rest, h, said-again label t g z narrow) refl
 
 witness-until-text : (dir : Dir) (stay label : List ℕ) (t : ℚ) → witness_until_front dir ++ behind-front stay label t ≡ claim_text (witness dir (Some stay) label t)
 witness-until-text dir stay label t = by dir

@@ -163,8 +163,10 @@ fn names_and_threshold(text: &[u8]) -> Option<(&[u8], &[u8], Frac)>
     ensures { MatchOption result (names_and_threshold text.now ≡ None) (λ said. names_and_threshold text.now ≡ Some (said.0.now, said.1.now, said.2)) }
 {
     let (stay, rest) = cut_name(text)?;
-    let (label, threshold) = name_and_threshold(rest.strip_prefix(b"\" \"")?)?;
-    Some((stay, label, threshold))
+    match name_and_threshold(rest.strip_prefix(b"\" \"")?) {
+        Some((label, threshold)) => Some((stay, label, threshold)),
+        None => None,
+    }
 }
 
 /// What stands before the names in the claim `DIR witness until`.
