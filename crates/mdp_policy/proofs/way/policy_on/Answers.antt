@@ -13,9 +13,8 @@ each c =
 
 pub loop-s-preserved : goal.loop-s-preserved
 loop-s-preserved c =
-    let on = policy_on c.args.goals.now c.args.stay.now c.args.policy.now in
     (c.in_ok-push.ensures {u = tt}).items ∙ ap₂ (λ (xs : List ℕ) (x : ℕ). xs ++ x ∷ []) c.loop-s.invariant c.choice_on.ensures
-    ∙ sym (take_more on c.loop-s.s 0 (subst (λ (n : ℕ). c.loop-s.s < n) (c.states-s-end.ensures ∙ each (goal.at.loop-s-preserved c).Start) c.loop-s-test.true))
+    ∙ sym (take_more _ c.loop-s.s 0 (subst (λ (n : ℕ). c.loop-s.s < n) (c.states-s-end.ensures ∙ each (goal.at.loop-s-preserved c).Start) c.loop-s-test.true))
 
 pub returns : goal.returns
 returns c =

@@ -1,5 +1,5 @@
-use Rattle.std.proofs.Common.{◌≡◌, ◌∙◌, ℕ, List, Some, None, IfOk, sym, ap, ap₂, subst}
-use Rattle.mdp_spec.specs.{Mdp.{Mdp, states_of}, Sub.{sub_of, policy_on}, Tree.{IsPolicy}}
+use Rattle.std.proofs.Common.{◌∙◌, ℕ, List, Some, None, IfOk, sym, ap, subst}
+use Rattle.mdp_spec.specs.{Mdp.{Mdp, states_of}, Sub.{sub_of}, Tree.{IsPolicy}}
 use Rattle.mdp_spec.proofs.Subsystem.{sub-states, policy_on_sub}
 use Rattle.mdp_policy.specs.Answer.{plain}
 use Rattle.mdp_policy.proofs.{Facts.{IsValued}, Ways.{answered_there, as_one, each_part, bound_part, none_up_part, up_part, down_part}}
