@@ -4,18 +4,18 @@ use Rattle.mdp_math.specs.Rational.{ℚ}
 use Rattle.mdp_spec.specs.{Labels.{place_of}, Mdp.{Mdp}}
 use Rattle.mdp_rows.specs.declared.dir.Dir.{Dir}
 use Rattle.mdp_drn.specs.FromSource.{HadLeft}
-use Rattle.mdp_job.specs.Job.{PlainQuery, solve, witness, check, drill, horizon, horizon_reward, policy, chain, discount, discount_check, bounds, bounds_until}
-use Rattle.mdp_job.specs.Job.{bounds_total, bounds_discount, bounds_check, Asked, reads_model, reads_second}
+use Rattle.mdp_job.specs.Job.{PlainQuery, solve, witness, check, drill, horizon, total, policy, chain, discount, discount_check, bounds, bounds_until}
+use Rattle.mdp_job.specs.Job.{bounds_total, bounds_discount, bounds_check, curve_until, curve_total, Asked, reads_model, reads_second}
 use Rattle.mdp_job.specs.{Refusal.{PlainRefusal, read_model, read_certificate, no_memory}, declared.status.Status.{Status}}
 use Rattle.mdp_job.specs.declared.status.Status.TheVariants as status
 use Rattle.mdp_command.proofs.Statuses.{refusal_status}
 use Rattle.mdp_command.specs.{Files.{model_due, IsDueToModel}, Said.{Said, said_status}, Streams.{Input, Told, Output}, Written.{Wrote, EndsWith}}
 use Rattle.mdp_command.specs.{CheckDue.{IsCheckDue}, declared.kind.CertificateKind.{CertificateKind}}
-use Rattle.mdp_command.specs.declared.kind.CertificateKind.TheVariants.{Exact, Discounted, Bounds}
+use Rattle.mdp_command.specs.declared.kind.CertificateKind.TheVariants.{Discounted, Bounds}
 use Rattle.mdp_command_solve.specs.{Due.{IsSolveDue}, Laws.{IsDueOnce}, WitnessDue.{IsWitnessDue}, DiscountDue.{IsDiscountDue}}
 use Rattle.mdp_command_solve.specs.WitnessLaws as witnessed
 use Rattle.mdp_command_solve.proofs.{Drilled.{due-once}, DiscountSolved.{discount_once}}
-use Rattle.mdp_command_horizon.specs.{Due.{IsHorizonDue, IsHorizonRewardDue}, BoundsDue.{IsUntilBoundsDue, IsTotalBoundsDue}}
+use Rattle.mdp_command_horizon.specs.{Due.{IsHorizonDue, IsTotalDue}, BoundsDue.{IsUntilBoundsDue, IsTotalBoundsDue}, CurveDue.{IsUntilCurveDue, IsTotalCurveDue}}
 use Rattle.mdp_command_policy.specs.{Due.{IsPolicyDue}, ChainDue.{IsChainDue}}
 use Rattle.mdp_command_policy.proofs.{Due.{policy_once}, ChainDue.{chain_once}}
 use Rattle.mdp_discount.proofs.OneEnd.{one_query_end}
@@ -35,10 +35,10 @@ horizon_once : (dir : Dir) (stay : Option (List ℕ)) (label : List ℕ) (steps 
 horizon_once dir stay label steps (Ok m) said again d e = d ∙ sym e
 horizon_once dir stay label steps (Err r) said again d e = d ∙ sym e
 
-earned_once : (dir : Dir) (name : List ℕ) (steps : ℕ) (read : Result Mdp PlainRefusal) (said again : Said) → IsDueToModel (IsHorizonRewardDue dir name steps) read said
-    → IsDueToModel (IsHorizonRewardDue dir name steps) read again → said ≡ again
-earned_once dir name steps (Ok m) said again d e = d ∙ sym e
-earned_once dir name steps (Err r) said again d e = d ∙ sym e
+total_once : (dir : Dir) (name : List ℕ) (steps : ℕ) (read : Result Mdp PlainRefusal) (said again : Said) → IsDueToModel (IsTotalDue dir name steps) read said
+    → IsDueToModel (IsTotalDue dir name steps) read again → said ≡ again
+total_once dir name steps (Ok m) said again d e = d ∙ sym e
+total_once dir name steps (Err r) said again d e = d ∙ sym e
 
 until_bounds_once : (dir : Dir) (stay : Option (List ℕ)) (label : List ℕ) (steps digits : ℕ) (read : Result Mdp PlainRefusal) (said again : Said)
     → IsDueToModel (IsUntilBoundsDue dir stay label steps digits) read said → IsDueToModel (IsUntilBoundsDue dir stay label steps digits) read again → said ≡ again
@@ -50,10 +50,20 @@ total_bounds_once : (dir : Dir) (name : List ℕ) (steps digits : ℕ) (read : R
 total_bounds_once dir name steps digits (Ok m) said again d e = d ∙ sym e
 total_bounds_once dir name steps digits (Err r) said again d e = d ∙ sym e
 
-value_once : (label : List ℕ) (other : List ℕ) (read : Result Mdp PlainRefusal) (said again : Said) → IsDueToModel (λ m. IsPolicyDue label m other) read said
-    → IsDueToModel (λ m. IsPolicyDue label m other) read again → said ≡ again
-value_once label other (Ok m) said again d e = policy_once label m other said again d e
-value_once label other (Err r) said again d e = d ∙ sym e
+until_curve_once : (dir : Dir) (stay : Option (List ℕ)) (label : List ℕ) (steps digits : ℕ) (read : Result Mdp PlainRefusal) (said again : Said)
+    → IsDueToModel (IsUntilCurveDue dir stay label steps digits) read said → IsDueToModel (IsUntilCurveDue dir stay label steps digits) read again → said ≡ again
+until_curve_once dir stay label steps digits (Ok m) said again d e = d ∙ sym e
+until_curve_once dir stay label steps digits (Err r) said again d e = d ∙ sym e
+
+total_curve_once : (dir : Dir) (name : List ℕ) (steps digits : ℕ) (read : Result Mdp PlainRefusal) (said again : Said)
+    → IsDueToModel (IsTotalCurveDue dir name steps digits) read said → IsDueToModel (IsTotalCurveDue dir name steps digits) read again → said ≡ again
+total_curve_once dir name steps digits (Ok m) said again d e = d ∙ sym e
+total_curve_once dir name steps digits (Err r) said again d e = d ∙ sym e
+
+value_once : (stay : Option (List ℕ)) (label other : List ℕ) (read : Result Mdp PlainRefusal) (said again : Said) → IsDueToModel (λ m. IsPolicyDue stay label m other) read said
+    → IsDueToModel (λ m. IsPolicyDue stay label m other) read again → said ≡ again
+value_once stay label other (Ok m) said again d e = policy_once stay label m other said again d e
+value_once stay label other (Err r) said again d e = d ∙ sym e
 
 made_once : (other : List ℕ) (read : Result Mdp PlainRefusal) (said again : Said) → IsDueToModel (λ m. IsChainDue m other) read said → IsDueToModel (λ m. IsChainDue m other) read again → said ≡ again
 made_once other (Ok m) said again d e = chain_once m other said again d e
@@ -104,15 +114,15 @@ due_done :
 due_done once found (Ok (solve rule dir query)) model second m s n t text said hn ht due tm ts due_text =
     done_of said text (
     once rule dir query m said (Ok text) (subst (λ (x : List ℕ). IsSolveDue dir query (model_due rule x) said) (had_told true model m n tm hn refl) due) due_text)
-due_done once found (Ok (witness rule dir label threshold)) model second m s n t text said hn ht due tm ts due_text =
+due_done once found (Ok (witness rule dir stay label threshold)) model second m s n t text said hn ht due tm ts due_text =
     done_of said text (
-    found rule dir label threshold m said (Ok text)
-    (subst (λ (x : List ℕ). IsDueToModel (IsWitnessDue dir label threshold) (model_due rule x) said) (had_told true model m n tm hn refl) due) due_text)
+    found rule dir stay label threshold m said (Ok text)
+    (subst (λ (x : List ℕ). IsDueToModel (IsWitnessDue dir stay label threshold) (model_due rule x) said) (had_told true model m n tm hn refl) due) due_text)
 due_done once found (Ok (check rule)) model second m s n t text said hn ht due tm ts due_text =
     done_of said text (
-    checked_once (Some Exact) s (model_due rule m) said (Ok text)
-    (subst (λ (x : List ℕ). IsDueToModel (λ k. IsCheckDue (Some Exact) k x) (model_due rule m) said) (had_told true second s t ts ht refl)
-    (subst (λ (x : List ℕ). IsDueToModel (λ k. IsCheckDue (Some Exact) k t) (model_due rule x) said) (had_told true model m n tm hn refl) due)) due_text)
+    checked_once None s (model_due rule m) said (Ok text)
+    (subst (λ (x : List ℕ). IsDueToModel (λ k. IsCheckDue None k x) (model_due rule m) said) (had_told true second s t ts ht refl)
+    (subst (λ (x : List ℕ). IsDueToModel (λ k. IsCheckDue None k t) (model_due rule x) said) (had_told true model m n tm hn refl) due)) due_text)
 due_done once found (Ok (drill number layers width)) model second m s n t text said hn ht due tm ts due_text =
     done_of said text (
     due-once number layers width said (Ok text) due due_text)
@@ -120,15 +130,15 @@ due_done once found (Ok (horizon rule dir stay label steps)) model second m s n 
     done_of said text (
     horizon_once dir stay label steps (model_due rule m) said (Ok text)
     (subst (λ (x : List ℕ). IsDueToModel (IsHorizonDue dir stay label steps) (model_due rule x) said) (had_told true model m n tm hn refl) due) due_text)
-due_done once found (Ok (horizon_reward rule dir name steps)) model second m s n t text said hn ht due tm ts due_text =
+due_done once found (Ok (total rule dir name steps)) model second m s n t text said hn ht due tm ts due_text =
     done_of said text (
-    earned_once dir name steps (model_due rule m) said (Ok text)
-    (subst (λ (x : List ℕ). IsDueToModel (IsHorizonRewardDue dir name steps) (model_due rule x) said) (had_told true model m n tm hn refl) due) due_text)
-due_done once found (Ok (policy rule label)) model second m s n t text said hn ht due tm ts due_text =
+    total_once dir name steps (model_due rule m) said (Ok text)
+    (subst (λ (x : List ℕ). IsDueToModel (IsTotalDue dir name steps) (model_due rule x) said) (had_told true model m n tm hn refl) due) due_text)
+due_done once found (Ok (policy rule stay label)) model second m s n t text said hn ht due tm ts due_text =
     done_of said text (
-    value_once label s (model_due rule m) said (Ok text)
-    (subst (λ (x : List ℕ). IsDueToModel (λ k. IsPolicyDue label k x) (model_due rule m) said) (had_told true second s t ts ht refl)
-    (subst (λ (x : List ℕ). IsDueToModel (λ k. IsPolicyDue label k t) (model_due rule x) said) (had_told true model m n tm hn refl) due)) due_text)
+    value_once stay label s (model_due rule m) said (Ok text)
+    (subst (λ (x : List ℕ). IsDueToModel (λ k. IsPolicyDue stay label k x) (model_due rule m) said) (had_told true second s t ts ht refl)
+    (subst (λ (x : List ℕ). IsDueToModel (λ k. IsPolicyDue stay label k t) (model_due rule x) said) (had_told true model m n tm hn refl) due)) due_text)
 due_done once found (Ok (chain rule)) model second m s n t text said hn ht due tm ts due_text =
     done_of said text (
     made_once s (model_due rule m) said (Ok text)
@@ -162,6 +172,14 @@ due_done once found (Ok (bounds_check rule)) model second m s n t text said hn h
     checked_once (Some Bounds) s (model_due rule m) said (Ok text)
     (subst (λ (x : List ℕ). IsDueToModel (λ k. IsCheckDue (Some Bounds) k x) (model_due rule m) said) (had_told true second s t ts ht refl)
     (subst (λ (x : List ℕ). IsDueToModel (λ k. IsCheckDue (Some Bounds) k t) (model_due rule x) said) (had_told true model m n tm hn refl) due)) due_text)
+due_done once found (Ok (curve_until rule dir stay label steps digits)) model second m s n t text said hn ht due tm ts due_text =
+    done_of said text (
+    until_curve_once dir stay label steps digits (model_due rule m) said (Ok text)
+    (subst (λ (x : List ℕ). IsDueToModel (IsUntilCurveDue dir stay label steps digits) (model_due rule x) said) (had_told true model m n tm hn refl) due) due_text)
+due_done once found (Ok (curve_total rule dir name steps digits)) model second m s n t text said hn ht due tm ts due_text =
+    done_of said text (
+    total_curve_once dir name steps digits (model_due rule m) said (Ok text)
+    (subst (λ (x : List ℕ). IsDueToModel (IsTotalCurveDue dir name steps digits) (model_due rule x) said) (had_told true model m n tm hn refl) due) due_text)
 due_done once found (Err e) model second m s n t text said hn ht due tm ts due_text = cc
 
 module _ (asked : Asked) (model second : Input) (out : Output) (ended : Status) where

@@ -1,6 +1,6 @@
 -- What words that ask for a drill say of its numbers, those that ask for discounted rewards of their factor, those that ask for a witness of their
--- threshold, and those that ask for bounds of their digits.
-use Rattle.std.proofs.Common.{◌≡◌, ℕ, zero, suc, ◌*◌, ◌-◌, ◌^◌, ◌≤◌, Bool, true, false, cond, not, nat_lt, List, [], ◌∷◌, length, map, Option, Some, None, Result, Ok, Err}
+-- threshold, and those that ask for bounds or a curve of their digits.
+use Rattle.std.proofs.Common.{◌≡◌, ℕ, zero, suc, ◌*◌, ◌-◌, ◌^◌, ◌≤◌, Bool, true, false, ◌&&◌, cond, not, nat_lt, List, [], ◌∷◌, length, map, Option, Some, None, Result, Ok, Err}
 use Rattle.std.proofs.{Common.{refl, subst, T, sym, ltb→lt, arith, pos}, lemmas.Bool.{and_parts, ltb-false}}
 use Rattle.std.specs.{Prelude.{◌==◌, codes}, Global.{Global}, Str.{bytes_eq}, String.{string_bytes}, declared.string.String.{String}}
 use Rattle.mdp_math.specs.{Rational.{ℚ, ratio, lt_ℚ, ◌≤ℚ◌}, Result.{◌>>=◌}}
@@ -11,9 +11,9 @@ use Rattle.mdp_rows.specs.{declared.dir.Dir.{Dir}, declared.rule.RowRule.{RowRul
 use Rattle.mdp_app.specs.InRange.{IsInRange, asked_for}
 use Rattle.mdp_job.specs.Job.{PlainJob, solve, witness, check, drill, horizon, policy, discount, Asked}
 use Rattle.mdp_job.specs.Words.{rows_of, word_at, rule_of, dir_of, check_of, query_of, solve_of, whole_word, can_draw, drill_by, drill_with, drill_of}
-use Rattle.mdp_job.specs.Words.{threshold_by, threshold_of, witness_of, steps_of, horizon_of, policy_of, chain_of, below_one, factor_of, discount_of}
-use Rattle.mdp_job.specs.Words.{until_within_of, reward_within_of, discount_check_of, begins_with_zero, few_digits, digits_of, bounds_query_of, bounds_digits_of, bounds_best_of, bounds_until_of}
-use Rattle.mdp_job.specs.Words.{bounds_total_of, bounds_discount_of, bounds_by, bounds_of, bounds_check_of, job_of_texts, job_of}
+use Rattle.mdp_job.specs.Words.{threshold_by, threshold_of, witness_reach_of, witness_until_of, witness_of, steps_of, horizon_of, total_of, policy_reach_of, policy_until_of, policy_of, chain_of}
+use Rattle.mdp_job.specs.Words.{below_one, factor_of, discount_of, discount_check_of, begins_with_zero, few_digits, digits_of, bounds_query_of, bounds_digits_of, bounds_best_of, bounds_until_of}
+use Rattle.mdp_job.specs.Words.{bounds_total_of, bounds_discount_of, bounds_by, bounds_of, bounds_check_of, curve_until_of, curve_total_of, curve_by, curve_of, direct_of, other_of, job_of_texts, job_of}
 use Rattle.mdp_job.specs.declared.words_error.WordsError.{WordsError}
 use Rattle.mdp_job.specs.declared.words_error.WordsError.TheVariants.{Command, Number, Objective, Drill, Factor, Digits}
 
@@ -105,29 +105,44 @@ solve_in_range words =
     either (nat_lt (length words) 4) (Err Number) _ tt
     (bind (rule_of (word_at words 1)) _ (λ rule. bind (dir_of (word_at words 2)) _ (λ dir. bind (query_of words) _ (λ query. tt))))
 
-witness_in_range : (words : List (List ℕ)) → IsInRange (witness_of words)
-witness_in_range words =
+witness_reach_in_range : (words : List (List ℕ)) → IsInRange (witness_reach_of words)
+witness_reach_in_range words =
     either (length words == 5) _ (Err Number)
     (bind (rule_of (word_at words 1)) _ (λ rule. bind (dir_of (word_at words 2)) _ (λ dir. bind_to (threshold_of (word_at words 4)) _ (λ threshold is. threshold_is (word_at words 4) threshold is)))) tt
+
+witness_until_in_range : (words : List (List ℕ)) → IsInRange (witness_until_of words)
+witness_until_in_range words =
+    either (length words == 7) _ (Err Number)
+    (bind (rule_of (word_at words 1)) _ (λ rule. bind (dir_of (word_at words 2)) _ (λ dir. bind_to (threshold_of (word_at words 6)) _ (λ threshold is. threshold_is (word_at words 6) threshold is)))) tt
+
+witness_in_range : (words : List (List ℕ)) → IsInRange (witness_of words)
+witness_in_range words =
+    either ((length words == 7) && bytes_eq (word_at words 3) (codes "until")) (witness_until_of words) (witness_reach_of words) (witness_until_in_range words) (witness_reach_in_range words)
 
 check_in_range : (words : List (List ℕ)) → IsInRange (check_of words)
 check_in_range words = bind (rows_of words) _ (λ rule. tt)
 
-within_in_range : (words : List (List ℕ)) → IsInRange (until_within_of words) × IsInRange (reward_within_of words)
-within_in_range words = (
-  bind (rule_of (word_at words 1)) _ (λ rule. bind (dir_of (word_at words 2)) _ (λ dir. bind (steps_of (word_at words 5)) _ (λ steps. tt))),
-  bind (rule_of (word_at words 1)) _ (λ rule. bind (dir_of (word_at words 2)) _ (λ dir. bind (steps_of (word_at words 5)) _ (λ steps. tt))),
-)
-
 horizon_in_range : (words : List (List ℕ)) → IsInRange (horizon_of words)
 horizon_in_range words =
     either (length words == 6) _ (Err Number)
-    (either (bytes_eq (word_at words 3) (codes "reward")) (reward_within_of words) (until_within_of words) (within_in_range words).1 (within_in_range words).0) tt
+    (bind (rule_of (word_at words 1)) _ (λ rule. bind (dir_of (word_at words 2)) _ (λ dir. bind (steps_of (word_at words 5)) _ (λ steps. tt)))) tt
+
+total_in_range : (words : List (List ℕ)) → IsInRange (total_of words)
+total_in_range words =
+    either (length words == 5) _ (Err Number)
+    (bind (rule_of (word_at words 1)) _ (λ rule. bind (dir_of (word_at words 2)) _ (λ dir. bind (steps_of (word_at words 4)) _ (λ steps. tt)))) tt
+
+policy_reach_in_range : (words : List (List ℕ)) → IsInRange (policy_reach_of words)
+policy_reach_in_range words =
+    either (length words == 5) _ (Err Number)
+    (bind (rule_of (word_at words 1)) _ (λ rule. either (bytes_eq (word_at words 3) (codes "reach")) (Ok (policy rule None (word_at words 4))) (Err Objective) tt tt)) tt
+
+policy_until_in_range : (words : List (List ℕ)) → IsInRange (policy_until_of words)
+policy_until_in_range words = either (length words == 6) _ (Err Number) (bind (rule_of (word_at words 1)) _ (λ rule. tt)) tt
 
 policy_in_range : (words : List (List ℕ)) → IsInRange (policy_of words)
 policy_in_range words =
-    either (length words == 5) _ (Err Number)
-    (bind (rule_of (word_at words 1)) _ (λ rule. either (bytes_eq (word_at words 3) (codes "reach")) (Ok (policy rule (word_at words 4))) (Err Objective) tt tt)) tt
+    either ((length words == 6) && bytes_eq (word_at words 3) (codes "until")) (policy_until_of words) (policy_reach_of words) (policy_until_in_range words) (policy_reach_in_range words)
 
 chain_in_range : (words : List (List ℕ)) → IsInRange (chain_of words)
 chain_in_range words = bind (rows_of words) _ (λ rule. tt)
@@ -158,7 +173,7 @@ bounds_discount_in_range rule dir words =
 
 bounds_by_in_range : (rule : RowRule) (dir : Dir) (words : List (List ℕ)) → IsInRange (bounds_by rule dir words)
 bounds_by_in_range rule dir words =
-    either (bytes_eq (word_at words 3) (codes "until")) (bounds_until_of rule dir words) _ (bounds_until_in_range rule dir words) (
+    either (bytes_eq (word_at words 3) (codes "until") && (length words == 8)) (bounds_until_of rule dir words) _ (bounds_until_in_range rule dir words) (
     either (bytes_eq (word_at words 3) (codes "total")) (bounds_total_of rule dir words) _ (bounds_total_in_range rule dir words) (
     either (bytes_eq (word_at words 3) (codes "discount")) (bounds_discount_of rule dir words) (bounds_best_of rule dir words)
     (bounds_discount_in_range rule dir words) (bounds_best_in_range rule dir words)))
@@ -171,17 +186,46 @@ bounds_in_range words =
 bounds_check_in_range : (words : List (List ℕ)) → IsInRange (bounds_check_of words)
 bounds_check_in_range words = bind (rows_of words) _ (λ rule. tt)
 
+curve_until_in_range : (rule : RowRule) (dir : Dir) (words : List (List ℕ)) → IsInRange (curve_until_of rule dir words)
+curve_until_in_range rule dir words =
+    either (length words == 8) _ (Err Number) (bind (steps_of (word_at words 6)) _ (λ steps. bind_to (digits_of (word_at words 7)) _ (λ digits is. few_are (word_at words 7) digits is))) tt
+
+curve_total_in_range : (rule : RowRule) (dir : Dir) (words : List (List ℕ)) → IsInRange (curve_total_of rule dir words)
+curve_total_in_range rule dir words =
+    either (length words == 7) _ (Err Number) (bind (steps_of (word_at words 5)) _ (λ steps. bind_to (digits_of (word_at words 6)) _ (λ digits is. few_are (word_at words 6) digits is))) tt
+
+curve_by_in_range : (rule : RowRule) (dir : Dir) (words : List (List ℕ)) → IsInRange (curve_by rule dir words)
+curve_by_in_range rule dir words =
+    either (bytes_eq (word_at words 3) (codes "until")) (curve_until_of rule dir words) _ (curve_until_in_range rule dir words)
+    (either (bytes_eq (word_at words 3) (codes "total")) (curve_total_of rule dir words) (Err Objective) (curve_total_in_range rule dir words) tt)
+
+curve_in_range : (words : List (List ℕ)) → IsInRange (curve_of words)
+curve_in_range words =
+    either (nat_lt (length words) 4) (Err Number) _ tt
+    (bind (rule_of (word_at words 1)) _ (λ rule. bind (dir_of (word_at words 2)) _ (λ dir. curve_by_in_range rule dir words)))
+
+direct_in_range : (command : List ℕ) (words : List (List ℕ)) → IsInRange (direct_of command words)
+direct_in_range command words =
+    either (bytes_eq command (codes "horizon")) (horizon_of words) _ (horizon_in_range words) (
+    either (bytes_eq command (codes "total")) (total_of words) _ (total_in_range words) (
+    either (bytes_eq command (codes "curve")) (curve_of words) _ (curve_in_range words) (
+    either (bytes_eq command (codes "policy")) (policy_of words) _ (policy_in_range words) (
+    either (bytes_eq command (codes "chain")) (chain_of words) (Err Command) (chain_in_range words) tt))))
+
+other_in_range : (command : List ℕ) (words : List (List ℕ)) → IsInRange (other_of command words)
+other_in_range command words =
+    either (bytes_eq command (codes "discount")) (discount_of words) _ (discount_in_range words) (
+    either (bytes_eq command (codes "discount-check")) (discount_check_of words) _ (discount_check_in_range words) (
+    either (bytes_eq command (codes "bounds")) (bounds_of words) _ (bounds_in_range words) (
+    either (bytes_eq command (codes "bounds-check")) (bounds_check_of words) (direct_of command words) (bounds_check_in_range words) (direct_in_range command words))))
+
 texts_in_range : (words : List (List ℕ)) → IsInRange (job_of_texts words)
 texts_in_range [] = tt
 texts_in_range (command ∷ words) =
-    either (bytes_eq command (codes "solve")) (solve_of words) _ (solve_in_range words) (either (bytes_eq command (codes "witness")) (witness_of words) _ (witness_in_range words) (
+    either (bytes_eq command (codes "solve")) (solve_of words) _ (solve_in_range words) (
+    either (bytes_eq command (codes "witness")) (witness_of words) _ (witness_in_range words) (
     either (bytes_eq command (codes "check")) (check_of words) _ (check_in_range words) (
-    either (bytes_eq command (codes "drill")) (drill_of words) _ (drill_in_range words) (either (bytes_eq command (codes "horizon")) (horizon_of words) _ (horizon_in_range words) (
-    either (bytes_eq command (codes "policy")) (policy_of words) _ (policy_in_range words) (
-    either (bytes_eq command (codes "chain")) (chain_of words) _ (chain_in_range words) (either (bytes_eq command (codes "discount")) (discount_of words) _ (discount_in_range words) (
-    either (bytes_eq command (codes "discount-check")) (discount_check_of words) _ (discount_check_in_range words) (
-    either (bytes_eq command (codes "bounds")) (bounds_of words) _ (bounds_in_range words) (
-    either (bytes_eq command (codes "bounds-check")) (bounds_check_of words) (Err Command) (bounds_check_in_range words) tt))))))))))
+    either (bytes_eq command (codes "drill")) (drill_of words) (other_of command words) (drill_in_range words) (other_in_range command words))))
 
 -- a job that words ask for
 pub in_range_of : (words : List (String Global)) (job : PlainJob) → asked_for job ≡ job_of words → IsInRange (asked_for job)

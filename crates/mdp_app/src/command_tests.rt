@@ -59,6 +59,7 @@ fn finds_subsystems(alloc: Global) -> bool {
 
 fn accepts(alloc: Global) -> bool {
     writes(alloc, "check M exact C", COIN, COIN_UPPER, "yes\n")
+        && writes(alloc, "check M exact C", COIN, COIN_BOUNDS, "yes\n")
         && writes(alloc, "bounds-check M exact C", COIN, COIN_BOUNDS, "yes\n")
 }
 
@@ -90,12 +91,42 @@ fn works_otherwise(alloc: Global) -> bool {
         && writes(alloc, "drill 0 1 1", COIN, "", drilled)
 }
 
+/// By way of the initial state alone.
+fn solves_until(alloc: Global) -> bool {
+    let most = "mdp-certificate 2\nclaim max until \"init\" \"goal\"\nstates 3\ninit 0 1/3\n";
+    let between = "mdp-bounds 1\nclaim max until \"init\" \"goal\"\nstates 3\ninit 0 ";
+    writes(alloc, "solve M exact max until init goal", COIN, "", most)
+        && writes(alloc, "bounds M exact max until init goal 6", COIN, "", between)
+}
+
+/// The same for a subsystem and for a policy.
+fn works_until(alloc: Global) -> bool {
+    let part = "mdp-certificate 2\nclaim max witness until \"init\" \"goal\" 1/3\nstates 3\ninit 0\nkeep 0 kept\n";
+    let value = "mdp-value 1\npolicy until \"init\" \"goal\"\nstates 3\ninit 0 1/3\n";
+    let command = "witness M exact max until init goal 1/3";
+    writes(alloc, command, COIN, "", part)
+        && writes(
+            alloc,
+            "policy M exact P until init goal",
+            COIN,
+            COIN_POLICY,
+            value,
+        )
+}
+
+/// With no step the goal isn't reached.
+fn draws_a_curve(alloc: Global) -> bool {
+    let curve = "mdp-curve 1\nclaim max until \"-\" \"goal\"\ninit 0\nsteps 2\nstep 0 0 0\n";
+    writes(alloc, "curve M exact max until - goal 2 6", COIN, "", curve)
+}
+
 /// The commands whose model is the coin.
 #[test]
 fn works_on_the_coin(rt: HostRuntime) {
     let alloc = rt.alloc();
     assert!(rt; solves_the_coin(alloc) && finds_subsystems(alloc));
     assert!(rt; accepts(alloc) && bounds_the_coin(alloc) && works_otherwise(alloc));
+    assert!(rt; solves_until(alloc) && works_until(alloc) && draws_a_curve(alloc));
 }
 
 /// Whether a command on the model with rewards writes a text that begins so.
@@ -121,8 +152,10 @@ fn solves_means(alloc: Global) -> bool {
 fn earns_within_steps(alloc: Global) -> bool {
     let most = "mdp-horizon 1\nclaim max reward \"cost\" 2\nstates 2\ninit 0 5\n";
     let total = "mdp-horizon-bounds 1\nclaim min total \"cost\" 2\nstates 2\ninit 0 2 2\n";
-    pays(alloc, "horizon M exact max reward cost 2", most)
+    let curve = "mdp-curve 1\nclaim max total \"cost\"\ninit 0\nsteps 2\nstep 0 0 0\nstep 1 2 2\nstep 2 5 5\nend\n";
+    pays(alloc, "total M exact max cost 2", most)
         && pays(alloc, "bounds M exact min total cost 2 6", total)
+        && pays(alloc, "curve M exact max total cost 2 6", curve)
 }
 
 fn discounts(alloc: Global) -> bool {

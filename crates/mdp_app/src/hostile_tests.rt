@@ -131,10 +131,12 @@ fn answers_each_fault_of_a_model(rt: HostRuntime) {
         "discount MODEL exact max - 1/2",
         "discount-check MODEL exact CERT",
         "bounds MODEL exact max reach goal 6",
-        "horizon MODEL exact max reward - 2",
+        "total MODEL exact max - 2",
         "bounds MODEL exact max total - 2 6",
         "bounds MODEL exact max discount - 1/2 6",
         "bounds-check MODEL exact CERT",
+        "curve MODEL exact max until - goal 2 6",
+        "curve MODEL exact max total - 2 6",
     ] {
         assert!(rt; model_faults(rt.alloc(), command), "{command}");
     }

@@ -24,7 +24,7 @@ fn main(rt: HostRuntime) -> ExitCode {
     let mut out = StdSink::new(rt.stdout());
     let open = |path: &str| StdSource::new(File::open(&rt, path).ok());
     let status = match words_given(&rt) {
-        Ok(words) => run_on_files(alloc, &words, open, &mut out),
+        Ok(words) => run_on_files(alloc, &words, open, open, &mut out),
         Err(refusal) => written(alloc, Err(refusal), &mut out),
     };
     ExitCode::from(status.code())

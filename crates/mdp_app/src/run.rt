@@ -1,4 +1,4 @@
-ghost use Rattle.std.specs.{Fn.{FnReturnsAt}, Prelude.{◌≡◌}};
+ghost use Rattle.std.specs.{Fn.{FnOnceReturnsAt}, Prelude.{◌≡◌}};
 ghost use Rattle.mdp_job.specs.Words.{job_of, model_path, second_path};
 ghost use Rattle.mdp_command.specs.{Opened.{OnFiles}, Prelude.{said, input, output}};
 ghost use Rattle.mdp_app.specs.{Run.{IsAnswered, IsWorkDone, IsComplete, HasRun}, Decided.{IsDecided}};
@@ -6,7 +6,8 @@ ghost use Rattle.mdp_app.specs.{Run.{IsAnswered, IsWorkDone, IsComplete, HasRun}
 use mdp_command::{CertificateKind, check_files, written};
 use mdp_command_bounds_search::{bounds_discount_file, bounds_file};
 use mdp_command_horizon::{
-    horizon_file, horizon_reward_file, total_bounds_file, until_bounds_file,
+    horizon_file, total_bounds_file, total_curve_file, total_file, until_bounds_file,
+    until_curve_file,
 };
 use mdp_command_policy::{chain_file, policy_file};
 use mdp_command_solve::{
@@ -34,12 +35,11 @@ fn decided<S: Source, C: Source>(
         Job::Witness {
             rule,
             dir,
+            stay,
             label,
             threshold,
-        } => witness_file(alloc, rule, dir, label, threshold, model),
-        Job::Check { rule } => {
-            check_files(alloc, rule, Some(CertificateKind::Exact), model, second)
-        }
+        } => witness_file(alloc, rule, dir, stay, label, threshold, model),
+        Job::Check { rule } => check_files(alloc, rule, None, model, second),
         Job::Drill {
             number,
             layers,
@@ -52,13 +52,13 @@ fn decided<S: Source, C: Source>(
             label,
             steps,
         } => horizon_file(alloc, rule, dir, stay, label, steps, model),
-        Job::HorizonReward {
+        Job::Total {
             rule,
             dir,
             name,
             steps,
-        } => horizon_reward_file(alloc, rule, dir, name, steps, model),
-        Job::Policy { rule, label } => policy_file(alloc, rule, label, model, second),
+        } => total_file(alloc, rule, dir, name, steps, model),
+        Job::Policy { rule, stay, label } => policy_file(alloc, rule, stay, label, model, second),
         Job::Chain { rule } => chain_file(alloc, rule, model, second),
         Job::Discount {
             rule,
@@ -106,6 +106,21 @@ fn decided<S: Source, C: Source>(
         Job::BoundsCheck { rule } => {
             check_files(alloc, rule, Some(CertificateKind::Bounds), model, second)
         }
+        Job::CurveUntil {
+            rule,
+            dir,
+            stay,
+            label,
+            steps,
+            digits,
+        } => until_curve_file(alloc, rule, dir, stay, label, steps, digits, model),
+        Job::CurveTotal {
+            rule,
+            dir,
+            name,
+            steps,
+            digits,
+        } => total_curve_file(alloc, rule, dir, name, steps, digits, model),
     }
 }
 
@@ -137,18 +152,20 @@ pub fn run<S: Source, C: Source, K: Sink>(
 }
 
 /// Opens the files that the words name, the model's and the second one, and runs the program on them.
-pub fn run_on_files<F: Source + Drop, O: Fn(&str) -> F, K: Sink>(
+pub fn run_on_files<F: Source + Drop, M: FnOnce(&str) -> F, O: FnOnce(&str) -> F, K: Sink>(
     alloc: Global,
     words: &[String],
-    open_file: O,
+    open_model: M,
+    open_second: O,
     out: &mut K,
 ) -> Status
-    requires { O.IsAlwaysCallable open_file }
-    ensures { OnFiles (FnReturnsAt O.Fn open_file) F.left F.faults (model_path words.now) (second_path words.now)
+    requires model { M.IsAlwaysCallable open_model }
+    requires second { O.IsAlwaysCallable open_second }
+    ensures { OnFiles (FnOnceReturnsAt M.FnOnce open_model) (FnOnceReturnsAt O.FnOnce open_second) F.left F.faults (model_path words.now) (second_path words.now)
         (λ model second. HasRun (job_of words.now) model second (output K.taken K.settled K.faults out.old out.new) result) }
 {
     let paths = paths_of(words);
-    let mut model = open_file(paths.model);
-    let mut second = open_file(paths.second);
+    let mut model = open_model(paths.model);
+    let mut second = open_second(paths.second);
     run(alloc, words, &mut model, &mut second, out)
 }

@@ -172,33 +172,37 @@ fn answers_write_faults(rt: HostRuntime) {
     assert!(rt; write_faults(alloc, 3, 16, &[], "yes"));
 }
 
-/// How a check ends on the files that this opens, and a sink.
-fn ended_on_files<F: Source + Drop, O: Fn(&str) -> F>(
+/// How a check ends on the files that these open, and a sink.
+fn ended_on_files<F: Source + Drop, M: FnOnce(&str) -> F, O: FnOnce(&str) -> F>(
     alloc: Global,
-    open_file: O,
+    open_model: M,
+    open_second: O,
     out: &mut ListSink,
 ) -> Option<Status>
-    requires { O.IsAlwaysCallable open_file }
+    requires model { M.IsAlwaysCallable open_model }
+    requires second { O.IsAlwaysCallable open_second }
 {
     let Ok(words) = words_of(alloc, CHECK) else {
         return None;
     };
-    Some(run_on_files(alloc, &words, open_file, out))
+    Some(run_on_files(alloc, &words, open_model, open_second, out))
 }
 
-/// Whether a check ends so on the files that this opens, and what it writes.
-fn files_end<F: Source + Drop, O: Fn(&str) -> F>(
+/// Whether a check ends so on the files that these open, and what it writes.
+fn files_end<F: Source + Drop, M: FnOnce(&str) -> F, O: FnOnce(&str) -> F>(
     alloc: Global,
-    open_file: O,
+    open_model: M,
+    open_second: O,
     status: Status,
     taken: &[u8],
 ) -> bool
-    requires { O.IsAlwaysCallable open_file }
+    requires model { M.IsAlwaysCallable open_model }
+    requires second { O.IsAlwaysCallable open_second }
 {
     let Ok(mut out) = sink(alloc, &ROOM) else {
         return false;
     };
-    let Some(end) = ended_on_files(alloc, open_file, &mut out) else {
+    let Some(end) = ended_on_files(alloc, open_model, open_second, &mut out) else {
         return false;
     };
     end.code() == status.code() && out.bytes() == taken
@@ -210,9 +214,9 @@ fn opens_files(rt: HostRuntime) -> Result<(), Fail> {
     fs::write(&rt, "MODEL", COIN.as_bytes())?;
     fs::write(&rt, "CERT", UPPER.as_bytes())?;
     let open = |path: &str| StdSource::new(File::open(&rt, path).ok());
-    assert!(rt; files_end(rt.alloc(), open, Status::Done, b"yes\n"));
+    assert!(rt; files_end(rt.alloc(), open, open, Status::Done, b"yes\n"));
     fs::remove_file(&rt, "MODEL")?;
-    assert!(rt; files_end(rt.alloc(), open, Status::ReadFault, b"read-fault model\n"));
+    assert!(rt; files_end(rt.alloc(), open, open, Status::ReadFault, b"read-fault model\n"));
     fs::remove_file(&rt, "CERT")?;
     Ok(())
 }

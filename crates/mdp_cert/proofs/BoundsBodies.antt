@@ -161,7 +161,7 @@ body-found (reward dir name label) states p b q limit e =
     let f = ranked-found reward_value IsValueNarrow reward-is_value states limit p all.0.0 all.0.1 all.1 in
     subst (λ (r : PlainBounds × Place). FoundBody (reward dir name label) states p r.0 r.1) same (record { text = f.text; fits = record { entries = f.entries; width = f.width } })
 body-found (mean dir name) states p b q limit e = mean-found dir name states p b q limit e
-body-found (witness dir label threshold) states p b q limit e = absurd cc
+body-found (witness dir stay label threshold) states p b q limit e = absurd cc
 
 abbrev reach-of : List (Ranked ℚ) × Place → Result (PlainBounds × Place) Refusal
 reach-of xs = Ok (reach_body xs.0, xs.1)
@@ -213,7 +213,7 @@ body-again (reward dir name label) states n (gains ls us zs bs cs k) rest limit 
 body-again (mean dir name) states n (probabilities ls us cs rs) rest limit ok = absurd (let t = ok.entries in cc)
 body-again (mean dir name) states n (rewards ls us cs rs) rest limit ok = absurd (let t = ok.entries in cc)
 body-again (mean dir name) states n (gains ls us zs bs cs k) rest limit ok = mean-again dir name states n ls us zs bs cs k rest limit ok
-body-again (witness dir label threshold) states n b rest limit ok = absurd (let t = ok.entries in cc)
+body-again (witness dir stay label threshold) states n b rest limit ok = absurd (let t = ok.entries in cc)
 
 -- ---- as many entries as states
 
@@ -223,7 +223,7 @@ reach-counts (reach dir label) states ls us cs rs e = ranked-counts states ls us
 reach-counts (until dir stay label) states ls us cs rs e = ranked-counts states ls us cs rs e
 reach-counts (reward dir name label) states ls us cs rs e = absurd cc
 reach-counts (mean dir name) states ls us cs rs e = absurd cc
-reach-counts (witness dir label threshold) states ls us cs rs e = absurd cc
+reach-counts (witness dir stay label threshold) states ls us cs rs e = absurd cc
 
 pub reward-counts : (claim : PlainClaim) (states : ℕ) (ls us : List (Option ℚ)) (cs rs : List ℕ) → is_body_of claim states (rewards ls us cs rs) ≡ true → Count states ls us cs rs
 reward-counts (upper label) states ls us cs rs e = absurd cc
@@ -231,7 +231,7 @@ reward-counts (reach dir label) states ls us cs rs e = absurd cc
 reward-counts (until dir stay label) states ls us cs rs e = absurd cc
 reward-counts (reward dir name label) states ls us cs rs e = ranked-counts states ls us cs rs e
 reward-counts (mean dir name) states ls us cs rs e = absurd cc
-reward-counts (witness dir label threshold) states ls us cs rs e = absurd cc
+reward-counts (witness dir stay label threshold) states ls us cs rs e = absurd cc
 
 pub mean-counts : (claim : PlainClaim) (states : ℕ) (ls us zs bs : List ℚ) (cs : List ℕ) (k : ℚ) → is_body_of claim states (gains ls us zs bs cs k) ≡ true
     → GainsCount states ls us zs bs cs
@@ -240,4 +240,4 @@ mean-counts (reach dir label) states ls us zs bs cs k e = absurd cc
 mean-counts (until dir stay label) states ls us zs bs cs k e = absurd cc
 mean-counts (reward dir name label) states ls us zs bs cs k e = absurd cc
 mean-counts (mean dir name) states ls us zs bs cs k e = gains-counts states ls us zs bs cs e
-mean-counts (witness dir label threshold) states ls us zs bs cs k e = absurd cc
+mean-counts (witness dir stay label threshold) states ls us zs bs cs k e = absurd cc

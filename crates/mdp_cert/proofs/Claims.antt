@@ -11,6 +11,7 @@ use Rattle.mdp_num.proofs.Spellings.{sound, complete}
 use Rattle.mdp_cert.specs.Cert.{PlainClaim, upper, reach, until, reward, mean, witness, are_names, is_at_least_zero, has_threshold, IsClaimInWidth}
 use Rattle.mdp_cert.specs.{Spelling.{claim_text}, Reading.{closed_name, name_behind, two_names, upper_claim, reach_front}}
 use Rattle.mdp_cert.specs.Reading.{reach_claim, until_front, until_claim, reward_front, reward_claim, mean_front, mean_claim, threshold_of, name_and_threshold, witness_front, witness_claim, claim_to, claim_of, claim_at}
+use Rattle.mdp_cert.specs.Reading.{names_and_threshold, witness_until_front, witness_until_claim, subsystem_claim}
 use Rattle.mdp_text.proofs.{Pieces.{Free, free-append, free-name, quote-free-name, free-spelling}, Cuts.{bytes_same}, Feeds.{found_ok, or-found, byte-after}}
 use Rattle.mdp_text.proofs.Behind.{behind-found, behind-again, rest-found, rest-again}
 
@@ -182,16 +183,16 @@ mean-found dir text c e =
     let f = name-found (mean_front dir) text m.0 m.1 in
     subst (IsClaim text) m.2 (f.0 ∙ mean-text dir m.0, record { names = f.1; threshold = refl; width = tt })
 
-witness-text : (dir : Dir) (label : List ℕ) (t : ℚ) → witness_front dir ++ (label ++ (34 ∷ 32 ∷ spelling t)) ≡ claim_text (witness dir label t)
+witness-text : (dir : Dir) (label : List ℕ) (t : ℚ) → witness_front dir ++ (label ++ (34 ∷ 32 ∷ spelling t)) ≡ claim_text (witness dir None label t)
 witness-text Max label t = ap (λ (u : List ℕ). codes "claim max witness \"" ++ u) (sym (append_assoc label (34 ∷ []) (32 ∷ spelling t)))
 witness-text Min label t = ap (λ (u : List ℕ). codes "claim min witness \"" ++ u) (sym (append_assoc label (34 ∷ []) (32 ∷ spelling t)))
 
 witness-found : (dir : Dir) (text : List ℕ) (c : PlainClaim) → witness_claim dir text ≡ Some c → IsClaim text c
 witness-found dir text c e =
-    let m = map-some (λ said. witness dir said.0 said.1) (option_and_then name_and_threshold (behind (witness_front dir) text)) c e in
+    let m = map-some (λ said. witness dir None said.0 said.1) (option_and_then name_and_threshold (behind (witness_front dir) text)) c e in
     subst (IsClaim text) m.2 (by (behind (witness_front dir) text) refl m.0 m.1)
   where
-    by : (o : Option (List ℕ)) → behind (witness_front dir) text ≡ o → (said : List ℕ × ℚ) → option_and_then name_and_threshold o ≡ Some said → IsClaim text (witness dir said.0 said.1)
+    by : (o : Option (List ℕ)) → behind (witness_front dir) text ≡ o → (said : List ℕ × ℚ) → option_and_then name_and_threshold o ≡ Some said → IsClaim text (witness dir None said.0 said.1)
     by None b said e = absurd cc
     by (Some rest) b said e =
         let t = said-found rest said e in (
@@ -199,16 +200,87 @@ witness-found dir text c e =
           record { names = t.1; threshold = t.2; width = t.3 },
         )
 
+-- the two names and the threshold behind the front
+abbrev behind-front : List ℕ → List ℕ → ℚ → List ℕ
+behind-front stay label t = stay ++ (34 ∷ 32 ∷ 34 ∷ (label ++ (34 ∷ 32 ∷ spelling t)))
+
+-- where the text is cut at the first quote
+all-of : (text first rest : List ℕ) → text ≡ first ++ rest → (said : List ℕ × List ℕ × ℚ)
+    → cond (is_name first) (option_map (λ s. (first, s.0, s.1)) (option_and_then name_and_threshold (behind (codes "\" \"") rest))) None ≡ Some said
+    → (text ≡ behind-front said.0 said.1 said.2) × (is_name said.0 ≡ true) × (is_name said.1 ≡ true) × (is_at_least_zero said.2 ≡ true) × IsNarrow said.2
+all-of text first rest split said e = by (is_name first) refl e
+  where
+    by : (b : Bool) → is_name first ≡ b → cond b (option_map (λ s. (first, s.0, s.1)) (option_and_then name_and_threshold (behind (codes "\" \"") rest))) None ≡ Some said
+        → (text ≡ behind-front said.0 said.1 said.2) × (is_name said.0 ≡ true) × (is_name said.1 ≡ true) × (is_at_least_zero said.2 ≡ true) × IsNarrow said.2
+    by false n e = absurd cc
+    by true n e = at (behind (codes "\" \"") rest) refl e
+      where
+        at : (o : Option (List ℕ)) → behind (codes "\" \"") rest ≡ o → option_map (λ s. (first, s.0, s.1)) (option_and_then name_and_threshold o) ≡ Some said
+            → (text ≡ behind-front said.0 said.1 said.2) × (is_name said.0 ≡ true) × (is_name said.1 ≡ true) × (is_at_least_zero said.2 ≡ true) × IsNarrow said.2
+        at None b e = absurd cc
+        at (Some others) b e =
+            let m = map-some (λ (s : List ℕ × ℚ). let q : List ℕ × List ℕ × ℚ = (first, s.0, s.1) in q) (name_and_threshold others) said e in
+            let g = said-found others m.0 m.1 in
+            subst (λ (q : List ℕ × List ℕ × ℚ). (text ≡ behind-front q.0 q.1 q.2) × (is_name q.0 ≡ true) × (is_name q.1 ≡ true) × (is_at_least_zero q.2 ≡ true) × IsNarrow q.2) m.2 (
+              split ∙ ap (λ (ys : List ℕ). first ++ ys) (behind-found (codes "\" \"") rest others b ∙ ap (λ (ys : List ℕ). 34 ∷ 32 ∷ 34 ∷ ys) g.0),
+              n,
+              g.1,
+              g.2,
+              g.3,
+            )
+
+all-found : (text : List ℕ) (said : List ℕ × List ℕ × ℚ) → names_and_threshold text ≡ Some said
+    → (text ≡ behind-front said.0 said.1 said.2) × (is_name said.0 ≡ true) × (is_name said.1 ≡ true) × (is_at_least_zero said.2 ≡ true) × IsNarrow said.2
+all-found text said e =
+    let end = position_or_len is_quote text in
+    all-of text (before_first is_quote text) (drop end text) (sym (take-append-drop end text)) said e
+
+all-again : (stay label : List ℕ) (t : ℚ) → is_name stay ≡ true → is_name label ≡ true → is_at_least_zero t ≡ true → IsNarrow t
+    → names_and_threshold (behind-front stay label t) ≡ Some (stay, label, t)
+all-again stay label t h g z narrow =
+    let rest : List ℕ = 34 ∷ 32 ∷ 34 ∷ (label ++ (34 ∷ 32 ∷ spelling t)) in
+    let at : position_or_len is_quote (stay ++ rest) ≡ length stay = byte-after 34 stay (32 ∷ 34 ∷ (label ++ (34 ∷ 32 ∷ spelling t))) (quote-free-name stay h) in
+    rw (at, take-append_seam stay rest, drop-append_seam stay rest, h, said-again label t g z narrow) refl
+
+witness-until-text : (dir : Dir) (stay label : List ℕ) (t : ℚ) → witness_until_front dir ++ behind-front stay label t ≡ claim_text (witness dir (Some stay) label t)
+witness-until-text dir stay label t = by dir
+  where
+    -- the quotes are joined to the names
+    joined : stay ++ (34 ∷ 32 ∷ 34 ∷ (label ++ (34 ∷ 32 ∷ spelling t))) ≡ (stay ++ 34 ∷ []) ++ (32 ∷ 34 ∷ ((label ++ 34 ∷ []) ++ (32 ∷ spelling t)))
+    joined = ap (λ (u : List ℕ). stay ++ (34 ∷ 32 ∷ 34 ∷ u)) (sym (append_assoc label (34 ∷ []) (32 ∷ spelling t)))
+        ∙ sym (append_assoc stay (34 ∷ []) (32 ∷ 34 ∷ ((label ++ 34 ∷ []) ++ (32 ∷ spelling t))))
+
+    by : (d : Dir) → witness_until_front d ++ behind-front stay label t ≡ claim_text (witness d (Some stay) label t)
+    by Max = ap (λ (u : List ℕ). codes "claim max witness until \"" ++ u) joined
+    by Min = ap (λ (u : List ℕ). codes "claim min witness until \"" ++ u) joined
+
+witness-until-found : (dir : Dir) (text : List ℕ) (c : PlainClaim) → witness_until_claim dir text ≡ Some c → IsClaim text c
+witness-until-found dir text c e =
+    let m = map-some (λ said. witness dir (Some said.0) said.1 said.2) (option_and_then names_and_threshold (behind (witness_until_front dir) text)) c e in
+    subst (IsClaim text) m.2 (by (behind (witness_until_front dir) text) refl m.0 m.1)
+  where
+    by : (o : Option (List ℕ)) → behind (witness_until_front dir) text ≡ o → (said : List ℕ × List ℕ × ℚ) → option_and_then names_and_threshold o ≡ Some said
+        → IsClaim text (witness dir (Some said.0) said.1 said.2)
+    by None b said e = absurd cc
+    by (Some rest) b said e =
+        let t = all-found rest said e in (
+          behind-found (witness_until_front dir) text rest b ∙ ap (λ (xs : List ℕ). witness_until_front dir ++ xs) t.0 ∙ witness-until-text dir said.0 said.1 said.2,
+          record { names = and-true _ _ t.1 t.2; threshold = t.3; width = t.4 },
+        )
+
+subsystem-found : (dir : Dir) (text : List ℕ) (c : PlainClaim) → subsystem_claim dir text ≡ Some c → IsClaim text c
+subsystem-found dir text c e = elim (or-found (witness_claim dir text) (witness_until_claim dir text) c e) [ inl f ↦ witness-found dir text c f | inr f ↦ witness-until-found dir text c f ]
+
 to-found : (dir : Dir) (text : List ℕ) (c : PlainClaim) → claim_to dir text ≡ Some c → IsClaim text c
 unfolding claim_to
 to-found dir text c e =
-    elim (or-found (reach_claim dir text) (option_or (until_claim dir text) (option_or (reward_claim dir text) (option_or (mean_claim dir text) (witness_claim dir text)))) c e) [
+    elim (or-found (reach_claim dir text) (option_or (until_claim dir text) (option_or (reward_claim dir text) (option_or (mean_claim dir text) (subsystem_claim dir text)))) c e) [
       | inl h ↦ reach-found dir text c h
-      | inr h ↦ elim (or-found (until_claim dir text) (option_or (reward_claim dir text) (option_or (mean_claim dir text) (witness_claim dir text))) c h) [
+      | inr h ↦ elim (or-found (until_claim dir text) (option_or (reward_claim dir text) (option_or (mean_claim dir text) (subsystem_claim dir text))) c h) [
         | inl i ↦ until-found dir text c i
-        | inr i ↦ elim (or-found (reward_claim dir text) (option_or (mean_claim dir text) (witness_claim dir text)) c i) [
+        | inr i ↦ elim (or-found (reward_claim dir text) (option_or (mean_claim dir text) (subsystem_claim dir text)) c i) [
           | inl g ↦ reward-found dir text c g
-          | inr g ↦ elim (or-found (mean_claim dir text) (witness_claim dir text) c g) [ inl f ↦ mean-found dir text c f | inr f ↦ witness-found dir text c f ]
+          | inr g ↦ elim (or-found (mean_claim dir text) (subsystem_claim dir text) c g) [ inl f ↦ mean-found dir text c f | inr f ↦ subsystem-found dir text c f ]
         ]
       ]
     ]
@@ -245,10 +317,10 @@ reward-again : (dir : Dir) (name label : List ℕ) → is_name name ≡ true →
 unfolding claim_of claim_to
 reward-again Max name label h g =
     let text = claim_text (reward Max name label) in
-    ap (λ (o : Option PlainClaim). option_or (option_or o (option_or (mean_claim Max text) (witness_claim Max text))) (claim_to Min text)) (reward-read Max name label h g)
+    ap (λ (o : Option PlainClaim). option_or (option_or o (option_or (mean_claim Max text) (subsystem_claim Max text))) (claim_to Min text)) (reward-read Max name label h g)
 reward-again Min name label h g =
     let text = claim_text (reward Min name label) in
-    ap (λ (o : Option PlainClaim). option_or o (option_or (mean_claim Min text) (witness_claim Min text))) (reward-read Min name label h g)
+    ap (λ (o : Option PlainClaim). option_or o (option_or (mean_claim Min text) (subsystem_claim Min text))) (reward-read Min name label h g)
 
 until-read : (dir : Dir) (stay label : List ℕ) → is_name stay ≡ true → is_name label ≡ true → until_claim dir (claim_text (until dir stay label)) ≡ Some (until dir stay label)
 until-read dir stay label h g =
@@ -260,26 +332,44 @@ until-again : (dir : Dir) (stay label : List ℕ) → is_name stay ≡ true → 
 unfolding claim_of claim_to
 until-again Max stay label h g =
     let text = claim_text (until Max stay label) in
-    ap (λ (o : Option PlainClaim). option_or (option_or o (option_or (reward_claim Max text) (option_or (mean_claim Max text) (witness_claim Max text)))) (claim_to Min text)) (until-read Max stay label h g)
+    ap (λ (o : Option PlainClaim). option_or (option_or o (option_or (reward_claim Max text) (option_or (mean_claim Max text) (subsystem_claim Max text)))) (claim_to Min text)) (until-read Max stay label h g)
 until-again Min stay label h g =
     let text = claim_text (until Min stay label) in
-    ap (λ (o : Option PlainClaim). option_or o (option_or (reward_claim Min text) (option_or (mean_claim Min text) (witness_claim Min text)))) (until-read Min stay label h g)
+    ap (λ (o : Option PlainClaim). option_or o (option_or (reward_claim Min text) (option_or (mean_claim Min text) (subsystem_claim Min text)))) (until-read Min stay label h g)
 
 mean-again : (dir : Dir) (name : List ℕ) → is_name name ≡ true → claim_of (claim_text (mean dir name)) ≡ Some (mean dir name)
 unfolding claim_of claim_to
 mean-again Max name h = rw (name-again (codes "claim max mean \"") name h) refl
 mean-again Min name h = rw (name-again (codes "claim min mean \"") name h) refl
 
-witness-read : (dir : Dir) (label : List ℕ) (t : ℚ) → IsRight (witness dir label t) → witness_claim dir (claim_text (witness dir label t)) ≡ Some (witness dir label t)
+witness-read : (dir : Dir) (label : List ℕ) (t : ℚ) → IsRight (witness dir None label t) → witness_claim dir (claim_text (witness dir None label t)) ≡ Some (witness dir None label t)
 witness-read dir label t h =
     ap (witness_claim dir) (sym (witness-text dir label t))
-    ∙ ap (λ (o : Option (List ℕ)). option_map (λ said. witness dir said.0 said.1) (option_and_then name_and_threshold o)) (behind-again (witness_front dir) (label ++ (34 ∷ 32 ∷ spelling t)))
-    ∙ ap (option_map (λ said. witness dir said.0 said.1)) (said-again label t h.names h.threshold h.width)
+    ∙ ap (λ (o : Option (List ℕ)). option_map (λ said. witness dir None said.0 said.1) (option_and_then name_and_threshold o)) (behind-again (witness_front dir) (label ++ (34 ∷ 32 ∷ spelling t)))
+    ∙ ap (option_map (λ said. witness dir None said.0 said.1)) (said-again label t h.names h.threshold h.width)
 
-witness-again : (dir : Dir) (label : List ℕ) (t : ℚ) → IsRight (witness dir label t) → claim_of (claim_text (witness dir label t)) ≡ Some (witness dir label t)
+witness-again : (dir : Dir) (label : List ℕ) (t : ℚ) → IsRight (witness dir None label t) → claim_of (claim_text (witness dir None label t)) ≡ Some (witness dir None label t)
 unfolding claim_of claim_to
-witness-again Max label t h = ap (λ (o : Option PlainClaim). option_or o (claim_to Min (claim_text (witness Max label t)))) (witness-read Max label t h)
-witness-again Min label t h = witness-read Min label t h
+witness-again Max label t h =
+    let text = claim_text (witness Max None label t) in
+    ap (λ (o : Option PlainClaim). option_or (option_or o (witness_until_claim Max text)) (claim_to Min text)) (witness-read Max label t h)
+witness-again Min label t h = ap (λ (o : Option PlainClaim). option_or o (witness_until_claim Min (claim_text (witness Min None label t)))) (witness-read Min label t h)
+
+witness-until-read : (dir : Dir) (stay label : List ℕ) (t : ℚ) → IsRight (witness dir (Some stay) label t)
+    → witness_until_claim dir (claim_text (witness dir (Some stay) label t)) ≡ Some (witness dir (Some stay) label t)
+witness-until-read dir stay label t h =
+    let p = and_parts (is_name stay) (is_name label) h.names in
+    ap (witness_until_claim dir) (sym (witness-until-text dir stay label t))
+    ∙ ap (λ (o : Option (List ℕ)). option_map (λ said. witness dir (Some said.0) said.1 said.2) (option_and_then names_and_threshold o))
+    (behind-again (witness_until_front dir) (behind-front stay label t))
+    ∙ ap (option_map (λ said. witness dir (Some said.0) said.1 said.2)) (all-again stay label t p.0 p.1 h.threshold h.width)
+
+witness-until-again : (dir : Dir) (stay label : List ℕ) (t : ℚ) → IsRight (witness dir (Some stay) label t)
+    → claim_of (claim_text (witness dir (Some stay) label t)) ≡ Some (witness dir (Some stay) label t)
+unfolding claim_of claim_to
+witness-until-again Max stay label t h =
+    ap (λ (o : Option PlainClaim). option_or o (claim_to Min (claim_text (witness Max (Some stay) label t)))) (witness-until-read Max stay label t h)
+witness-until-again Min stay label t h = witness-until-read Min stay label t h
 
 again : (c : PlainClaim) → IsRight c → claim_of (claim_text c) ≡ Some c
 again (upper label) h = upper-again label h.names
@@ -287,7 +377,8 @@ again (reach dir label) h = reach-again dir label h.names
 again (until dir stay label) h = let p = and_parts (is_name stay) (is_name label) h.names in until-again dir stay label p.0 p.1
 again (mean dir name) h = mean-again dir name h.names
 again (reward dir name label) h = let p = and_parts (is_name name) (is_name label) h.names in reward-again dir name label p.0 p.1
-again (witness dir label t) h = witness-again dir label t h
+again (witness dir None label t) h = witness-again dir label t h
+again (witness dir (Some stay) label t) h = witness-until-again dir stay label t h
 
 pub claim-again : (n : ℕ) (c : PlainClaim) → IsRight c → claim_at n (claim_text c) ≡ Ok c
 unfolding claim_at
@@ -324,6 +415,15 @@ free-witness dir label t h narrow =
     front Max = refl
     front Min = refl
 
+free-witness-until : (dir : Dir) (stay label : List ℕ) (t : ℚ) → is_name stay ≡ true → is_name label ≡ true → IsNarrow t → Free 10 (witness_until_front dir ++ behind-front stay label t)
+free-witness-until dir stay label t h g narrow =
+    let rest : Free 10 (label ++ (34 ∷ 32 ∷ spelling t)) = free-append 10 label (34 ∷ 32 ∷ spelling t) (free-name label g) (free-spelling 10 t (omega arith) narrow) in
+    free-append 10 (witness_until_front dir) (behind-front stay label t) (front dir) (free-append 10 stay (34 ∷ 32 ∷ 34 ∷ (label ++ (34 ∷ 32 ∷ spelling t))) (free-name stay h) rest)
+  where
+    front : (d : Dir) → Free 10 (witness_until_front d)
+    front Max = refl
+    front Min = refl
+
 pub free-claim : (c : PlainClaim) → IsRight c → Free 10 (claim_text c)
 free-claim (upper label) h = free-named (codes "claim upper reach \"") label refl h.names
 free-claim (reach Max label) h = free-named (codes "claim max reach \"") label refl h.names
@@ -331,5 +431,7 @@ free-claim (reach Min label) h = free-named (codes "claim min reach \"") label r
 free-claim (until dir stay label) h = let p = and_parts (is_name stay) (is_name label) h.names in subst (Free 10) (until-text dir stay label) (free-until dir stay label p.0 p.1)
 free-claim (mean Max name) h = free-named (codes "claim max mean \"") name refl h.names
 free-claim (mean Min name) h = free-named (codes "claim min mean \"") name refl h.names
-free-claim (witness dir label t) h = subst (Free 10) (witness-text dir label t) (free-witness dir label t h.names h.width)
+free-claim (witness dir None label t) h = subst (Free 10) (witness-text dir label t) (free-witness dir label t h.names h.width)
+free-claim (witness dir (Some stay) label t) h =
+    let p = and_parts (is_name stay) (is_name label) h.names in subst (Free 10) (witness-until-text dir stay label t) (free-witness-until dir stay label t p.0 p.1 h.width)
 free-claim (reward dir name label) h = let p = and_parts (is_name name) (is_name label) h.names in subst (Free 10) (reward-text dir name label) (free-reward dir name label p.0 p.1)

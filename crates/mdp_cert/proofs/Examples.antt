@@ -400,15 +400,24 @@ claims-read : AreEqual (
     (claim_at 2 (codes "claim upper mean \"-\""), refused Claim 2) ∷  -- upper mean
     -- a claim that isn't known
     (claim_at 2 (codes "claim max survival \"goal\""), refused Claim 2) ∷  -- unknown
+    -- a subsystem by way of states with a label, and one for the label `until`
+    (claim_at 2 (codes "claim max witness until \"safe\" \"goal\" 1/4"), Ok (witness Max (Some (codes "safe")) (codes "goal") quarter)) ∷  -- until max
+    (claim_at 2 (codes "claim min witness until \"safe\" \"goal\" 1/4"), Ok (witness Min (Some (codes "safe")) (codes "goal") quarter)) ∷  -- until min
+    (claim_at 2 (codes "claim max witness \"until\" 1/4"), Ok (witness Max None (codes "until") quarter)) ∷  -- label until
+    (claim_at 2 (codes "claim max witness until \"safe\" 1/4"), refused Claim 2) ∷  -- one name
+    (claim_at 2 (codes "claim max witness until \"safe\" \"goal\""), refused Claim 2) ∷  -- no threshold behind two
+    (claim_at 2 (codes "claim max witness \"safe\" \"goal\" 1/4"), refused Claim 2) ∷  -- two names without until
+    (claim_at 2 (codes "claim max witness until \"safe\" \"goal\" -1/4"), refused Claim 2) ∷  -- below zero behind two
+    (claim_at 2 (codes "claim max witness until \"\" \"goal\" 1/4"), refused Claim 2) ∷  -- no name first
     []
     )
-unfolding claim_at claim_of claim_to
+unfolding claim_at claim_of claim_to canonical_of ratio gcd gcd_with_fuel
 claims-read = refl
 
 -- ---- subsystems: of four states 0 and 2 are kept
 
 abbrev witness-of : Dir → ℚ → PlainBody → Certificate
-witness-of dir t body = record { claim = witness dir (codes "goal") t; states = 4; init = Start 0; body = body }
+witness-of dir t body = record { claim = witness dir None (codes "goal") t; states = 4; init = Start 0; body = body }
 
 abbrev sent : ℕ → ℕ → ℚ → Flow
 sent state choice amount = record { state = state; choice = choice; amount = amount }
@@ -418,6 +427,10 @@ two-kept = witness-of Max quarter (flow (0 ∷ 2 ∷ []) (false ∷ true ∷ [])
 
 abbrev two-floors : Certificate
 two-floors = witness-of Min quarter (floor (0 ∷ 2 ∷ []) (false ∷ true ∷ []) (half ∷ one ∷ []) (2 ∷ 1 ∷ []))
+
+-- the same by way of states with the label `safe`
+abbrev two-safe : Certificate
+two-safe = record two-kept { claim = witness Max (Some (codes "safe")) (codes "goal") quarter }
 
 -- a text with this line of the claim, this line `init` and these lines behind it
 abbrev witness-text : Version → List ℕ → List ℕ → List ℕ → List ℕ
@@ -446,15 +459,18 @@ record WitnessesWritten : Type 0 where
   flows-two : text_of two-kept ≡ for-max (kept-lines ++ flows-lines ++ end-line)
   flows-one : old_text_of two-kept ≡ witness-text One (codes "max witness \"goal\" 1/4") (codes "0") (kept-lines ++ flows-lines ++ end-line)
   floors-two : text_of two-floors ≡ for-min (floors-lines ++ end-line)
+  -- and by way of some states in the line of the claim
+  safe-two : text_of two-safe ≡ witness-text Two (codes "max witness until \"safe\" \"goal\" 1/4") (codes "0") (kept-lines ++ flows-lines ++ end-line)
 
 witnesses-written : WitnessesWritten
 unfolding text_in listed_lines spelling ratio gcd gcd_with_fuel digits
-witnesses-written = record { flows-two = refl; flows-one = refl; floors-two = refl }
+witnesses-written = record { flows-two = refl; flows-one = refl; floors-two = refl; safe-two = refl }
 
 witnesses-read : AreEqual (
     (outcome (for-max (kept-lines ++ flows-lines ++ end-line)), Ok two-kept) ∷  -- flows two
     (outcome (witness-text One (codes "max witness \"goal\" 1/4") (codes "0") (kept-lines ++ flows-lines ++ end-line)), Ok two-kept) ∷  -- flows one
     (outcome (for-min (floors-lines ++ end-line)), Ok two-floors) ∷  -- floors two
+    (outcome (witness-text Two (codes "max witness until \"safe\" \"goal\" 1/4") (codes "0") (kept-lines ++ flows-lines ++ end-line)), Ok two-safe) ∷  -- safe two
     -- no state is kept
     (outcome (witness-text Two (codes "max witness \"goal\" 0") (codes "0") end-line), Ok (witness-of Max none (flow [] [] []))) ∷  -- none kept
     -- refused: the line of the claim

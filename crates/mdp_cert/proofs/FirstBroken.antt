@@ -490,8 +490,8 @@ body-cuts v (reward dir name label) states = mapped (entries_to_end v (policy_co
 body-cuts v (mean dir name) states =
     next (line_by spread_at) (λ spread p. entries_to_end v mean_columns states p >>= λ xs. Ok (mean_body spread xs.0, xs.1)) (lined spread_at spread-judges) (λ spread.
     mapped (entries_to_end v mean_columns states) (mean_body spread) (closed-cuts mean_columns states v))
-body-cuts v (witness Max label t) states = mapped (listed_to_end flow_listed states) flow_body (to_end-cuts flow_listed states (flow-line-judges states))
-body-cuts v (witness Min label t) states = mapped (listed_to_end floor_listed states) floor_body (to_end-cuts floor_listed states (floor-line-judges states))
+body-cuts v (witness Max stay label t) states = mapped (listed_to_end flow_listed states) flow_body (to_end-cuts flow_listed states (flow-line-judges states))
+body-cuts v (witness Min stay label t) states = mapped (listed_to_end floor_listed states) floor_body (to_end-cuts floor_listed states (floor-line-judges states))
 
 -- all lines
 abbrev top-body : Version → CertHead × Place → Result (Certificate × Place) Refusal

@@ -66,8 +66,8 @@ bounds-entries (reach dir label) states zs e = absurd cc
 bounds-entries (until dir stay label) states zs e = absurd cc
 bounds-entries (reward dir name label) states zs e = absurd cc
 bounds-entries (mean dir name) states zs e = absurd cc
-bounds-entries (witness Max label t) states zs e = absurd cc
-bounds-entries (witness Min label t) states zs e = absurd cc
+bounds-entries (witness Max stay label t) states zs e = absurd cc
+bounds-entries (witness Min stay label t) states zs e = absurd cc
 
 -- as many values, choices and ranks as states
 pub record Entries {V : Type 0} (states : ℕ) (zs : List V) (cs rs : List ℕ) : Type 0 where
@@ -87,8 +87,8 @@ policy-entries (reach dir label) states zs cs rs e = three-entries states zs cs 
 policy-entries (until dir stay label) states zs cs rs e = three-entries states zs cs rs e
 policy-entries (reward dir name label) states zs cs rs e = absurd cc
 policy-entries (mean dir name) states zs cs rs e = absurd cc
-policy-entries (witness Max label t) states zs cs rs e = absurd cc
-policy-entries (witness Min label t) states zs cs rs e = absurd cc
+policy-entries (witness Max stay label t) states zs cs rs e = absurd cc
+policy-entries (witness Min stay label t) states zs cs rs e = absurd cc
 
 pub reward-entries : (claim : PlainClaim) (states : ℕ) (vs : List (Option ℚ)) (cs rs : List ℕ) → is_body_of claim states (rewards vs cs rs) ≡ true → Entries states vs cs rs
 reward-entries (upper label) states vs cs rs e = absurd cc
@@ -96,8 +96,8 @@ reward-entries (reach dir label) states vs cs rs e = absurd cc
 reward-entries (until dir stay label) states vs cs rs e = absurd cc
 reward-entries (reward dir name label) states vs cs rs e = three-entries states vs cs rs e
 reward-entries (mean dir name) states vs cs rs e = absurd cc
-reward-entries (witness Max label t) states vs cs rs e = absurd cc
-reward-entries (witness Min label t) states vs cs rs e = absurd cc
+reward-entries (witness Max stay label t) states vs cs rs e = absurd cc
+reward-entries (witness Min stay label t) states vs cs rs e = absurd cc
 
 -- as many gains, bounds, biases and choices as states
 pub record MeanEntries (states : ℕ) (gs zs bs : List ℚ) (cs : List ℕ) : Type 0 where
@@ -120,8 +120,8 @@ gains-entries (reach dir label) states gs zs bs cs k e = absurd cc
 gains-entries (until dir stay label) states gs zs bs cs k e = absurd cc
 gains-entries (reward dir name label) states gs zs bs cs k e = absurd cc
 gains-entries (mean dir name) states gs zs bs cs k e = four-entries states gs zs bs cs e
-gains-entries (witness Max label t) states gs zs bs cs k e = absurd cc
-gains-entries (witness Min label t) states gs zs bs cs k e = absurd cc
+gains-entries (witness Max stay label t) states gs zs bs cs k e = absurd cc
+gains-entries (witness Min stay label t) states gs zs bs cs k e = absurd cc
 
 pub flow-lists : (claim : PlainClaim) (states : ℕ) (kept : List ℕ) (wide : List Bool) (flows : List Flow) → is_body_of claim states (flow kept wide flows) ≡ true
     → (are_kept states None kept && eqb (length wide) (length kept) && are_flows states None flows) ≡ true
@@ -130,8 +130,8 @@ flow-lists (reach dir label) states kept wide flows e = absurd cc
 flow-lists (until dir stay label) states kept wide flows e = absurd cc
 flow-lists (reward dir name label) states kept wide flows e = absurd cc
 flow-lists (mean dir name) states kept wide flows e = absurd cc
-flow-lists (witness Max label t) states kept wide flows e = e
-flow-lists (witness Min label t) states kept wide flows e = absurd cc
+flow-lists (witness Max stay label t) states kept wide flows e = e
+flow-lists (witness Min stay label t) states kept wide flows e = absurd cc
 
 -- as many lines as kept states and flows
 pub flow-count : (kept : List ℕ) (wide : List Bool) (flows : List Flow) → length wide ≡ length kept → length (flow_lines kept wide flows) ≡ length kept + length flows
@@ -153,8 +153,8 @@ floor-lists (reach dir label) states kept wide values ranks e = absurd cc
 floor-lists (until dir stay label) states kept wide values ranks e = absurd cc
 floor-lists (reward dir name label) states kept wide values ranks e = absurd cc
 floor-lists (mean dir name) states kept wide values ranks e = absurd cc
-floor-lists (witness Max label t) states kept wide values ranks e = absurd cc
-floor-lists (witness Min label t) states kept wide values ranks e = e
+floor-lists (witness Max stay label t) states kept wide values ranks e = absurd cc
+floor-lists (witness Min stay label t) states kept wide values ranks e = e
 
 -- as many lines as kept states
 floor-count : (kept : List ℕ) (wide : List Bool) (values : List ℚ) (ranks : List ℕ) → length wide ≡ length kept → length values ≡ length kept → length ranks ≡ length kept

@@ -29,7 +29,7 @@ right-claim (reach dir label) b h = record { right = record { names = h; thresho
 right-claim (until dir stay label) b h = record { right = record { names = h; threshold = refl; width = tt }; bounds = refl }
 right-claim (reward dir name label) b h = record { right = record { names = h; threshold = refl; width = tt }; bounds = refl }
 right-claim (mean dir name) b h = record { right = record { names = h; threshold = refl; width = tt }; bounds = refl }
-right-claim (witness dir label threshold) b h = absurd cc
+right-claim (witness dir stay label threshold) b h = absurd cc
 
 abbrev kept-claim : ℕ → PlainClaim → Result PlainClaim Refusal
 kept-claim n claim = refuse_if Claim n (not (is_of_bounds claim)) >>= λ bounds. Ok claim

@@ -209,7 +209,7 @@ infinite-form (reach dir label) e = refl
 infinite-form (until dir stay label) e = refl
 infinite-form (reward dir name label) e = refl
 infinite-form (mean dir name) e = refl
-infinite-form (witness dir label threshold) e = absurd cc
+infinite-form (witness dir stay label threshold) e = absurd cc
 
 pub init-again : (claim : PlainClaim) (states n : ℕ) (init : Init) → is_init_of claim states init ≡ true → states ≤ 2 ^ 20 → IsInitInWidth init → init_at claim states n (init_text init) ≡ Ok init
 unfolding valued_at

@@ -62,7 +62,7 @@ of-bounds (reach dir label) states b e = refl
 of-bounds (until dir stay label) states b e = refl
 of-bounds (reward dir name label) states b e = refl
 of-bounds (mean dir name) states b e = refl
-of-bounds (witness dir label threshold) states b e = absurd cc
+of-bounds (witness dir stay label threshold) states b e = absurd cc
 
 pub cert-again : (c : Certificate) → Fits c → outcome (text_of c) ≡ Ok c
 unfolding outcome text_of nothing_behind

@@ -232,26 +232,26 @@ flows-behind xs = Ok (flow_body xs.0, xs.1)
 abbrev floors-behind : List FloorLine × Place → Result (PlainBody × Place) Refusal
 floors-behind xs = Ok (floor_body xs.0, xs.1)
 
-flows-found : (v : Version) (label : List ℕ) (t : ℚ) (states : ℕ) (p : Place) (b : PlainBody) (q : Place) → states ≤ 2 ^ 20
-    → (listed_to_end flow_listed states p >>= flows-behind) ≡ Ok (b, q) → FoundBody v (witness Max label t) states p b q
-flows-found v label t states p b q limit e =
+flows-found : (v : Version) (stay : Option (List ℕ)) (label : List ℕ) (t : ℚ) (states : ℕ) (p : Place) (b : PlainBody) (q : Place) → states ≤ 2 ^ 20
+    → (listed_to_end flow_listed states p >>= flows-behind) ≡ Ok (b, q) → FoundBody v (witness Max stay label t) states p b q
+flows-found v stay label t states p b q limit e =
     let all = bind_ok (listed_to_end flow_listed states p) flows-behind (b, q) e in
     let xs = all.0.0 in
     let same : (let r : PlainBody × Place = (flow_body xs, all.0.1) in r) ≡ (b, q) = ok-is _ _ all.2 in
     let f = to_end-found flow_listed states (IsNextLine states limit) (flow-is_listed states limit) p xs all.0.1 all.1 in
-    subst (λ (r : PlainBody × Place). FoundBody v (witness Max label t) states p r.0 r.1) same (record {
+    subst (λ (r : PlainBody × Place). FoundBody v (witness Max stay label t) states p r.0 r.1) same (record {
       text = f.text ∙ ap (λ (ys : List FlowLine). listed_lines flow_listed ys ++ all.0.1.rest) (sym (lines-of states limit None xs f.next));
       fits = record { entries = flow-entries states limit xs f.next; width = each-all IsFlowInWidth _ (flow-width states limit None xs f.next) };
     })
 
-floors-found : (v : Version) (label : List ℕ) (t : ℚ) (states : ℕ) (p : Place) (b : PlainBody) (q : Place) → states ≤ 2 ^ 20
-    → (listed_to_end floor_listed states p >>= floors-behind) ≡ Ok (b, q) → FoundBody v (witness Min label t) states p b q
-floors-found v label t states p b q limit e =
+floors-found : (v : Version) (stay : Option (List ℕ)) (label : List ℕ) (t : ℚ) (states : ℕ) (p : Place) (b : PlainBody) (q : Place) → states ≤ 2 ^ 20
+    → (listed_to_end floor_listed states p >>= floors-behind) ≡ Ok (b, q) → FoundBody v (witness Min stay label t) states p b q
+floors-found v stay label t states p b q limit e =
     let all = bind_ok (listed_to_end floor_listed states p) floors-behind (b, q) e in
     let xs = all.0.0 in
     let same : (let r : PlainBody × Place = (floor_body xs, all.0.1) in r) ≡ (b, q) = ok-is _ _ all.2 in
     let f = to_end-found floor_listed states (IsNextFloor states limit) (floor-is_listed states limit) p xs all.0.1 all.1 in
-    subst (λ (r : PlainBody × Place). FoundBody v (witness Min label t) states p r.0 r.1) same (record {
+    subst (λ (r : PlainBody × Place). FoundBody v (witness Min stay label t) states p r.0 r.1) same (record {
       text = f.text ∙ ap (λ (ys : List FloorLine). listed_lines floor_listed ys ++ all.0.1.rest) (sym (floors-of states limit xs));
       fits = record {
         entries = floor-entries states limit xs f.next;
@@ -313,8 +313,8 @@ body-found v (reward dir name label) states p b q limit e =
     let f = policy-found reward_value IsValueNarrow reward-is_value states limit v p all.0.0 all.0.1 all.1 in
     subst (λ (r : PlainBody × Place). FoundBody v (reward dir name label) states p r.0 r.1) same (record { text = f.text; fits = record { entries = f.entries; width = f.width } })
 body-found v (mean dir name) states p b q limit e = mean-found v dir name states p b q limit e
-body-found v (witness Max label t) states p b q limit e = flows-found v label t states p b q limit e
-body-found v (witness Min label t) states p b q limit e = floors-found v label t states p b q limit e
+body-found v (witness Max stay label t) states p b q limit e = flows-found v stay label t states p b q limit e
+body-found v (witness Min stay label t) states p b q limit e = floors-found v stay label t states p b q limit e
 
 abbrev bounds-of : List ℚ × Place → Result (PlainBody × Place) Refusal
 bounds-of xs = Ok (bounds xs.0, xs.1)
@@ -392,18 +392,18 @@ body-again v (mean dir name) states n (rewards zs cs rs) rest limit ok = absurd 
 body-again v (mean dir name) states n (gains gs zs bs cs k) rest limit ok = mean-again v dir name states n gs zs bs cs k rest limit ok
 body-again v (mean dir name) states n (flow kept wide flows) rest limit ok = absurd (let t = ok.entries in cc)
 body-again v (mean dir name) states n (floor kept wide values ranks) rest limit ok = absurd (let t = ok.entries in cc)
-body-again v (witness Max label t) states n (bounds zs) rest limit ok = absurd (let t = ok.entries in cc)
-body-again v (witness Max label t) states n (policy zs cs rs) rest limit ok = absurd (let t = ok.entries in cc)
-body-again v (witness Max label t) states n (rewards zs cs rs) rest limit ok = absurd (let t = ok.entries in cc)
-body-again v (witness Max label t) states n (gains gs zs bs cs k) rest limit ok = absurd (let t = ok.entries in cc)
-body-again v (witness Max label t) states n (flow kept wide flows) rest limit ok = flows-read v states n kept wide flows rest limit ok.entries ok.width
-body-again v (witness Max label t) states n (floor kept wide values ranks) rest limit ok = absurd (let t = ok.entries in cc)
-body-again v (witness Min label t) states n (bounds zs) rest limit ok = absurd (let t = ok.entries in cc)
-body-again v (witness Min label t) states n (policy zs cs rs) rest limit ok = absurd (let t = ok.entries in cc)
-body-again v (witness Min label t) states n (rewards zs cs rs) rest limit ok = absurd (let t = ok.entries in cc)
-body-again v (witness Min label t) states n (gains gs zs bs cs k) rest limit ok = absurd (let t = ok.entries in cc)
-body-again v (witness Min label t) states n (flow kept wide flows) rest limit ok = absurd (let t = ok.entries in cc)
-body-again v (witness Min label t) states n (floor kept wide values ranks) rest limit ok = floors-read v states n kept wide values ranks rest limit ok.entries ok.width
+body-again v (witness Max stay label t) states n (bounds zs) rest limit ok = absurd (let t = ok.entries in cc)
+body-again v (witness Max stay label t) states n (policy zs cs rs) rest limit ok = absurd (let t = ok.entries in cc)
+body-again v (witness Max stay label t) states n (rewards zs cs rs) rest limit ok = absurd (let t = ok.entries in cc)
+body-again v (witness Max stay label t) states n (gains gs zs bs cs k) rest limit ok = absurd (let t = ok.entries in cc)
+body-again v (witness Max stay label t) states n (flow kept wide flows) rest limit ok = flows-read v states n kept wide flows rest limit ok.entries ok.width
+body-again v (witness Max stay label t) states n (floor kept wide values ranks) rest limit ok = absurd (let t = ok.entries in cc)
+body-again v (witness Min stay label t) states n (bounds zs) rest limit ok = absurd (let t = ok.entries in cc)
+body-again v (witness Min stay label t) states n (policy zs cs rs) rest limit ok = absurd (let t = ok.entries in cc)
+body-again v (witness Min stay label t) states n (rewards zs cs rs) rest limit ok = absurd (let t = ok.entries in cc)
+body-again v (witness Min stay label t) states n (gains gs zs bs cs k) rest limit ok = absurd (let t = ok.entries in cc)
+body-again v (witness Min stay label t) states n (flow kept wide flows) rest limit ok = absurd (let t = ok.entries in cc)
+body-again v (witness Min stay label t) states n (floor kept wide values ranks) rest limit ok = floors-read v states n kept wide values ranks rest limit ok.entries ok.width
 
 -- ---- the whole text
 

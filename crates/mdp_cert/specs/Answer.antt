@@ -1,5 +1,5 @@
 -- How an answer of the program stands to the definition.
-use Rattle.std.specs.Prelude.{ℕ, suc, Bool, false, List, [], ◌∷◌, if◌then◌else◌}
+use Rattle.std.specs.Prelude.{ℕ, suc, Bool, false, List, [], ◌∷◌, option_map, if◌then◌else◌}
 use Rattle.mdp_cert.specs.{declared.head.Head.{Head}, declared.version.Version.{Version}, declared.version.Version.TheVariants.{One, Two}}
 use Rattle.mdp_cert.specs.{declared.claim_words.ClaimWords.{ClaimWords}, Cert.{PlainClaim, upper, reach, until, reward, mean, witness, plain_claim}, Runs.{Columns}}
 use Rattle.mdp_cert.specs.Reading.{CertHead}
@@ -12,7 +12,7 @@ said_claim (words.Reach dir label) = reach dir label.now
 said_claim (words.Until dir stay label) = until dir stay.now label.now
 said_claim (words.Reward dir name label) = reward dir name.now label.now
 said_claim (words.Mean dir name) = mean dir name.now
-said_claim (words.Witness dir label threshold) = witness dir label.now threshold
+said_claim (words.Witness dir stay label threshold) = witness dir (option_map (λ name. name.now) stay) label.now threshold
 
 abbrev pub plain_head : Head → CertHead
 plain_head h = record { claim = plain_claim h.claim; states = h.states; init = h.init }

@@ -36,7 +36,7 @@ is_of_bounds (reach dir label) = true
 is_of_bounds (until dir stay label) = true
 is_of_bounds (reward dir name label) = true
 is_of_bounds (mean dir name) = true
-is_of_bounds (witness dir label threshold) = false
+is_of_bounds (witness dir stay label threshold) = false
 
 -- whether the claim's values may be this one: an infinite one only where it is a reward
 abbrev pub may_be : PlainClaim → Option ℚ → Bool

@@ -70,7 +70,7 @@ body_from (reach dir label) states p = entries_to_end Two (ranked_columns fracti
 body_from (until dir stay label) states p = entries_to_end Two (ranked_columns fraction_value) states p >>= λ xs. Ok (reach_body xs.0, xs.1)
 body_from (reward dir name label) states p = entries_to_end Two (ranked_columns reward_value) states p >>= λ xs. Ok (reward_body xs.0, xs.1)
 body_from (mean dir name) states p = mean_from states p
-body_from (witness dir label threshold) states p = refused kind.Claim p.line
+body_from (witness dir stay label threshold) states p = refused kind.Claim p.line
 
 -- ---- the whole
 

@@ -1,5 +1,5 @@
 -- What a certificate says, as a plain record.
-use Rattle.std.specs.Prelude.{ℕ, ◌<◌, ◌≤◌, ◌^◌, pos, Bool, true, false, not, ◌||◌, ◌&&◌, IsTrue, List, [], ◌∷◌, length, nat_lt, int_le, ◌==◌, All, Option, Some, None}
+use Rattle.std.specs.Prelude.{ℕ, ◌<◌, ◌≤◌, ◌^◌, pos, Bool, true, false, not, ◌||◌, ◌&&◌, IsTrue, List, [], ◌∷◌, length, nat_lt, int_le, ◌==◌, All, Option, Some, None, option_map}
 use Rattle.mdp_math.specs.Rational.{ℚ}
 use Rattle.mdp_num.specs.Value.{IsNarrow}
 use Rattle.mdp_rows.specs.{Name.{is_name}, declared.dir.Dir.{Dir}, declared.dir.Dir.TheVariants.{Max, Min}}
@@ -9,14 +9,14 @@ use Rattle.mdp_text.specs.{declared.init.Init.{Init}, declared.init.Init.TheVari
 use Rattle.mdp_cert.specs.declared.body.Body.TheVariants as body
 
 -- a claim and the names in it: a label, the label of the states on the way and a label, a reward model and a label, a reward model, or a label and
--- a threshold
+-- a threshold, and the label of the states on the way where there is one
 pub data PlainClaim : Type 0 where
   upper : List ℕ → PlainClaim
   reach : Dir → List ℕ → PlainClaim
   until : Dir → List ℕ → List ℕ → PlainClaim
   reward : Dir → List ℕ → List ℕ → PlainClaim
   mean : Dir → List ℕ → PlainClaim
-  witness : Dir → List ℕ → ℚ → PlainClaim
+  witness : Dir → Option (List ℕ) → List ℕ → ℚ → PlainClaim
 
 -- one of each per state: upper bounds; values, choices and ranks; values (nothing is infinite), choices and ranks; or gains, bounds, biases
 -- and choices, with the spread of all states. Of a subsystem one of each per kept state: its number, and whether it is kept for want of width;
@@ -42,7 +42,8 @@ are_names (reach dir label) = is_name label
 are_names (until dir stay label) = is_name stay && is_name label
 are_names (reward dir name label) = is_name name && is_name label
 are_names (mean dir name) = is_name name
-are_names (witness dir label threshold) = is_name label
+are_names (witness dir None label threshold) = is_name label
+are_names (witness dir (Some stay) label threshold) = is_name stay && is_name label
 
 -- whether the values of the claim may be infinite
 abbrev pub may_be_infinite : PlainClaim → Bool
@@ -51,7 +52,7 @@ may_be_infinite (reach dir label) = false
 may_be_infinite (until dir stay label) = false
 may_be_infinite (reward dir name label) = true
 may_be_infinite (mean dir name) = false
-may_be_infinite (witness dir label threshold) = false
+may_be_infinite (witness dir stay label threshold) = false
 
 -- whether the claim is one of a subsystem, whose line `init` has no value
 abbrev pub is_witness : PlainClaim → Bool
@@ -60,7 +61,7 @@ is_witness (reach dir label) = false
 is_witness (until dir stay label) = false
 is_witness (reward dir name label) = false
 is_witness (mean dir name) = false
-is_witness (witness dir label threshold) = true
+is_witness (witness dir stay label threshold) = true
 
 abbrev pub is_at_least_zero : ℚ → Bool
 is_at_least_zero x = int_le (pos 0) x.num
@@ -73,7 +74,7 @@ plain_claim (Reach dir label) = reach dir label.items
 plain_claim (Until dir stay label) = until dir stay.items label.items
 plain_claim (Reward dir name label) = reward dir name.items label.items
 plain_claim (Mean dir name) = mean dir name.items
-plain_claim (Witness dir label threshold) = witness dir label.items threshold
+plain_claim (Witness dir stay label threshold) = witness dir (option_map (λ name. name.items) stay) label.items threshold
 
 abbrev pub plain_body : Body → PlainBody
 plain_body (body.Upper c) = bounds c.values.items
@@ -92,7 +93,7 @@ has_threshold (reach dir label) = true
 has_threshold (until dir stay label) = true
 has_threshold (reward dir name label) = true
 has_threshold (mean dir name) = true
-has_threshold (witness dir label threshold) = is_at_least_zero threshold
+has_threshold (witness dir stay label threshold) = is_at_least_zero threshold
 
 -- the initial state is one of the states; it has no value for a subsystem, and an infinite one only where the claim's values may be
 abbrev pub is_init_of : PlainClaim → ℕ → Init → Bool
@@ -129,8 +130,8 @@ is_body_of (until dir stay label) states (policy values choices ranks) = (length
 is_body_of (reward dir name label) states (rewards values choices ranks) = (length values == states) && (length choices == states) && (length ranks == states)
 is_body_of (mean dir name) states (gains gain bound bias choices spread) =
     (length gain == states) && (length bound == states) && (length bias == states) && (length choices == states)
-is_body_of (witness Max label threshold) states (flow kept wide flows) = are_kept states None kept && (length wide == length kept) && are_flows states None flows
-is_body_of (witness Min label threshold) states (floor kept wide values ranks) =
+is_body_of (witness Max stay label threshold) states (flow kept wide flows) = are_kept states None kept && (length wide == length kept) && are_flows states None flows
+is_body_of (witness Min stay label threshold) states (floor kept wide values ranks) =
     are_kept states None kept && (length wide == length kept) && (length values == length kept) && (length ranks == length kept)
 is_body_of claim states body = false
 
@@ -141,7 +142,7 @@ IsClaimInWidth (reach dir label) = Unit {0}
 IsClaimInWidth (until dir stay label) = Unit {0}
 IsClaimInWidth (reward dir name label) = Unit {0}
 IsClaimInWidth (mean dir name) = Unit {0}
-IsClaimInWidth (witness dir label threshold) = IsNarrow threshold
+IsClaimInWidth (witness dir stay label threshold) = IsNarrow threshold
 
 -- a value that is infinite has no width
 abbrev pub IsValueNarrow : Option ℚ → Type 0

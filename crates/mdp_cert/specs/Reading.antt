@@ -83,11 +83,29 @@ witness_front Max = codes "claim max witness \""
 witness_front Min = codes "claim min witness \""
 
 abbrev pub witness_claim : Dir → List ℕ → Option PlainClaim
-witness_claim dir text = option_map (λ said. witness dir said.0 said.1) (option_and_then name_and_threshold (behind (witness_front dir) text))
+witness_claim dir text = option_map (λ said. witness dir None said.0 said.1) (option_and_then name_and_threshold (behind (witness_front dir) text))
+
+-- a name, `" "`, and a name with its threshold; the first name ends at the first `"`
+abbrev pub names_and_threshold : List ℕ → Option (List ℕ × List ℕ × ℚ)
+names_and_threshold text =
+    if is_name (before_first is_quote text)
+    then option_map (λ said. (before_first is_quote text, said.0, said.1)) (option_and_then name_and_threshold (behind (codes "\" \"") (drop (position_or_len is_quote text) text)))
+    else None
+
+abbrev pub witness_until_front : Dir → List ℕ
+witness_until_front Max = codes "claim max witness until \""
+witness_until_front Min = codes "claim min witness until \""
+
+abbrev pub witness_until_claim : Dir → List ℕ → Option PlainClaim
+witness_until_claim dir text = option_map (λ said. witness dir (Some said.0) said.1 said.2) (option_and_then names_and_threshold (behind (witness_until_front dir) text))
+
+-- the claims of a subsystem in a direction
+abbrev pub subsystem_claim : Dir → List ℕ → Option PlainClaim
+subsystem_claim dir text = option_or (witness_claim dir text) (witness_until_claim dir text)
 
 -- the claims of a direction
 unfoldable pub claim_to : Dir → List ℕ → Option PlainClaim
-claim_to dir text = option_or (reach_claim dir text) (option_or (until_claim dir text) (option_or (reward_claim dir text) (option_or (mean_claim dir text) (witness_claim dir text))))
+claim_to dir text = option_or (reach_claim dir text) (option_or (until_claim dir text) (option_or (reward_claim dir text) (option_or (mean_claim dir text) (subsystem_claim dir text))))
 
 unfoldable pub claim_of : List ℕ → Option PlainClaim
 claim_of text = option_or (upper_claim text) (option_or (claim_to Max text) (claim_to Min text))
@@ -230,7 +248,7 @@ body_from v (reach dir label) states p = entries_to_end v (policy_columns fracti
 body_from v (until dir stay label) states p = entries_to_end v (policy_columns fraction_value) states p >>= λ xs. Ok (policy_body xs.0, xs.1)
 body_from v (reward dir name label) states p = entries_to_end v (policy_columns reward_value) states p >>= λ xs. Ok (reward_body xs.0, xs.1)
 body_from v (mean dir name) states p = mean_from v states p
-body_from v (witness dir label threshold) states p = kept_from dir states p
+body_from v (witness dir stay label threshold) states p = kept_from dir states p
 
 -- ---- the whole
 

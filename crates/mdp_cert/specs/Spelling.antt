@@ -1,5 +1,5 @@
 -- The texts of a certificate: one in each version.
-use Rattle.std.specs.{Prelude.{ℕ, ◌+◌, List, [], ◌∷◌, ◌++◌, ◌==◌, decimal, codes, if◌then◌else◌}, List.{join_with_byte}}
+use Rattle.std.specs.{Prelude.{ℕ, ◌+◌, List, [], ◌∷◌, ◌++◌, ◌==◌, decimal, codes, Some, None, if◌then◌else◌}, List.{join_with_byte}}
 use Rattle.mdp_math.specs.Rational.{ℚ}
 use Rattle.mdp_num.specs.Value.{spelling}
 use Rattle.mdp_cert.specs.{declared.version.Version.{Version}, declared.version.Version.TheVariants.{One, Two}}
@@ -20,7 +20,9 @@ claim_text (reach dir label) = codes "claim" ␣ dir_text dir ␣ codes "reach" 
 claim_text (until dir stay label) = codes "claim" ␣ dir_text dir ␣ codes "until" ␣ quoted stay ␣ quoted label
 claim_text (reward dir name label) = codes "claim" ␣ dir_text dir ␣ codes "reward" ␣ quoted name ␣ quoted label
 claim_text (mean dir name) = codes "claim" ␣ dir_text dir ␣ codes "mean" ␣ quoted name
-claim_text (witness dir label threshold) = codes "claim" ␣ dir_text dir ␣ codes "witness" ␣ quoted label ␣ spelling threshold
+claim_text (witness dir None label threshold) = codes "claim" ␣ dir_text dir ␣ codes "witness" ␣ quoted label ␣ spelling threshold
+claim_text (witness dir (Some stay) label threshold) =
+    codes "claim" ␣ dir_text dir ␣ codes "witness" ␣ codes "until" ␣ quoted stay ␣ quoted label ␣ spelling threshold
 
 abbrev pub head_text : Certificate → List ℕ
 head_text c = line (claim_text c.claim) ++ (line (states_text c.states) ++ line (init_text c.init))

@@ -31,9 +31,11 @@ pub enum Claim {
         dir: Dir,
         name: Vec<u8>,
     },
-    /// On the kept states alone the greatest, or the least, probability of reaching the label from the initial state is at least the threshold.
+    /// On the kept states alone the greatest, or the least, probability of reaching the label from the initial state is at least the threshold, by way
+    /// of states with the label `stay` alone where there is one.
     Witness {
         dir: Dir,
+        stay: Option<Vec<u8>>,
         label: Vec<u8>,
         threshold: Frac,
     },

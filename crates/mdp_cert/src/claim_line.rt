@@ -2,6 +2,7 @@ ghost use Rattle.std.specs.Prelude.{◌≡◌, Ok, Some, None, IfOk, MatchResult
 ghost use Rattle.mdp_rows.specs.Name.{is_name};
 ghost use Rattle.mdp_cert.specs.{Cert.{plain_claim}, Reading.{closed_name, name_behind, two_names, upper_claim, reach_front}};
 ghost use Rattle.mdp_cert.specs.Reading.{reach_claim, until_front, until_claim, reward_front, reward_claim, mean_front, mean_claim, threshold_of, name_and_threshold, witness_front, witness_claim, claim_to, claim_of, claim_at};
+ghost use Rattle.mdp_cert.specs.Reading.{names_and_threshold, witness_until_front, witness_until_claim, subsystem_claim};
 ghost use Rattle.mdp_cert.specs.Answer.{said_claim};
 ghost use Rattle.mdp_text.specs.{Words.{behind, name_and_rest}, Answer.{Refuses}};
 
@@ -152,9 +153,52 @@ fn witness_claim(dir: Dir, text: &[u8]) -> Option<ClaimWords<'_>>
     ensures { option_map said_claim result ≡ witness_claim dir text.now }
 {
     match name_and_threshold(text.strip_prefix(witness_front(dir))?) {
-        Some((label, threshold)) => Some(ClaimWords::Witness(dir, label, threshold)),
+        Some((label, threshold)) => Some(ClaimWords::Witness(dir, None, label, threshold)),
         None => None,
     }
+}
+
+/// The name before the first quote, and the name and the threshold behind `" "` there.
+fn names_and_threshold(text: &[u8]) -> Option<(&[u8], &[u8], Frac)>
+    ensures { MatchOption result (names_and_threshold text.now ≡ None) (λ said. names_and_threshold text.now ≡ Some (said.0.now, said.1.now, said.2)) }
+{
+    let (stay, rest) = cut_name(text)?;
+    match name_and_threshold(rest.strip_prefix(b"\" \"")?) {
+        Some((label, threshold)) => Some((stay, label, threshold)),
+        None => None,
+    }
+}
+
+/// What stands before the names in the claim `DIR witness until`.
+pub(crate) fn witness_until_front(dir: Dir) -> &'static [u8]
+    ensures { result.now ≡ witness_until_front dir }
+{
+    match dir {
+        Dir::Max => b"claim max witness until \"",
+        Dir::Min => b"claim min witness until \"",
+    }
+}
+
+/// The claim `DIR witness until` of this line.
+fn witness_until_claim(dir: Dir, text: &[u8]) -> Option<ClaimWords<'_>>
+    ensures { option_map said_claim result ≡ witness_until_claim dir text.now }
+{
+    match names_and_threshold(text.strip_prefix(witness_until_front(dir))?) {
+        Some((stay, label, threshold)) => {
+            Some(ClaimWords::Witness(dir, Some(stay), label, threshold))
+        }
+        None => None,
+    }
+}
+
+/// The claim of a subsystem in this direction.
+fn subsystem_claim(dir: Dir, text: &[u8]) -> Option<ClaimWords<'_>>
+    ensures { option_map said_claim result ≡ subsystem_claim dir text.now }
+{
+    if let Some(claim) = witness_claim(dir, text) {
+        return Some(claim);
+    }
+    witness_until_claim(dir, text)
 }
 
 /// The claim of this direction in this line.
@@ -174,7 +218,7 @@ fn claim_to(dir: Dir, text: &[u8]) -> Option<ClaimWords<'_>>
     if let Some(claim) = mean_claim(dir, text) {
         return Some(claim);
     }
-    witness_claim(dir, text)
+    subsystem_claim(dir, text)
 }
 
 /// The claim of this line, where it has one.
@@ -189,6 +233,16 @@ fn claim_of(text: &[u8]) -> Option<ClaimWords<'_>>
         return Some(claim);
     }
     claim_to(Dir::Min, text)
+}
+
+/// A name that may be there, copied.
+fn owned_name(alloc: Global, name: &Option<&[u8]>) -> Result<Option<Vec<u8>>, AllocError>
+    ensures { IfOk result (λ owned. option_map (λ xs. xs.items) owned ≡ option_map (λ xs. xs.now) name.now) }
+{
+    match name {
+        Some(name) => Ok(Some(Vec::from_slice(alloc, name)?)),
+        None => Ok(None),
+    }
 }
 
 /// The claim that these words say, with its names copied.
@@ -226,10 +280,12 @@ fn owned_claim(alloc: Global, said: &ClaimWords<'_>) -> Result<Claim, AllocError
             let name = Vec::from_slice(alloc, name)?;
             Ok(Claim::Mean { dir: *dir, name })
         }
-        ClaimWords::Witness(dir, label, threshold) => {
+        ClaimWords::Witness(dir, stay, label, threshold) => {
+            let stay = owned_name(alloc, stay)?;
             let label = Vec::from_slice(alloc, label)?;
             Ok(Claim::Witness {
                 dir: *dir,
+                stay,
                 label,
                 threshold: *threshold,
             })

@@ -14,6 +14,6 @@ pub(crate) enum ClaimWords<'a> {
     Reward(Dir, &'a [u8], &'a [u8]),
     /// The mean payoff of the reward of this name.
     Mean(Dir, &'a [u8]),
-    /// A subsystem for this label and threshold.
-    Witness(Dir, &'a [u8], Frac),
+    /// A subsystem for the second label and this threshold, by way of states with the first one where there is one.
+    Witness(Dir, Option<&'a [u8]>, &'a [u8], Frac),
 }

@@ -4,7 +4,9 @@ ghost use Rattle.mdp_cert.specs.{Cert.{plain_claim}, Runs.{run}, Spelling.{claim
 ghost use Rattle.mdp_text.specs.{Spelling.{line}, Answer.{Keeps}};
 
 use crate::claim::Claim;
-use crate::claim_line::{mean_front, reach_front, reward_front, until_front, witness_front};
+use crate::claim_line::{
+    mean_front, reach_front, reward_front, until_front, witness_front, witness_until_front,
+};
 use crate::entries::Entry;
 use mdp_num::{Frac, Memory};
 use mdp_text::Part::{Bytes, Fraction, Whole};
@@ -103,6 +105,31 @@ fn push_threshold<'a>(
     )
 }
 
+/// Appends a line of this front, two names in quotes and a fraction; the front ends with the first quote.
+fn push_two_and_threshold<'a>(
+    out: &mut Vec<u8>,
+    front: &'a [u8],
+    stay: &'a [u8],
+    label: &'a [u8],
+    threshold: &Frac,
+) -> Result<(), Memory>
+    ensures text { OnOk result (out.new.items ≡ out.old.items ++ line (front.now ++ (stay.now ++ 34 ∷ 32 ∷ 34 ∷ (label.now ++ 34 ∷ 32 ∷ spelling threshold.now)))) }
+    ensures front { Keeps out.old.items out.new.items }
+{
+    push_parts(
+        out,
+        &[
+            Bytes(front),
+            Bytes(stay),
+            Bytes(b"\" \""),
+            Bytes(label),
+            Bytes(b"\" "),
+            Fraction(*threshold),
+            Bytes(b"\n"),
+        ],
+    )
+}
+
 /// Appends the line of the claim.
 pub fn push_claim(out: &mut Vec<u8>, claim: &Claim) -> Result<(), Memory>
     ensures text { OnOk result (out.new.items ≡ out.old.items ++ line (claim_text (plain_claim claim.now))) }
@@ -118,9 +145,16 @@ pub fn push_claim(out: &mut Vec<u8>, claim: &Claim) -> Result<(), Memory>
         Claim::Mean { dir, name } => push_quoted(out, mean_front(*dir), name),
         Claim::Witness {
             dir,
+            stay: None,
             label,
             threshold,
         } => push_threshold(out, witness_front(*dir), label, threshold),
+        Claim::Witness {
+            dir,
+            stay: Some(stay),
+            label,
+            threshold,
+        } => push_two_and_threshold(out, witness_until_front(*dir), stay, label, threshold),
     }
 }
 

@@ -1,5 +1,5 @@
 -- A certificate is answered yes exactly where it is accepted, and then its claim is true.
-use Rattle.std.proofs.Common.{◌≡◌, ◌↔◌, ℕ, ◌<◌, Bool, true, false, cond, List, [], length, eqb, eqb-true, eq-eqb, Option, Some, None, refl, sym, ap, ◌∙◌}
+use Rattle.std.proofs.Common.{◌≡◌, ◌↔◌, ℕ, ◌<◌, Bool, true, false, cond, List, [], length, eqb, eqb-true, eq-eqb, Option, Some, None, refl, sym, ap, subst, ◌∙◌}
 use Rattle.std.proofs.{Math.ListN.{replicate}, lemmas.List.{length-map, length-replicate}, lemmas.List.Quantifiers.{position-Some}}
 use Rattle.std.specs.{Str.{bytes_eq}, Option.{option_map}}
 use Rattle.mdp_math.specs.Rational.{ℚ}
@@ -13,14 +13,14 @@ use Rattle.mdp_claims.specs.declared.verdict.Verdict.TheVariants as verdict
 use Rattle.mdp_rows.specs.{declared.dir.Dir.{Dir}, declared.dir.Dir.TheVariants.{Max, Min}}
 use Rattle.mdp_cert.specs.Cert.{PlainClaim, upper, reach, until, reward, mean, witness, PlainBody, bounds, policy, rewards, gains, flow, floor, Certificate, is_body_of}
 use Rattle.mdp_cert.proofs.Growth.{policy-entries, reward-entries, gains-entries}
-use Rattle.mdp_subsystem_rules.specs.{FlowChecks.{flow_checks, HoldsFlow}, FloorChecks.{floor_checks, HoldsFloor}}
+use Rattle.mdp_subsystem_rules.specs.{Flow.{flow_total}, FlowChecks.{flow_checks, HoldsFlow}, FloorChecks.{floor_checks, HoldsFloor}}
 use Rattle.mdp_subsystem_rules.proofs.{FlowRules.{flow_rules, flow_sub_max, flow_within}, FloorRules.{floor_rules, floor_sub_min}}
 use Rattle.mdp_text.specs.declared.init.Init.{Init}
 use Rattle.mdp_spec.proofs.{Subsystem.{sub-states, sub_is_mdp}, Until.{until_max_exact, until_min_exact}}
-use Rattle.mdp_check.specs.Initial.{init_check, start_of}
-use Rattle.mdp_check.specs.Check.{reward_place, labelled_marks, marks_on_way, stay_marks, way_of, goal_marks, answer_of, verdict_by, body_verdict, after_init, at_goals, at_reward, answer_to, valid_by, IsAccepted, bound_by, IsBound}
+use Rattle.mdp_check.specs.Initial.{init_check, start_of, is_subsystem}
+use Rattle.mdp_check.specs.Check.{reward_place, labelled_marks, marks_on_way, stay_marks, way_of, way_by, goal_marks, answer_of, verdict_by, body_verdict, after_init, at_goals, at_reward, answer_to, valid_by, IsAccepted, bound_by, IsBound}
 use Rattle.mdp_check.specs.{declared.answer.Answer.{Answer}, declared.answer.Answer.TheVariants.{Yes, Size}}
-use Rattle.mdp_check.proofs.Shapes.{flow_shape, floor_shape, start_below}
+use Rattle.mdp_check.proofs.{Shapes.{flow_shape, floor_shape, start_below}, Ways.{way_by_states, way_sub_max, way_sub_within, way_sub_min}}
 
 -- ---- one step of the answer after the other
 
@@ -57,18 +57,20 @@ one_mark_each m label goals e = by (place_of label m.labels) e
     by None e = cc e
     by (Some l) e = let is : marks_of m l ≡ goals = cc e in sym (ap (λ (xs : List Bool). length xs) is) ∙ length-map m.states _
 
+-- the same where a way may be named
+mark_each_on_way : (m : Mdp) (label : List ℕ) (o : Option ℕ) (goals : List Bool) → marks_on_way m label o ≡ Some goals → length goals ≡ states_of m
+mark_each_on_way m label None goals e = cc e
+mark_each_on_way m label (Some l) goals e = one_mark_each m label goals e
+
 pub goals_count : (m : Mdp) (claim : PlainClaim) (goals : List Bool) → goal_marks m claim ≡ Some goals → length goals ≡ states_of m
 goals_count m (upper label) goals e = one_mark_each m label goals e
 goals_count m (reach dir label) goals e = one_mark_each m label goals e
-goals_count m (until dir stay label) goals e = on_way (place_of stay m.labels) e
-  where
-    on_way : (o : Option ℕ) → marks_on_way m label o ≡ Some goals → length goals ≡ states_of m
-    on_way None e = cc e
-    on_way (Some l) e = one_mark_each m label goals e
+goals_count m (until dir stay label) goals e = mark_each_on_way m label (place_of stay m.labels) goals e
 goals_count m (reward dir name label) goals e = one_mark_each m label goals e
 goals_count m (mean dir name) goals e =
     let is : replicate (states_of m) false ≡ goals = cc e in sym (ap (λ (xs : List Bool). length xs) is) ∙ length-replicate (states_of m) false
-goals_count m (witness dir label t) goals e = one_mark_each m label goals e
+goals_count m (witness dir None label t) goals e = one_mark_each m label goals e
+goals_count m (witness dir (Some stay) label t) goals e = mark_each_on_way m label (place_of stay m.labels) goals e
 
 module _ (m : Mdp) (r : ℕ) (goals : List Bool) (init : Init) (states : ℕ) (size : states ≡ states_of m) where
   abbrev start : ℕ
@@ -118,20 +120,32 @@ module _ (m : Mdp) (r : ℕ) (goals : List Bool) (init : Init) (states : ℕ) (s
       mean_rules m r g bound bias k choices dir (mean_verdict dir g bound bias choices k) (below_names name m.names r named) (entries.bounds ∙ size) (entries.biases ∙ size)
       (entries.choices ∙ size) refl
 
-  flow_rules_of : (label : List ℕ) (t : ℚ) (kept : List ℕ) (wide : List Bool) (flows : List Flow) → is_body_of (witness Max label t) states (flow kept wide flows) ≡ true
-      → init_check init (initial_of m) (flow kept wide flows) ≡ verdict.Yes
-      → (verdict_of (flow_checks m goals start t kept flows) ≡ verdict.Yes) ↔ HoldsFlow m goals start t kept flows
-  flow_rules_of label t kept wide flows fits rule1 =
-      flow_rules m goals start t kept wide flows (start_below m init (flow kept wide flows) refl rule1) (flow_shape m states kept wide flows size fits)
-      (verdict_of (flow_checks m goals start t kept flows)) refl
+  -- as many states there, and so on the way
+  size_by : (stay : Option (List ℕ)) → states ≡ states_of (way_by m goals stay)
+  size_by stay = size ∙ sym (way_by_states m goals stay)
 
-  floor_rules_of : (label : List ℕ) (t : ℚ) (kept : List ℕ) (wide : List Bool) (values : List ℚ) (ranks : List ℕ) → labelled_marks m label ≡ Some goals
-      → is_body_of (witness Min label t) states (floor kept wide values ranks) ≡ true → init_check init (initial_of m) (floor kept wide values ranks) ≡ verdict.Yes
-      → (verdict_of (floor_checks m goals start t kept values ranks) ≡ verdict.Yes) ↔ HoldsFloor m goals start t kept values ranks
-  floor_rules_of label t kept wide values ranks marked fits rule1 =
-      floor_rules m goals start t kept wide values ranks (one_mark_each m label goals marked) (start_below m init (floor kept wide values ranks) refl rule1)
-      (floor_shape m states kept wide values ranks size fits)
-      (verdict_of (floor_checks m goals start t kept values ranks)) refl
+  start_by : (stay : Option (List ℕ)) (body : PlainBody) → is_subsystem body ≡ true → init_check init (initial_of m) body ≡ verdict.Yes → start < states_of (way_by m goals stay)
+  start_by stay body sub rule1 = subst (λ (n : ℕ). start < n) (sym (way_by_states m goals stay)) (start_below m init body sub rule1)
+
+  marks_by : (stay : Option (List ℕ)) → length goals ≡ states_of m → length goals ≡ states_of (way_by m goals stay)
+  marks_by stay each = each ∙ sym (way_by_states m goals stay)
+
+  flow_rules_of : (stay : Option (List ℕ)) (label : List ℕ) (t : ℚ) (kept : List ℕ) (wide : List Bool) (flows : List Flow)
+      → is_body_of (witness Max stay label t) states (flow kept wide flows) ≡ true → init_check init (initial_of m) (flow kept wide flows) ≡ verdict.Yes
+      → (verdict_of (flow_checks (way_by m goals stay) goals start t kept flows) ≡ verdict.Yes) ↔ HoldsFlow (way_by m goals stay) goals start t kept flows
+  flow_rules_of stay label t kept wide flows fits rule1 =
+      let way : Mdp = way_by m goals stay in
+      flow_rules way goals start t kept wide flows (start_by stay (flow kept wide flows) refl rule1) (flow_shape way states kept wide flows (size_by stay) fits)
+      (verdict_of (flow_checks way goals start t kept flows)) refl
+
+  floor_rules_of : (stay : Option (List ℕ)) (label : List ℕ) (t : ℚ) (kept : List ℕ) (wide : List Bool) (values : List ℚ) (ranks : List ℕ) → length goals ≡ states_of m
+      → is_body_of (witness Min stay label t) states (floor kept wide values ranks) ≡ true → init_check init (initial_of m) (floor kept wide values ranks) ≡ verdict.Yes
+      → (verdict_of (floor_checks (way_by m goals stay) goals start t kept values ranks) ≡ verdict.Yes) ↔ HoldsFloor (way_by m goals stay) goals start t kept values ranks
+  floor_rules_of stay label t kept wide values ranks each fits rule1 =
+      let way : Mdp = way_by m goals stay in
+      floor_rules way goals start t kept wide values ranks (marks_by stay each) (start_by stay (floor kept wide values ranks) refl rule1)
+      (floor_shape way states kept wide values ranks (size_by stay) fits)
+      (verdict_of (floor_checks way goals start t kept values ranks)) refl
 
   body_rules : (claim : PlainClaim) (body : PlainBody) → reward_place m claim ≡ Some r → goal_marks m claim ≡ Some goals → is_body_of claim states body ≡ true
       → init_check init (initial_of m) body ≡ verdict.Yes → (verdict_by m r goals start claim body ≡ verdict.Yes) ↔ valid_by m r goals start claim body
@@ -165,18 +179,19 @@ module _ (m : Mdp) (r : ℕ) (goals : List Bool) (init : Init) (states : ℕ) (s
   body_rules (mean dir name) (gains g bound bias choices k) named marked fits rule1 = mean_rules_of dir name g bound bias choices k named fits
   body_rules (mean dir name) (flow kept wide flows) named marked fits rule1 = absurd (let t = fits in cc)
   body_rules (mean dir name) (floor kept wide values ranks) named marked fits rule1 = absurd (let t = fits in cc)
-  body_rules (witness Max label t) (bounds z) named marked fits rule1 = absurd (let t = fits in cc)
-  body_rules (witness Max label t) (policy z choices ranks) named marked fits rule1 = absurd (let t = fits in cc)
-  body_rules (witness Max label t) (rewards v choices ranks) named marked fits rule1 = absurd (let t = fits in cc)
-  body_rules (witness Max label t) (gains g bound bias choices k) named marked fits rule1 = absurd (let t = fits in cc)
-  body_rules (witness Max label t) (flow kept wide flows) named marked fits rule1 = flow_rules_of label t kept wide flows fits rule1
-  body_rules (witness Max label t) (floor kept wide values ranks) named marked fits rule1 = absurd (let t = fits in cc)
-  body_rules (witness Min label t) (bounds z) named marked fits rule1 = absurd (let t = fits in cc)
-  body_rules (witness Min label t) (policy z choices ranks) named marked fits rule1 = absurd (let t = fits in cc)
-  body_rules (witness Min label t) (rewards v choices ranks) named marked fits rule1 = absurd (let t = fits in cc)
-  body_rules (witness Min label t) (gains g bound bias choices k) named marked fits rule1 = absurd (let t = fits in cc)
-  body_rules (witness Min label t) (flow kept wide flows) named marked fits rule1 = absurd (let t = fits in cc)
-  body_rules (witness Min label t) (floor kept wide values ranks) named marked fits rule1 = floor_rules_of label t kept wide values ranks marked fits rule1
+  body_rules (witness Max stay label t) (bounds z) named marked fits rule1 = absurd (let t = fits in cc)
+  body_rules (witness Max stay label t) (policy z choices ranks) named marked fits rule1 = absurd (let t = fits in cc)
+  body_rules (witness Max stay label t) (rewards v choices ranks) named marked fits rule1 = absurd (let t = fits in cc)
+  body_rules (witness Max stay label t) (gains g bound bias choices k) named marked fits rule1 = absurd (let t = fits in cc)
+  body_rules (witness Max stay label t) (flow kept wide flows) named marked fits rule1 = flow_rules_of stay label t kept wide flows fits rule1
+  body_rules (witness Max stay label t) (floor kept wide values ranks) named marked fits rule1 = absurd (let t = fits in cc)
+  body_rules (witness Min stay label t) (bounds z) named marked fits rule1 = absurd (let t = fits in cc)
+  body_rules (witness Min stay label t) (policy z choices ranks) named marked fits rule1 = absurd (let t = fits in cc)
+  body_rules (witness Min stay label t) (rewards v choices ranks) named marked fits rule1 = absurd (let t = fits in cc)
+  body_rules (witness Min stay label t) (gains g bound bias choices k) named marked fits rule1 = absurd (let t = fits in cc)
+  body_rules (witness Min stay label t) (flow kept wide flows) named marked fits rule1 = absurd (let t = fits in cc)
+  body_rules (witness Min stay label t) (floor kept wide values ranks) named marked fits rule1 =
+      floor_rules_of stay label t kept wide values ranks (goals_count m (witness Min stay label t) goals marked) fits rule1
 
   reach_bound : (dir : Dir) (label : List ℕ) (z : List ℚ) (choices ranks : List ℕ) → IsMdp m → is_body_of (reach dir label) states (policy z choices ranks) ≡ true
       → reach_verdict dir z choices ranks ≡ verdict.Yes → bound_by m r goals start (reach dir label) (policy z choices ranks)
@@ -220,25 +235,42 @@ module _ (m : Mdp) (r : ℕ) (goals : List Bool) (init : Init) (states : ℕ) (s
       (mean_min m r g bound bias k choices Min (mean_verdict Min g bound bias choices k) (below_names name m.names r named) (entries.bounds ∙ size) (entries.biases ∙ size)
       (entries.choices ∙ size) refl is refl) e
 
-  flow_bound : (label : List ℕ) (t : ℚ) (kept : List ℕ) (wide : List Bool) (flows : List Flow) → IsMdp m → is_body_of (witness Max label t) states (flow kept wide flows) ≡ true
-      → init_check init (initial_of m) (flow kept wide flows) ≡ verdict.Yes → verdict_of (flow_checks m goals start t kept flows) ≡ verdict.Yes
-      → bound_by m r goals start (witness Max label t) (flow kept wide flows)
-  flow_bound label t kept wide flows is fits rule1 e =
+  flow_bound : (stay : Option (List ℕ)) (label : List ℕ) (t : ℚ) (kept : List ℕ) (wide : List Bool) (flows : List Flow) → IsMdp m
+      → is_body_of (witness Max stay label t) states (flow kept wide flows) ≡ true → init_check init (initial_of m) (flow kept wide flows) ≡ verdict.Yes
+      → verdict_of (flow_checks (way_by m goals stay) goals start t kept flows) ≡ verdict.Yes → bound_by m r goals start (witness Max stay label t) (flow kept wide flows)
+  flow_bound None label t kept wide flows is fits rule1 e =
       let v = verdict_of (flow_checks m goals start t kept flows) in
       let inside = start_below m init (flow kept wide flows) refl rule1 in
       let shape = flow_shape m states kept wide flows size fits in (
         of_if_yes _ _ (flow_sub_max m goals start t kept wide flows inside shape v is refl) e,
         of_if_yes _ _ (flow_within m goals start t kept wide flows inside shape v is refl) e,
       )
+  flow_bound (Some stay) label t kept wide flows is fits rule1 e =
+      let way : Mdp = way_of m goals stay in
+      let known : IsMdp way = sub_is_mdp m goals (stay_marks m stay) is in
+      let v = verdict_of (flow_checks way goals start t kept flows) in
+      let inside = start_by (Some stay) (flow kept wide flows) refl rule1 in
+      let shape = flow_shape way states kept wide flows (size_by (Some stay)) fits in (
+        way_sub_max m goals stay kept start t is (of_if_yes _ _ (flow_sub_max way goals start t kept wide flows inside shape v known refl) e),
+        way_sub_within m goals stay kept start t is (flow_total flows) (of_if_yes _ _ (flow_within way goals start t kept wide flows inside shape v known refl) e),
+      )
 
-  floor_bound : (label : List ℕ) (t : ℚ) (kept : List ℕ) (wide : List Bool) (values : List ℚ) (ranks : List ℕ) → IsMdp m → labelled_marks m label ≡ Some goals
-      → is_body_of (witness Min label t) states (floor kept wide values ranks) ≡ true → init_check init (initial_of m) (floor kept wide values ranks) ≡ verdict.Yes
-      → verdict_of (floor_checks m goals start t kept values ranks) ≡ verdict.Yes → bound_by m r goals start (witness Min label t) (floor kept wide values ranks)
-  floor_bound label t kept wide values ranks is marked fits rule1 e =
+  floor_bound : (stay : Option (List ℕ)) (label : List ℕ) (t : ℚ) (kept : List ℕ) (wide : List Bool) (values : List ℚ) (ranks : List ℕ) → IsMdp m → length goals ≡ states_of m
+      → is_body_of (witness Min stay label t) states (floor kept wide values ranks) ≡ true → init_check init (initial_of m) (floor kept wide values ranks) ≡ verdict.Yes
+      → verdict_of (floor_checks (way_by m goals stay) goals start t kept values ranks) ≡ verdict.Yes
+      → bound_by m r goals start (witness Min stay label t) (floor kept wide values ranks)
+  floor_bound None label t kept wide values ranks is each fits rule1 e =
       of_if_yes _ _
-      (floor_sub_min m goals start t kept wide values ranks (one_mark_each m label goals marked) (start_below m init (floor kept wide values ranks) refl rule1)
+      (floor_sub_min m goals start t kept wide values ranks each (start_below m init (floor kept wide values ranks) refl rule1)
       (floor_shape m states kept wide values ranks size fits)
       (verdict_of (floor_checks m goals start t kept values ranks)) is refl) e
+  floor_bound (Some stay) label t kept wide values ranks is each fits rule1 e =
+      let way : Mdp = way_of m goals stay in
+      way_sub_min m goals stay kept start t is
+      (of_if_yes _ _
+      (floor_sub_min way goals start t kept wide values ranks (marks_by (Some stay) each) (start_by (Some stay) (floor kept wide values ranks) refl rule1)
+      (floor_shape way states kept wide values ranks (size_by (Some stay)) fits)
+      (verdict_of (floor_checks way goals start t kept values ranks)) (sub_is_mdp m goals (stay_marks m stay) is) refl) e)
 
   body_bound : (claim : PlainClaim) (body : PlainBody) → IsMdp m → reward_place m claim ≡ Some r → goal_marks m claim ≡ Some goals → is_body_of claim states body ≡ true
       → init_check init (initial_of m) body ≡ verdict.Yes
@@ -273,18 +305,19 @@ module _ (m : Mdp) (r : ℕ) (goals : List Bool) (init : Init) (states : ℕ) (s
   body_bound (mean dir name) (gains g bound bias choices k) is named marked fits rule1 e = mean_bound dir name g bound bias choices k is named fits e
   body_bound (mean dir name) (flow kept wide flows) is named marked fits rule1 e = absurd (let t = fits in cc)
   body_bound (mean dir name) (floor kept wide values ranks) is named marked fits rule1 e = absurd (let t = fits in cc)
-  body_bound (witness Max label t) (bounds z) is named marked fits rule1 e = absurd (let t = fits in cc)
-  body_bound (witness Max label t) (policy z choices ranks) is named marked fits rule1 e = absurd (let t = fits in cc)
-  body_bound (witness Max label t) (rewards v choices ranks) is named marked fits rule1 e = absurd (let t = fits in cc)
-  body_bound (witness Max label t) (gains g bound bias choices k) is named marked fits rule1 e = absurd (let t = fits in cc)
-  body_bound (witness Max label t) (flow kept wide flows) is named marked fits rule1 e = flow_bound label t kept wide flows is fits rule1 e
-  body_bound (witness Max label t) (floor kept wide values ranks) is named marked fits rule1 e = absurd (let t = fits in cc)
-  body_bound (witness Min label t) (bounds z) is named marked fits rule1 e = absurd (let t = fits in cc)
-  body_bound (witness Min label t) (policy z choices ranks) is named marked fits rule1 e = absurd (let t = fits in cc)
-  body_bound (witness Min label t) (rewards v choices ranks) is named marked fits rule1 e = absurd (let t = fits in cc)
-  body_bound (witness Min label t) (gains g bound bias choices k) is named marked fits rule1 e = absurd (let t = fits in cc)
-  body_bound (witness Min label t) (flow kept wide flows) is named marked fits rule1 e = absurd (let t = fits in cc)
-  body_bound (witness Min label t) (floor kept wide values ranks) is named marked fits rule1 e = floor_bound label t kept wide values ranks is marked fits rule1 e
+  body_bound (witness Max stay label t) (bounds z) is named marked fits rule1 e = absurd (let t = fits in cc)
+  body_bound (witness Max stay label t) (policy z choices ranks) is named marked fits rule1 e = absurd (let t = fits in cc)
+  body_bound (witness Max stay label t) (rewards v choices ranks) is named marked fits rule1 e = absurd (let t = fits in cc)
+  body_bound (witness Max stay label t) (gains g bound bias choices k) is named marked fits rule1 e = absurd (let t = fits in cc)
+  body_bound (witness Max stay label t) (flow kept wide flows) is named marked fits rule1 e = flow_bound stay label t kept wide flows is fits rule1 e
+  body_bound (witness Max stay label t) (floor kept wide values ranks) is named marked fits rule1 e = absurd (let t = fits in cc)
+  body_bound (witness Min stay label t) (bounds z) is named marked fits rule1 e = absurd (let t = fits in cc)
+  body_bound (witness Min stay label t) (policy z choices ranks) is named marked fits rule1 e = absurd (let t = fits in cc)
+  body_bound (witness Min stay label t) (rewards v choices ranks) is named marked fits rule1 e = absurd (let t = fits in cc)
+  body_bound (witness Min stay label t) (gains g bound bias choices k) is named marked fits rule1 e = absurd (let t = fits in cc)
+  body_bound (witness Min stay label t) (flow kept wide flows) is named marked fits rule1 e = absurd (let t = fits in cc)
+  body_bound (witness Min stay label t) (floor kept wide values ranks) is named marked fits rule1 e =
+      floor_bound stay label t kept wide values ranks is (goals_count m (witness Min stay label t) goals marked) fits rule1 e
 
 -- a verdict of yes is one on a body that fits
 pub by_body : (fits : Bool) (v : Verdict) → cond fits v (init_fault None) ≡ verdict.Yes → (fits ≡ true) × (v ≡ verdict.Yes)

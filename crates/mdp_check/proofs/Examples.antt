@@ -9,7 +9,7 @@ use Rattle.mdp_spec.specs.{Mdp.{Entry, Choice, Mdp}, Sub.{sub_of}}
 use Rattle.mdp_spec.proofs.Small.{entry, half, nought, one, third}
 use Rattle.mdp_rows.specs.{declared.dir.Dir.{Dir}, declared.dir.Dir.TheVariants.{Max, Min}}
 use Rattle.mdp_text.specs.{declared.init.Init.{Init}, declared.init.Init.TheVariants.{Missing, Finite, Infinite, Start}}
-use Rattle.mdp_cert.specs.Cert.{upper, reach, until, reward, mean, witness, bounds, policy, rewards, gains, flow, floor, Certificate}
+use Rattle.mdp_cert.specs.Cert.{PlainClaim, upper, reach, until, reward, mean, witness, bounds, policy, rewards, gains, flow, floor, Certificate}
 use Rattle.mdp_check.specs.{Check.{answer_to}, declared.answer.Answer.TheVariants.{Yes, No, NoReward, NoLabel, Size}}
 use Rattle.mdp_claims.specs.declared.rule.Rule.TheVariants.{BoundOnEachChoice, ChoiceExists, FiniteRankFalls, FlowsReachGoals, InitialState, RankFalls}
 use Rattle.mdp_claims.specs.declared.rule.Rule.TheVariants.{StartReachesThreshold}
@@ -185,7 +185,7 @@ bound_answers = refl
 -- all that comes to state 0 takes this choice of it
 abbrev one_flow : ℕ → List ℕ → Init → ℕ → ℚ → Certificate
 one_flow states label init choice t =
-    record { claim = witness Max label t; states = states; init = init; body = flow (0 ∷ []) (false ∷ []) (record { state = 0; choice = choice; amount = one } ∷ []) }
+    record { claim = witness Max None label t; states = states; init = init; body = flow (0 ∷ []) (false ∷ []) (record { state = 0; choice = choice; amount = one } ∷ []) }
 
 flow_answers : AreEqual (
     -- choice 1 brings a third of it to the goal
@@ -213,7 +213,7 @@ flow_without_init = refl
 -- the loop at state 0 keeps a policy from the goal, so no floor above 0 falls in rank there
 abbrev one_floor : ℚ → ℕ → ℚ → Certificate
 one_floor value rank t =
-    record { claim = witness Min (codes "goal") t; states = 3; init = Start 0; body = floor (0 ∷ []) (false ∷ []) (value ∷ []) (rank ∷ []) }
+    record { claim = witness Min None (codes "goal") t; states = 3; init = Start 0; body = floor (0 ∷ []) (false ∷ []) (value ∷ []) (rank ∷ []) }
 
 floor_answers : AreEqual (
     (answer_to three (one_floor nought 0 nought), Yes) ∷  -- floor zero
@@ -223,3 +223,26 @@ floor_answers : AreEqual (
     )
 unfolding gcd gcd_with_fuel ratio of_int lt_ℚ ◌+ℚ◌ ◌*ℚ◌ narrow narrow_ℚ written_add written_mul written_compare
 floor_answers = refl
+
+-- ---- the same by way of states with a label: where state 0 hasn't it, it is left with a loop
+
+abbrev by_way_of : List ℕ → Certificate → Certificate
+by_way_of stay c = record c { claim = by c.claim }
+  where
+    by : PlainClaim → PlainClaim
+    by (witness dir other label t) = witness dir (Some stay) label t
+    by claim = claim
+
+until_subsystems : AreEqual (
+    (answer_to three (by_way_of (codes "init") (one_flow 3 (codes "goal") (Start 0) 1 third)), Yes) ∷  -- by way of state 0
+    (answer_to three (by_way_of (codes "init") (one_flow 3 (codes "goal") (Start 0) 1 half)), No (record { rule = FlowsReachGoals; state = None; choice = None })) ∷  -- and no half
+    -- by way of the goal alone state 0 has no choice 1
+    (answer_to three (by_way_of (codes "goal") (one_flow 3 (codes "goal") (Start 0) 1 third)), No (record { rule = ChoiceExists; state = Some 0; choice = Some 1 })) ∷
+    (answer_to three (by_way_of (codes "safe") (one_flow 3 (codes "goal") (Start 0) 1 third)), NoLabel) ∷  -- no label on the way
+    (answer_to three (by_way_of (codes "init") (one_flow 3 (codes "done") (Start 0) 1 third)), NoLabel) ∷  -- no label at its end
+    (answer_to three (by_way_of (codes "init") (one_floor nought 0 nought)), Yes) ∷  -- floor zero
+    (answer_to three (by_way_of (codes "goal") (one_floor third 1 third)), No (record { rule = RankFalls; state = Some 0; choice = Some 0 })) ∷  -- floor third
+    []
+    )
+unfolding gcd gcd_with_fuel ratio of_int lt_ℚ ◌+ℚ◌ ◌*ℚ◌ narrow narrow_ℚ written_add written_mul written_compare sub_of
+until_subsystems = refl

@@ -137,8 +137,8 @@ start_below m (Infinite s) body sub e = absurd (both (has_value body s None) (st
 start_below m (Start s) body sub e = initial_below m s (state_yes s (initial_of m) (is_subsystem body) e).0
 
 -- and so does that of a certificate that has a text
-pub start_inside : (dir : Dir) (label : List ℕ) (t : ℚ) (states : ℕ) (init : Init) → is_init_of (witness dir label t) states init ≡ true → start_of init < states
-start_inside dir label t states Missing e = absurd (let u = e in cc)
-start_inside dir label t states (Finite s x) e = absurd (let u = e in cc)
-start_inside dir label t states (Infinite s) e = absurd (let u = e in cc)
-start_inside dir label t states (Start s) e = below s states e
+pub start_inside : (dir : Dir) (stay : Option (List ℕ)) (label : List ℕ) (t : ℚ) (states : ℕ) (init : Init) → is_init_of (witness dir stay label t) states init ≡ true → start_of init < states
+start_inside dir stay label t states Missing e = absurd (let u = e in cc)
+start_inside dir stay label t states (Finite s x) e = absurd (let u = e in cc)
+start_inside dir stay label t states (Infinite s) e = absurd (let u = e in cc)
+start_inside dir stay label t states (Start s) e = below s states e

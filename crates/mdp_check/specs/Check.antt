@@ -9,6 +9,7 @@ use Rattle.mdp_cert.specs.Cert.{PlainClaim, upper, reach, until, reward, mean, w
 use Rattle.mdp_farkas.specs.{Upper.{upper_checks, IsUpper}, Reach.{reach_checks, IsReach}, Reward.{reward_checks, IsReward}, Mean.{mean_checks, IsMean}}
 use Rattle.mdp_farkas.specs.{Verdict.{verdict_of}, Initial.{init_fault}}
 use Rattle.mdp_subsystem_rules.specs.{Flow.{flow_total}, Kept.{kept_marks}, FlowChecks.{flow_checks, HoldsFlow}, FloorChecks.{floor_checks, HoldsFloor}}
+use Rattle.mdp_subsystem_rules.specs.Until.{SubUntilMax, SubUntilMaxWithin, SubUntilMin}
 use Rattle.mdp_claims.specs.declared.verdict.Verdict.{Verdict}
 use Rattle.mdp_claims.specs.declared.verdict.Verdict.TheVariants as verdict
 use Rattle.mdp_check.specs.{Initial.{init_check, start_of}, declared.answer.Answer.{Answer}}
@@ -23,7 +24,7 @@ reward_place m (reach dir label) = Some 0
 reward_place m (until dir stay label) = Some 0
 reward_place m (reward dir name label) = place_of name m.names
 reward_place m (mean dir name) = place_of name m.names
-reward_place m (witness dir label threshold) = Some 0
+reward_place m (witness dir stay label threshold) = Some 0
 
 -- which states have this label, where the model has it
 abbrev pub labelled_marks : Mdp → List ℕ → Option (List Bool)
@@ -46,6 +47,11 @@ stay_marks m stay = stays_at m (place_of stay m.labels)
 abbrev pub way_of : Mdp → List Bool → List ℕ → Mdp
 way_of m goals stay = sub_of m goals (stay_marks m stay)
 
+-- the same where no way may be named: then it is the model
+abbrev pub way_by : Mdp → List Bool → Option (List ℕ) → Mdp
+way_by m goals None = m
+way_by m goals (Some stay) = way_of m goals stay
+
 -- the goals: which states have the claim's label; no state where the claim names none
 abbrev pub goal_marks : Mdp → PlainClaim → Option (List Bool)
 goal_marks m (upper label) = labelled_marks m label
@@ -53,7 +59,8 @@ goal_marks m (reach dir label) = labelled_marks m label
 goal_marks m (until dir stay label) = marks_on_way m label (place_of stay m.labels)
 goal_marks m (reward dir name label) = labelled_marks m label
 goal_marks m (mean dir name) = Some (replicate (states_of m) false)
-goal_marks m (witness dir label threshold) = labelled_marks m label
+goal_marks m (witness dir None label threshold) = labelled_marks m label
+goal_marks m (witness dir (Some stay) label threshold) = marks_on_way m label (place_of stay m.labels)
 
 -- ---- the answer
 
@@ -70,8 +77,8 @@ verdict_by m r goals start (reach dir label) (policy z choices ranks) = verdict_
 verdict_by m r goals start (until dir stay label) (policy z choices ranks) = verdict_of (reach_checks dir (way_of m goals stay) goals z choices ranks)
 verdict_by m r goals start (reward dir name label) (rewards v choices ranks) = verdict_of (reward_checks dir m r goals v choices ranks)
 verdict_by m r goals start (mean dir name) (gains g bound bias choices spread) = verdict_of (mean_checks dir m r g bound bias spread choices)
-verdict_by m r goals start (witness Max label t) (flow kept wide flows) = verdict_of (flow_checks m goals start t kept flows)
-verdict_by m r goals start (witness Min label t) (floor kept wide values ranks) = verdict_of (floor_checks m goals start t kept values ranks)
+verdict_by m r goals start (witness Max stay label t) (flow kept wide flows) = verdict_of (flow_checks (way_by m goals stay) goals start t kept flows)
+verdict_by m r goals start (witness Min stay label t) (floor kept wide values ranks) = verdict_of (floor_checks (way_by m goals stay) goals start t kept values ranks)
 verdict_by m r goals start claim body = init_fault None
 
 -- a body that isn't the claim's, or that hasn't an entry per state, stands in no certificate; it would be refused
@@ -104,8 +111,8 @@ valid_by m r goals start (reach dir label) (policy z choices ranks) = IsReach di
 valid_by m r goals start (until dir stay label) (policy z choices ranks) = IsReach dir (way_of m goals stay) goals z choices ranks
 valid_by m r goals start (reward dir name label) (rewards v choices ranks) = IsReward dir m r goals v choices ranks
 valid_by m r goals start (mean dir name) (gains g bound bias choices spread) = IsMean dir m r g bound bias spread choices
-valid_by m r goals start (witness Max label t) (flow kept wide flows) = HoldsFlow m goals start t kept flows
-valid_by m r goals start (witness Min label t) (floor kept wide values ranks) = HoldsFloor m goals start t kept values ranks
+valid_by m r goals start (witness Max stay label t) (flow kept wide flows) = HoldsFlow (way_by m goals stay) goals start t kept flows
+valid_by m r goals start (witness Min stay label t) (floor kept wide values ranks) = HoldsFloor (way_by m goals stay) goals start t kept values ranks
 valid_by m r goals start claim body = ⊥
 
 abbrev pub IsValidBody : Mdp → ℕ → List Bool → Certificate → Type 0
@@ -126,7 +133,8 @@ pub record IsAccepted (m : Mdp) (c : Certificate) : Type 0 where
 -- the claim, for the reward model of place r and these goals: for upper bounds, that no strategy tree passes them; for a direction, that the
 -- values are the greatest, or the least, probabilities of reaching a goal, also by way of some states alone, or rewards until a goal, and the policy comes close to them; that
 -- the gains are the greatest, or the least, mean payoffs to within the spread; or that on the kept states alone some strategy tree from the
--- initial state, or each deep one, comes close to the threshold or over it, some at a depth that the sum of the flows bounds
+-- initial state, or each deep one, comes close to the threshold or over it, some at a depth that the sum of the flows bounds, also by way of some
+-- states alone
 abbrev pub bound_by : Mdp → ℕ → List Bool → ℕ → PlainClaim → PlainBody → Type 0
 bound_by m r goals start (upper label) (bounds z) = Above m goals z
 bound_by m r goals start (reach Max label) (policy z choices ranks) = ReachMax m goals z choices
@@ -137,9 +145,13 @@ bound_by m r goals start (reward Max name label) (rewards v choices ranks) = Rew
 bound_by m r goals start (reward Min name label) (rewards v choices ranks) = RewardMin m r goals choices v
 bound_by m r goals start (mean Max name) (gains g bound bias choices spread) = MeanMax m r g spread choices
 bound_by m r goals start (mean Min name) (gains g bound bias choices spread) = MeanMin m r g spread choices
-bound_by m r goals start (witness Max label t) (flow kept wide flows) =
+bound_by m r goals start (witness Max None label t) (flow kept wide flows) =
     SubMax m goals (kept_marks (states_of m) kept) start t × SubMaxWithin m goals (kept_marks (states_of m) kept) start t (flow_total flows)
-bound_by m r goals start (witness Min label t) (floor kept wide values ranks) = SubMin m goals (kept_marks (states_of m) kept) start t
+bound_by m r goals start (witness Max (Some stay) label t) (flow kept wide flows) =
+    SubUntilMax m (stay_marks m stay) goals (kept_marks (states_of m) kept) start t
+    × SubUntilMaxWithin m (stay_marks m stay) goals (kept_marks (states_of m) kept) start t (flow_total flows)
+bound_by m r goals start (witness Min None label t) (floor kept wide values ranks) = SubMin m goals (kept_marks (states_of m) kept) start t
+bound_by m r goals start (witness Min (Some stay) label t) (floor kept wide values ranks) = SubUntilMin m (stay_marks m stay) goals (kept_marks (states_of m) kept) start t
 bound_by m r goals start claim body = ⊥
 
 abbrev pub BoundOf : Mdp → ℕ → List Bool → Certificate → Type 0

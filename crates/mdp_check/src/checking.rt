@@ -6,7 +6,7 @@ ghost use Rattle.mdp_check.specs.Check.{reward_place, goal_marks, answer_to, bod
 
 use crate::answer::{Answer, answer_of};
 use crate::initial::{init_verdict, start_of};
-use crate::until::until_verdict;
+use crate::until::{until_floor_verdict, until_flow_verdict, until_verdict};
 use mdp_cert::{Body, Cert, Claim};
 use mdp_farkas::{Verdict, holds_mean, holds_reach, holds_reward, holds_upper, init_denied};
 use mdp_num::Memory;
@@ -44,7 +44,19 @@ pub(crate) fn goal_marks(
             label
         }
         Claim::Reward { label, .. } => label,
-        Claim::Witness { label, .. } => label,
+        Claim::Witness {
+            stay: None, label, ..
+        } => label,
+        Claim::Witness {
+            stay: Some(stay),
+            label,
+            ..
+        } => {
+            if model.label(stay).is_none() {
+                return Ok(None);
+            }
+            label
+        }
         Claim::Mean { .. } => return Ok(Some(Marks::empty(alloc, model.states())?)),
     };
     match model.label(label) {
@@ -84,6 +96,7 @@ fn body_verdict(
         (
             Claim::Witness {
                 dir: Dir::Max,
+                stay: None,
                 threshold,
                 ..
             },
@@ -94,12 +107,31 @@ fn body_verdict(
         }
         (
             Claim::Witness {
+                dir: Dir::Max,
+                stay: Some(stay),
+                threshold,
+                ..
+            },
+            Body::Flow(flow),
+        ) => until_flow_verdict(alloc, model, goals, start, stay, *threshold, flow),
+        (
+            Claim::Witness {
                 dir: Dir::Min,
+                stay: None,
                 threshold,
                 ..
             },
             Body::Floor(floor),
         ) => Ok(holds_floor(model, goals, start, *threshold, floor)),
+        (
+            Claim::Witness {
+                dir: Dir::Min,
+                stay: Some(stay),
+                threshold,
+                ..
+            },
+            Body::Floor(floor),
+        ) => until_floor_verdict(alloc, model, goals, start, stay, *threshold, floor),
         _ => Ok(init_denied(None)),
     }
 }

@@ -1,15 +1,18 @@
-ghost use Rattle.std.specs.Prelude.{◌≡◌, ◌↔◌, IfOk, length};
+ghost use Rattle.std.specs.Prelude.{◌≡◌, ◌↔◌, ◌<◌, IfOk, length};
 ghost use Rattle.mdp_spec.specs.{Mdp.{states_of}, Until.{UntilMax, UntilMin, UntilMaxBetween, UntilMinBetween}};
 ghost use Rattle.mdp_rows.specs.declared.dir.Dir.TheVariants.{Max, Min};
 ghost use Rattle.mdp_farkas.specs.{Verdict.{verdict_of, IfYes, IsYes}, Reach.{reach_checks, IsReach}};
 ghost use Rattle.mdp_bounds.specs.Reach.{bounds_checks, IsReachBounds};
+ghost use Rattle.mdp_subsystem_rules.specs.{Flow.{flow_total}, Kept.{kept_marks}, Shape.{IsFlowShape, IsFloorShape}};
+ghost use Rattle.mdp_subsystem_rules.specs.{FlowChecks.{flow_checks, HoldsFlow}, FloorChecks.{floor_checks, HoldsFloor}, Until.{SubUntilMax, SubUntilMaxWithin, SubUntilMin}};
 ghost use Rattle.mdp_check.specs.Check.{stay_marks, way_of};
 
 use mdp_bounds::holds_bounds_reach;
-use mdp_claims::{ReachBoundsCert, ReachCert};
+use mdp_claims::{FloorCert, FlowCert, ReachBoundsCert, ReachCert};
 use mdp_farkas::{Verdict, holds_reach};
-use mdp_num::Memory;
+use mdp_num::{Frac, Memory};
 use mdp_rows::{Dir, Marks, Model};
+use mdp_subsystem_rules::{holds_floor, holds_flow};
 use std::alloc::Global;
 
 /// The states on the way: those with this label, none where the model hasn't it.
@@ -56,7 +59,60 @@ pub(crate) fn until_verdict(
     Ok(holds_reach(&way, goals, dir, cert))
 }
 
-/// The same of lower and upper values.
+/// What the rules of a flow say on the way.
+pub(crate) fn until_flow_verdict(
+    alloc: Global,
+    model: &Model,
+    goals: &Marks,
+    start: u32,
+    stay: &[u8],
+    threshold: Frac,
+    cert: &FlowCert,
+) -> Result<Verdict, Memory>
+    requires goals { length goals.now ≡ states_of model.now }
+    requires start { start < states_of model.now }
+    requires shape { IsFlowShape model.now cert.now.kept.items cert.now.wide.items cert.now.flows.items }
+    ensures verdict { IfOk result (λ v. v ≡
+        verdict_of (flow_checks (way_of model.now goals.now stay.now) goals.now start threshold cert.now.kept.items cert.now.flows.items)) }
+    ensures rules { IfOk result (λ v. IsYes v ↔
+        HoldsFlow (way_of model.now goals.now stay.now) goals.now start threshold cert.now.kept.items cert.now.flows.items) }
+    ensures sub_max { IfOk result (λ v. IfYes v
+        (SubUntilMax model.now (stay_marks model.now stay.now) goals.now (kept_marks (states_of model.now) cert.now.kept.items) start threshold)) }
+    ensures within { IfOk result (λ v. IfYes v (SubUntilMaxWithin model.now (stay_marks model.now stay.now) goals.now
+        (kept_marks (states_of model.now) cert.now.kept.items) start threshold (flow_total cert.now.flows.items))) }
+{
+    model.known();
+    let way = way_of(alloc, model, goals, stay)?;
+    let verdict = holds_flow(alloc, &way, goals, start, threshold, cert)?;
+    Ok(verdict)
+}
+
+/// What the rules of a floor say on the way.
+pub(crate) fn until_floor_verdict(
+    alloc: Global,
+    model: &Model,
+    goals: &Marks,
+    start: u32,
+    stay: &[u8],
+    threshold: Frac,
+    cert: &FloorCert,
+) -> Result<Verdict, Memory>
+    requires goals { length goals.now ≡ states_of model.now }
+    requires start { start < states_of model.now }
+    requires shape { IsFloorShape model.now cert.now.kept.items cert.now.wide.items cert.now.values.items cert.now.ranks.items }
+    ensures verdict { IfOk result (λ v. v ≡ verdict_of (floor_checks (way_of model.now goals.now stay.now) goals.now start threshold
+        cert.now.kept.items cert.now.values.items cert.now.ranks.items)) }
+    ensures rules { IfOk result (λ v. IsYes v ↔ HoldsFloor (way_of model.now goals.now stay.now) goals.now start threshold
+        cert.now.kept.items cert.now.values.items cert.now.ranks.items) }
+    ensures sub_min { IfOk result (λ v. IfYes v
+        (SubUntilMin model.now (stay_marks model.now stay.now) goals.now (kept_marks (states_of model.now) cert.now.kept.items) start threshold)) }
+{
+    model.known();
+    let way = way_of(alloc, model, goals, stay)?;
+    Ok(holds_floor(&way, goals, start, threshold, cert))
+}
+
+/// The same of lower and upper values as of values.
 pub(crate) fn until_bounds_verdict(
     alloc: Global,
     model: &Model,

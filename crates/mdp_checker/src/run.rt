@@ -1,4 +1,4 @@
-ghost use Rattle.std.specs.{Fn.{FnReturnsAt}, Prelude.{◌≡◌}};
+ghost use Rattle.std.specs.{Fn.{FnOnceReturnsAt}, Prelude.{◌≡◌}};
 ghost use Rattle.mdp_command.specs.{Opened.{OnFiles}, Prelude.{said, input, output}};
 ghost use Rattle.mdp_checker.specs.{Run.{IsDecided, IsAnswered, IsYesTrue, IsComplete, HasRun}, Words.{asked, model_path, cert_path}};
 
@@ -66,18 +66,20 @@ fn paths_of<'a>(words: &'a [String]) -> Paths<'a>
 }
 
 /// Opens the files that the words name, and runs the program on them.
-pub fn run_on_files<F: Source + Drop, O: Fn(&str) -> F, K: Sink>(
+pub fn run_on_files<F: Source + Drop, M: FnOnce(&str) -> F, O: FnOnce(&str) -> F, K: Sink>(
     alloc: Global,
     words: &[String],
-    open_file: O,
+    open_model: M,
+    open_cert: O,
     out: &mut K,
 ) -> Status
-    requires { O.IsAlwaysCallable open_file }
-    ensures { OnFiles (FnReturnsAt O.Fn open_file) F.left F.faults (model_path words.now) (cert_path words.now)
+    requires model { M.IsAlwaysCallable open_model }
+    requires cert { O.IsAlwaysCallable open_cert }
+    ensures { OnFiles (FnOnceReturnsAt M.FnOnce open_model) (FnOnceReturnsAt O.FnOnce open_cert) F.left F.faults (model_path words.now) (cert_path words.now)
         (λ model cert. HasRun (asked words.now) model cert (output K.taken K.settled K.faults out.old out.new) result) }
 {
     let paths = paths_of(words);
-    let mut model = open_file(paths.model);
-    let mut cert = open_file(paths.second);
+    let mut model = open_model(paths.model);
+    let mut cert = open_cert(paths.second);
     run(alloc, words, &mut model, &mut cert, out)
 }

@@ -1,5 +1,5 @@
 -- What is shown of a drill, by what is known of an answer on the layered model.
-use Rattle.std.proofs.Common.{◌≡◌, ℕ, List, Bool, Result, Ok, Err, IfOk, length, sum_by, codes, refl, sym, ap, ap₂, subst, ◌∙◌, ◌+◌, ◌*◌}
+use Rattle.std.proofs.Common.{◌≡◌, ℕ, List, Bool, None, Result, Ok, Err, IfOk, length, sum_by, codes, refl, sym, ap, ap₂, subst, ◌∙◌, ◌+◌, ◌*◌}
 use Rattle.mdp_math.specs.Rational.{ℚ}
 use Rattle.mdp_spec.specs.{Bounds.{ReachMax}, Mdp.{Mdp, states_of, value_at}}
 use Rattle.mdp_rows.specs.{declared.dir.Dir.TheVariants.{Max}, declared.rule.RowRule.TheVariants.{Exact}}
@@ -51,7 +51,7 @@ answer-due number layers width m marks a text g end e = (Ok a, subst (λ (gs : L
 
 -- an answer with its line, by what a search gives
 pub line-found : (number layers width : ℕ) (m : Mdp) (marks : List Bool) (a : Answer) (text : List ℕ) → marks ≡ goals m → EndsSo Max m marks (Ok a) → IsReach Max m marks a.values a.choices a.ranks
-    → ReachMax m marks a.values a.choices → HasOneEach m a → Fits (certificate_of Max goal m a) → text ≡ text_of_answer number layers width m a → IsLineOfFound number layers width m text
+    → ReachMax m marks a.values a.choices → HasOneEach m a → Fits (certificate_of Max None goal m a) → text ≡ text_of_answer number layers width m a → IsLineOfFound number layers width m text
 line-found number layers width m marks a text g ends rules greatest each fits e = record {
   answer = a;
   found = record {
@@ -85,8 +85,8 @@ module _ (reads : TextReads) (short : TextIsShort) (rows : HasRows) (states : Ha
       → text ≡ text_of_answer number layers width (layered_model number layers width) a → IsDrilled number layers width text
   on-layered a text f e =
       let m = layered_model number layers width in
-      let cert = certificate_of Max goal m a in
-      let p = printed_by m cert refl (rows number layers width shape) back (accepted Max goal m 1 a refl f.rules (record { values = f.values; ranks = f.ranks })) f.fits (text_of cert) refl in
+      let cert = certificate_of Max None goal m a in
+      let p = printed_by m cert refl (rows number layers width shape) back (accepted Max None goal m (goals m) a refl f.rules (record { values = f.values; choices = f.rules.rules.choices.one_each; ranks = f.ranks })) f.fits (text_of cert) refl in
       record {
         given = record { answer = a; spelled = e ∙ line-is states choices number layers width shape a; ends = f.ends; labelled = refl; greatest = f.greatest };
         solved = record {

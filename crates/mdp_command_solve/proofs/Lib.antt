@@ -1,4 +1,5 @@
 mod Examples
+pub mod OnWay
 pub mod TextLength
 pub mod Printing
 pub mod Solved

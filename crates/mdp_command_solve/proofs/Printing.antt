@@ -7,59 +7,32 @@ use Rattle.mdp_math.specs.Rational.{ℚ}
 use Rattle.mdp_num.specs.OrderView.{equal_decides}
 use Rattle.mdp_spec.specs.{Bounds.{reward_at}, Labels.{place_of, marks_of, initial_of}, Mdp.{Mdp, states_of, value_at}, Row.{IsMdp}}
 use Rattle.mdp_rows.specs.{declared.dir.Dir.{Dir}, declared.dir.Dir.TheVariants.{Max, Min}}
-use Rattle.mdp_graph.specs.Laws.{RestMeets}
-use Rattle.mdp_policy_iteration.specs.{Iteration.{EndsWith}, Laws.{EndsAtBest, first}, Path.{Found, Refusal, path_step}}
-use Rattle.mdp_farkas.specs.{Reach.{MeetsReach, IsReach, reach_checks}, Reward.{MeetsReward, IsReward, reward_checks}, Mean.{MeetsMean, IsMean}}
+use Rattle.mdp_policy_iteration.specs.Path.{Found, Refusal}
+use Rattle.mdp_farkas.specs.{Reach.{IsReach}, Reward.{MeetsReward, IsReward, reward_checks}, Mean.{MeetsMean, IsMean}}
 use Rattle.mdp_farkas.specs.{Verdict.{verdict_of}, Initial.{init_fault}}
 use Rattle.mdp_claims.specs.{declared.verdict.Verdict.{Verdict}, declared.verdict.Verdict.TheVariants.{Yes, No, Wide}}
-use Rattle.mdp_reach.specs.{Problem.{reach_problem}, Query.{Answer, AreRanks, Held, AfterPath, EndsSo}}
-use Rattle.mdp_reach.proofs.{Nodes.{reach-count}, Starts.{start-solvable}}
+use Rattle.mdp_reach.specs.Query.{Answer, HasOneEach, EndsSo}
 use Rattle.mdp_reward.specs.Query as rewarded
 use Rattle.mdp_mean.specs.Query as averaged
 use Rattle.mdp_text.specs.{declared.init.Init.{Init}, Heads.{init_of, init_by}}
 use Rattle.mdp_cert.specs.Cert as certificate
-use Rattle.mdp_cert.specs.{Cert.{PlainClaim, PlainBody, Certificate, may_be_infinite, is_witness, is_init_of, is_body_of, Fits}, Claims.{reward_same}}
+use Rattle.mdp_cert.specs.{Cert.{PlainClaim, PlainBody, Certificate, may_be_infinite, has_threshold, is_witness, is_init_of, is_body_of, Fits}, Claims.{reward_same}}
 use Rattle.mdp_cert.specs.{Reading.{outcome}, Spelling.{text_of}, Laws.{IsReadBack}}
-use Rattle.mdp_check.specs.{Initial.{has_value, is_subsystem, init_check}, Check.{labelled_marks, IsAccepted}}
+use Rattle.mdp_check.specs.{Initial.{has_value, is_subsystem, init_check}, Check.{labelled_marks, reward_place, way_by, valid_by, IsAccepted}}
 use Rattle.mdp_check.proofs.Accepting.{accepted_is_bound}
 use Rattle.mdp_job.specs.Refusal.{no_memory}
 use Rattle.mdp_command.specs.{Files.{most_bytes}, Said.{Said}}
-use Rattle.mdp_command_solve.specs.Due.{certificate_of, reward_certificate_of, mean_certificate_of}
+use Rattle.mdp_command_solve.specs.Ways.{goals_by}
+use Rattle.mdp_command_solve.specs.Due.{claim_of, certificate_of, IsReachEnd, reward_certificate_of, mean_certificate_of}
 use Rattle.mdp_command_solve.specs.Solved.{IsClaimPrinted, IsReachPrinted, IsRewardPrinted, IsMeanPrinted}
 use Rattle.mdp_text.proofs.InitialState.{initial_below}
-use Rattle.mdp_command_solve.proofs.TextLength.{text_short}
+use Rattle.mdp_command_solve.proofs.{TextLength.{text_short}, OnWay.{way_states, marked}}
 
 -- ---- an answer has an entry per state
 
-ranks_size : (dir : Dir) (m : Mdp) (goals : List Bool) (z : List ℚ) (cs rs : List ℕ) → AreRanks dir m goals z cs rs → length rs ≡ states_of m
-ranks_size Max m goals z cs rs h = h.least.count
-ranks_size Min m goals z cs rs h = h.least.count
-
-pub choices_size : (dir : Dir) (m : Mdp) (goals : List Bool) (z : List ℚ) (cs rs : List ℕ) → MeetsReach dir m goals z cs rs → length cs ≡ states_of m
-choices_size Max m goals z cs rs h = h.choices.one_each
-choices_size Min m goals z cs rs h = h.choices.one_each
-
-pub record HasSizes (n : ℕ) (a : Answer) : Type 0 where
-  pub values : length a.values ≡ n
-  pub ranks : length a.ranks ≡ n
-
-held_sizes : (n : ℕ) (f : Found) (ranks : List ℕ) (a : Answer) (v : Verdict) → Held f ranks v (Ok a) → length f.values ≡ n → length ranks ≡ n → HasSizes n a
-held_sizes n f ranks a Yes h x y =
-    let e : (let b : Answer = record { values = f.values; choices = f.policy; ranks = ranks } in b) ≡ a = cc h in
-    subst (HasSizes n) e (record { values = x; ranks = y })
-held_sizes n f ranks a (No fault) h x y = absurd h
-held_sizes n f ranks a (Wide state choice) h x y = cc h
-
-module _ (dir : Dir) (m : Mdp) (goals : List Bool) (a : Answer) (model : IsMdp m) (best : EndsAtBest) (meets : RestMeets) (end : EndsSo dir m goals (Ok a)) where
-  sizes_by : (e : Result Found Refusal) → EndsWith (path_step (reach_problem dir m goals end.marks)) (first end.start) e → AfterPath dir m goals e (Ok a) → HasSizes (states_of m) a
-  sizes_by (Err w) p h = cc h
-  sizes_by (Ok f) p h =
-      let b = best (reach_problem dir m goals end.marks) end.start f (start-solvable dir m goals end.marks end.start model meets end.is_start) p in
-      held_sizes (states_of m) f h.0 a (verdict_of (reach_checks dir m goals f.values f.policy h.0)) h.2 (b.best.values.len ∙ reach-count dir m goals end.marks)
-      (ranks_size dir m goals f.values f.policy h.0 h.1)
-
-  pub answer_sizes : HasSizes (states_of m) a
-  answer_sizes = sizes_by end.end end.path end.after
+-- of the model, where it has one per state of what is left of it
+pub one_each : (m : Mdp) (goals : List Bool) (stay : Option (List ℕ)) (a : Answer) → HasOneEach (way_by m goals stay) a → HasOneEach m a
+one_each m goals stay a h = let e = way_states m goals stay in record { values = h.values ∙ e; choices = h.choices ∙ e; ranks = h.ranks ∙ e }
 
 -- ---- the sizes of an answer of rewards
 
@@ -170,9 +143,27 @@ three : {V : Type 0} (states n : ℕ) (zs : List V) (cs rs : List ℕ) → n ≡
 three states n zs cs rs e x y z =
     ap₂ (λ (a b : Bool). a && b) (ap₂ (λ (a b : Bool). a && b) (eq-eqb (length zs) n (x ∙ sym e)) (eq-eqb (length cs) n (y ∙ sym e))) (eq-eqb (length rs) n (z ∙ sym e))
 
-pub body_entries : (dir : Dir) (label : List ℕ) (states n : ℕ) (zs : List ℚ) (cs rs : List ℕ) → n ≡ states → length zs ≡ states → length cs ≡ states → length rs ≡ states
-    → is_body_of (certificate.reach dir label) n (certificate.policy zs cs rs) ≡ true
-body_entries dir label states n zs cs rs e x y z = three states n zs cs rs e x y z
+pub body_entries : (dir : Dir) (stay : Option (List ℕ)) (label : List ℕ) (states n : ℕ) (zs : List ℚ) (cs rs : List ℕ) → n ≡ states → length zs ≡ states → length cs ≡ states
+    → length rs ≡ states → is_body_of (claim_of dir stay label) n (certificate.policy zs cs rs) ≡ true
+body_entries dir None label states n zs cs rs e x y z = three states n zs cs rs e x y z
+body_entries dir (Some stay) label states n zs cs rs e x y z = three states n zs cs rs e x y z
+
+pub no_witness : (dir : Dir) (stay : Option (List ℕ)) (label : List ℕ) → is_witness (claim_of dir stay label) ≡ false
+no_witness dir None label = refl
+no_witness dir (Some stay) label = refl
+
+pub no_threshold : (dir : Dir) (stay : Option (List ℕ)) (label : List ℕ) → has_threshold (claim_of dir stay label) ≡ true
+no_threshold dir None label = refl
+no_threshold dir (Some stay) label = refl
+
+no_reward : (m : Mdp) (dir : Dir) (stay : Option (List ℕ)) (label : List ℕ) → reward_place m (claim_of dir stay label) ≡ Some 0
+no_reward m dir None label = refl
+no_reward m dir (Some stay) label = refl
+
+valid : (m : Mdp) (goals : List Bool) (start : ℕ) (dir : Dir) (stay : Option (List ℕ)) (label : List ℕ) (z : List ℚ) (cs rs : List ℕ) → IsReach dir (way_by m goals stay) goals z cs rs
+    → valid_by m 0 goals start (claim_of dir stay label) (certificate.policy z cs rs)
+valid m goals start dir None label z cs rs rules = rules
+valid m goals start dir (Some stay) label z cs rs rules = rules
 
 pub reward_entries : (dir : Dir) (name label : List ℕ) (states n : ℕ) (vs : List (Option ℚ)) (cs rs : List ℕ) → n ≡ states → length vs ≡ states → length cs ≡ states → length rs ≡ states
     → is_body_of (certificate.reward dir name label) n (certificate.rewards vs cs rs) ≡ true
@@ -202,23 +193,23 @@ printed_by m c plain mdp back accepted fits text spelled = record {
   bound = accepted_is_bound m c mdp accepted;
 }
 
-module _ (dir : Dir) (label : List ℕ) (m : Mdp) (l : ℕ) (a : Answer) (found : place_of label m.labels ≡ Some l)
-    (rules : IsReach dir m (marks_of m l) a.values a.choices a.ranks) (sizes : HasSizes (states_of m) a) where
-  pub accepted : IsAccepted m (certificate_of dir label m a)
+module _ (dir : Dir) (stay : Option (List ℕ)) (label : List ℕ) (m : Mdp) (goals : List Bool) (a : Answer) (found : goals_by m stay label ≡ Some goals)
+    (rules : IsReach dir (way_by m goals stay) goals a.values a.choices a.ranks) (each : HasOneEach m a) where
+  pub accepted : IsAccepted m (certificate_of dir stay label m a)
   accepted = record {
     states = refl;
-    entries = body_entries dir label (states_of m) (states_of m) a.values a.choices a.ranks refl sizes.values (choices_size dir m (marks_of m l) a.values a.choices a.ranks rules.rules) sizes.ranks;
+    entries = body_entries dir stay label (states_of m) (states_of m) a.values a.choices a.ranks refl each.values each.choices each.ranks;
     reward = 0;
-    named = refl;
-    goals = marks_of m l;
-    marked = marks_found m label l found;
+    named = no_reward m dir stay label;
+    goals = goals;
+    marked = marked m dir stay label goals found;
     init = init_holds (initial_of m) _ (certificate.policy a.values a.choices a.ranks) refl
-        (λ s e. reach_valued a.values a.choices a.ranks s (let lt = initial_below m s e in let n = sizes.values in omega (arith, lt, n)));
-    body = rules;
+        (λ s e. reach_valued a.values a.choices a.ranks s (let lt = initial_below m s e in let n = each.values in omega (arith, lt, n)));
+    body = valid m goals _ dir stay label a.values a.choices a.ranks rules;
   }
 
-  pub printed : IsMdp m → IsReadBack → (text : List ℕ) → Fits (certificate_of dir label m a) → text ≡ text_of (certificate_of dir label m a) → IsReachPrinted dir label m text
-  printed mdp back text fits spelled = printed_by m (certificate_of dir label m a) refl mdp back accepted fits text spelled
+  pub printed : IsMdp m → IsReadBack → (text : List ℕ) → Fits (certificate_of dir stay label m a) → text ≡ text_of (certificate_of dir stay label m a) → IsReachPrinted dir stay label m text
+  printed mdp back text fits spelled = printed_by m (certificate_of dir stay label m a) (no_witness dir stay label) mdp back accepted fits text spelled
 
 module _ (dir : Dir) (name label : List ℕ) (m : Mdp) (r l : ℕ) (a : rewarded.Answer) (named : place_of name m.names ≡ Some r) (found : place_of label m.labels ≡ Some l)
     (rules : IsReward dir m r (marks_of m l) a.values a.choices a.ranks) (ranks : length a.ranks ≡ states_of m) where
@@ -270,3 +261,9 @@ pub text_printed : (P : List ℕ → Type 0) (c : Certificate) (said : Said) →
 text_printed P c (Ok text) shows (inl memory) = cc memory
 text_printed P c (Ok text) shows (inr e) = shows text (cc e)
 text_printed P c (Err r) shows e = tt
+
+-- the text of an answer is due, where the query ends with it
+pub text_due : (dir : Dir) (stay : Option (List ℕ)) (label : List ℕ) (m : Mdp) (goals : List Bool) (a : Answer) (c : Certificate) (said : Said)
+    → EndsSo dir (way_by m goals stay) goals (Ok a) → c ≡ certificate_of dir stay label m a → IsTextOf c said → (said ≡ Err no_memory) ⊎ IsReachEnd dir stay label m goals said
+text_due dir stay label m goals a c said end is (inl memory) = inl memory
+text_due dir stay label m goals a c said end is (inr e) = inr (Ok a, end, e ∙ ap (λ (x : Certificate). let r : Said = Ok (text_of x) in r) is)

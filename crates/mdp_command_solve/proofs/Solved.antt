@@ -2,7 +2,9 @@
 use Rattle.std.proofs.Common.{◌≡◌, ℕ, Bool, true, false, List, [], Option, Some, None, Result, Ok, Err, IfOk, refl, sym, ap, subst, ◌∙◌}
 use Rattle.std.proofs.lemmas.List.Quantifiers.{position-Some}
 use Rattle.std.specs.Str.{bytes_eq}
+use Rattle.mdp_math.specs.Rational.{ℚ}
 use Rattle.mdp_spec.specs.{Labels.{place_of, marks_of}, Mdp.{Mdp}, Row.{IsMdp}}
+use Rattle.mdp_spec.proofs.Until.{until_max_exact, until_min_exact}
 use Rattle.mdp_rows.specs.{Limits.{IsModel}, Negative.{has_negative}, declared.dir.Dir.{Dir}, declared.dir.Dir.TheVariants.{Max, Min}}
 use Rattle.mdp_rows.specs.declared.rule.RowRule.{RowRule}
 use Rattle.mdp_drn.specs.Laws.{ReadsAsModel}
@@ -16,12 +18,15 @@ use Rattle.mdp_mean.specs.Laws as mean_law
 use Rattle.mdp_mean.specs.Query as averaged
 use Rattle.mdp_cert.specs.Cert as certificate
 use Rattle.mdp_cert.specs.Cert.{PlainClaim}
-use Rattle.mdp_job.specs.{Job.{PlainQuery, reach, reward, mean}, Refusal.{PlainRefusal}}
+use Rattle.mdp_check.specs.Check.{stay_marks, way_by}
+use Rattle.mdp_job.specs.{Job.{PlainQuery, reach, until, reward, mean}, Refusal.{PlainRefusal}}
 use Rattle.mdp_command.proofs.{Working.{read_of_due}, TrueClaims.{true_claim_of}}
 use Rattle.mdp_command.specs.{Accepted.{exact}, Files.{model_due}, Said.{Said}}
+use Rattle.mdp_command_solve.specs.Ways.{place_on_way}
 use Rattle.mdp_command_solve.specs.Due.{said_of_end, said_of_reward_end, said_of_mean_end, IsReachDue, IsRewardEnd, IsRewardDue, IsMeanDue, IsQueryDue, IsSolveDue}
 use Rattle.mdp_command_solve.specs.Laws.{IsBest, IsAnswerTo, IsBestReward, IsRewardAnswerTo, IsBestMean, IsMeanAnswerTo}
 use Rattle.mdp_command_solve.specs.Solved.{IsClaimPrinted, IsPrinted, IsClaimSolved, IsSolved}
+use Rattle.mdp_command_solve.proofs.OnWay.{way_is_mdp}
 
 -- ---- what is read is a model
 
@@ -35,9 +40,11 @@ module _ (kept : ReadsAsModel) (rule : RowRule) (bytes : List ℕ) where
 
 -- ---- one thing is due
 
-reach_once : (dir : Dir) (label : List ℕ) (m : Mdp) (found : Option ℕ) (said again : Said) → IsReachDue dir label m found said → IsReachDue dir label m found again → said ≡ again
-reach_once dir label m None said again d e = d ∙ sym e
-reach_once dir label m (Some l) said again d e = d.2 ∙ ap (said_of_end dir label m) (one_query_end dir m (marks_of m l) e.0 d.0 e.1 d.1) ∙ sym e.2
+reach_once : (dir : Dir) (stay : Option (List ℕ)) (label : List ℕ) (m : Mdp) (found : Option ℕ) (said again : Said) → IsReachDue dir stay label m found said
+    → IsReachDue dir stay label m found again → said ≡ again
+reach_once dir stay label m None said again d e = d ∙ sym e
+reach_once dir stay label m (Some l) said again d e =
+    d.2 ∙ ap (said_of_end dir stay label m) (one_query_end dir (way_by m (marks_of m l) stay) (marks_of m l) e.0 d.0 e.1 d.1) ∙ sym e.2
 
 end_once : (dir : Dir) (name label : List ℕ) (m : Mdp) (r l : ℕ) (negative : Bool) (said again : Said) → IsRewardEnd dir name label m r l negative said
     → IsRewardEnd dir name label m r l negative again → said ≡ again
@@ -60,7 +67,8 @@ mean_once one_end dir name m model None is said again d e = d ∙ sym e
 mean_once one_end dir name m model (Some r) is said again d e = d.2 ∙ ap (said_of_mean_end dir name m) (one_end dir m r e.0 d.0 (has_reward name m r model is) e.1 d.1) ∙ sym e.2
 
 query_once : mean_law.HasOneEnd → (dir : Dir) (query : PlainQuery) (m : Mdp) → IsModel m → (said again : Said) → IsQueryDue dir query m said → IsQueryDue dir query m again → said ≡ again
-query_once one_end dir (reach label) m model said again d e = reach_once dir label m (place_of label m.labels) said again d e
+query_once one_end dir (reach label) m model said again d e = reach_once dir None label m (place_on_way m None label) said again d e
+query_once one_end dir (until stay label) m model said again d e = reach_once dir (Some stay) label m (place_on_way m (Some stay) label) said again d e
 query_once one_end dir (reward name label) m model said again d e = reward_once dir name label m (place_of name m.names) (place_of label m.labels) said again d e
 query_once one_end dir (mean name) m model said again d e = mean_once one_end dir name m model (place_of name m.names) refl said again d e
 
@@ -72,29 +80,45 @@ solve_once one_end dir query (Err r) model said again d e = d ∙ sym e
 
 -- ---- a text that is due is an answer
 
+-- the values of the best probabilities on what is left of the model for the way are those of the model by this way
+pub best_on_way : (m : Mdp) → IsMdp m → (dir : Dir) (stay : Option (List ℕ)) (goals : List Bool) (z : List ℚ) (policy : List ℕ) → IsBest dir None (way_by m goals stay) goals z policy
+    → IsBest dir stay m goals z policy
+best_on_way m mdp dir None goals z policy best = best
+best_on_way m mdp Max (Some a) goals z policy best = until_max_exact m (stay_marks m a) goals mdp z policy best
+best_on_way m mdp Min (Some a) goals z policy best = until_min_exact m (stay_marks m a) goals mdp z policy best
+
 module _ (rules : AnswersMeetRules) (greatest : AnswersAreGreatest) (least : AnswersAreLeast) (label : List ℕ) (m : Mdp) (mdp : IsMdp m) where
-  best_answer : (dir : Dir) (goals : List Bool) (a : Answer) → EndsSo dir m goals (Ok a) → IsBest dir m goals a
-  best_answer Max goals a end = greatest m goals a mdp end
-  best_answer Min goals a end = least m goals a mdp end
+  best_end : (way : Mdp) → IsMdp way → (dir : Dir) (goals : List Bool) (a : Answer) → EndsSo dir way goals (Ok a) → IsBest dir None way goals a.values a.choices
+  best_end way known Max goals a end = greatest way goals a known end
+  best_end way known Min goals a end = least way goals a known end
 
-  answer_of_end : (dir : Dir) (text : List ℕ) (l : ℕ) → place_of label m.labels ≡ Some l → (end : Result Answer WideTerm) → EndsSo dir m (marks_of m l) end → Ok text ≡ said_of_end dir label m end
-      → IsAnswerTo dir label m text
-  answer_of_end dir text l found (Err w) end e = cc e
-  answer_of_end dir text l found (Ok a) end e = record {
-    place = l;
-    found = found;
-    answer = a;
-    spelled = cc e;
-    rules = rules dir m (marks_of m l) a mdp end;
-    best = best_answer dir (marks_of m l) a end;
-  }
+  module _ (dir : Dir) (stay : Option (List ℕ)) (text : List ℕ) where
+    answer_of_end : (l : ℕ) → place_on_way m stay label ≡ Some l → (end : Result Answer WideTerm) → EndsSo dir (way_by m (marks_of m l) stay) (marks_of m l) end
+        → Ok text ≡ said_of_end dir stay label m end → IsAnswerTo dir stay label m text
+    answer_of_end l found (Err w) end e = cc e
+    answer_of_end l found (Ok a) end e =
+        let known = way_is_mdp m (marks_of m l) stay mdp in
+        record {
+          place = l;
+          found = found;
+          answer = a;
+          spelled = cc e;
+          rules = rules dir (way_by m (marks_of m l) stay) (marks_of m l) a known end;
+          best = best_on_way m mdp dir stay (marks_of m l) a.values a.choices (best_end (way_by m (marks_of m l) stay) known dir (marks_of m l) a end);
+        }
 
-  answer_at : (dir : Dir) (text : List ℕ) (found : Option ℕ) → place_of label m.labels ≡ found → IsReachDue dir label m found (Ok text) → IsAnswerTo dir label m text
-  answer_at dir text None found d = cc d
-  answer_at dir text (Some l) found d = answer_of_end dir text l found d.0 d.1 d.2
+    answer_at : (found : Option ℕ) → place_on_way m stay label ≡ found → IsReachDue dir stay label m found (Ok text) → IsAnswerTo dir stay label m text
+    answer_at None found d = cc d
+    answer_at (Some l) found d = answer_of_end l found d.0 d.1 d.2
 
-  pub text_is_answer : (dir : Dir) (text : List ℕ) (read : Result Mdp PlainRefusal) → read ≡ Ok m → IsSolveDue dir (reach label) read (Ok text) → IsAnswerTo dir label m text
-  text_is_answer dir text read is d = answer_at dir text (place_of label m.labels) refl (subst (λ (r : Result Mdp PlainRefusal). IsSolveDue dir (reach label) r (Ok text)) is d)
+  pub text_is_answer : (dir : Dir) (text : List ℕ) (read : Result Mdp PlainRefusal) → read ≡ Ok m → IsSolveDue dir (reach label) read (Ok text) → IsAnswerTo dir None label m text
+  text_is_answer dir text read is d =
+      answer_at dir None text (place_on_way m None label) refl (subst (λ (r : Result Mdp PlainRefusal). IsSolveDue dir (reach label) r (Ok text)) is d)
+
+  pub until_text_is_answer : (dir : Dir) (stay text : List ℕ) (read : Result Mdp PlainRefusal) → read ≡ Ok m → IsSolveDue dir (until stay label) read (Ok text)
+      → IsAnswerTo dir (Some stay) label m text
+  until_text_is_answer dir stay text read is d =
+      answer_at dir (Some stay) text (place_on_way m (Some stay) label) refl (subst (λ (r : Result Mdp PlainRefusal). IsSolveDue dir (until stay label) r (Ok text)) is d)
 
 -- ---- and so of rewards
 
@@ -176,6 +200,7 @@ printed_solved rule claimed m bytes text is printed =
 pub shown : (rule : RowRule) (dir : Dir) (query : PlainQuery) (m : Mdp) (said : Said) → IfOk said (IsPrinted dir query m) → (bytes : List ℕ) → model_due rule bytes ≡ Ok m
     → IfOk said (IsSolved rule dir query bytes)
 shown rule dir (reach label) m (Ok text) printed bytes is = printed_solved rule (certificate.reach dir label) m bytes text is printed
+shown rule dir (until stay label) m (Ok text) printed bytes is = printed_solved rule (certificate.until dir stay label) m bytes text is printed
 shown rule dir (reward name label) m (Ok text) printed bytes is = printed_solved rule (certificate.reward dir name label) m bytes text is printed
 shown rule dir (mean name) m (Ok text) printed bytes is = printed_solved rule (certificate.mean dir name) m bytes text is printed
 shown rule dir query m (Err r) printed bytes is = tt

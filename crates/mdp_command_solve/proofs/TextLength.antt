@@ -64,7 +64,7 @@ claim_short (mean dir name) plain h =
     let d = quoted_length name in
     let l = name_short name h in
     omega (arith, a, d, l)
-claim_short (witness dir label threshold) plain h = cc plain
+claim_short (witness dir stay label threshold) plain h = cc plain
 
 -- ---- the lines of the states
 
@@ -90,7 +90,7 @@ no_flow (reach dir label) n kept wide flows plain h = cc h
 no_flow (until dir stay label) n kept wide flows plain h = cc h
 no_flow (reward dir name label) n kept wide flows plain h = cc h
 no_flow (mean dir name) n kept wide flows plain h = cc h
-no_flow (witness dir label threshold) n kept wide flows plain h = cc plain
+no_flow (witness dir stay label threshold) n kept wide flows plain h = cc plain
 
 no_floor : (claim : PlainClaim) (n : ℕ) (kept : List ℕ) (wide : List Bool) (zs : List ℚ) (rs : List ℕ) → is_witness claim ≡ false → is_body_of claim n (floor kept wide zs rs) ≡ true → ⊥
 no_floor (upper label) n kept wide zs rs plain h = cc h
@@ -98,7 +98,7 @@ no_floor (reach dir label) n kept wide zs rs plain h = cc h
 no_floor (until dir stay label) n kept wide zs rs plain h = cc h
 no_floor (reward dir name label) n kept wide zs rs plain h = cc h
 no_floor (mean dir name) n kept wide zs rs plain h = cc h
-no_floor (witness dir label threshold) n kept wide zs rs plain h = cc plain
+no_floor (witness dir stay label threshold) n kept wide zs rs plain h = cc plain
 
 module _ (states : ℕ) (limit : states ≤ 2 ^ 20) where
   three_short :

@@ -76,5 +76,5 @@ threshold_fits t h = ap₂ (λ (x y : ℤ). int_le x y) (sym (zero-times (pos t.
 
 -- ---- the initial state
 
-pub start_fits : (dir : Dir) (label : List ℕ) (t : ℚ) (n start : ℕ) → start < n → is_init_of (witness dir label t) n (Start start) ≡ true
-start_fits dir label t n start h = lt-ltb start n h
+pub start_fits : (dir : Dir) (stay : Option (List ℕ)) (label : List ℕ) (t : ℚ) (n start : ℕ) → start < n → is_init_of (witness dir stay label t) n (Start start) ≡ true
+start_fits dir stay label t n start h = lt-ltb start n h

@@ -1,6 +1,6 @@
 -- The text of a witness has at most 2^30 bytes: a line for each kept state, and at most one flow for each state.
-use Rattle.std.proofs.Common.{◌≡◌, ℕ, zero, suc, ◌+◌, ◌*◌, ◌<◌, ◌≤◌, ◌^◌, Bool, true, false, List, [], ◌∷◌, ◌++◌, length, get_or, codes, decimal, refl, arith, lit<}
-use Rattle.std.proofs.{lemmas.List.{length-append}, lemmas.List.Elements.{recursion_from_All}}
+use Rattle.std.proofs.Common.{◌≡◌, ℕ, zero, suc, ◌+◌, ◌*◌, ◌<◌, ◌≤◌, ◌^◌, Bool, true, false, List, [], ◌∷◌, ◌++◌, length, get_or, codes, decimal, Option, Some, None, refl, arith, lit<}
+use Rattle.std.proofs.{lemmas.Bool.{and_parts}, lemmas.List.{length-append}, lemmas.List.Elements.{recursion_from_All}}
 use Rattle.std.specs.List.{All, AllByRecursion as Each, join_with_byte}
 use Rattle.mdp_math.specs.Rational.{ℚ}
 use Rattle.mdp_num.specs.Value.{spelling, IsNarrow}
@@ -9,7 +9,7 @@ use Rattle.mdp_rows.specs.{Name.{is_name}, declared.dir.Dir.{Dir}, declared.dir.
 use Rattle.mdp_claims.specs.declared.subsystem.Flow.{Flow}
 use Rattle.mdp_subsystem_rules.specs.{Kept.{Ascends}, Shape.{IsFlowShape, IsFloorShape}}
 use Rattle.mdp_text.specs.{declared.init.Init.TheVariants.{Start}, Spelling.{line, ◌␣◌, quoted, dir_text, states_text, init_text}}
-use Rattle.mdp_cert.specs.{Cert.{witness, IsFlowInWidth, Fits}, Listed.{Listed}, Spelling.{claim_text, head_text, listed_lines, text_in, text_of}}
+use Rattle.mdp_cert.specs.{Cert.{witness, are_names, IsFlowInWidth, Fits}, Listed.{Listed}, Spelling.{claim_text, head_text, listed_lines, text_in, text_of}}
 use Rattle.mdp_cert.specs.Witness.{mark_text, flow_listed, flow_lines, keep_lines, floor_listed, floor_lines}
 use Rattle.mdp_text.proofs.Lengths.{number_short, spelling_short, blank_length, line_length, name_short, dir_length, quoted_length, states_short, init_short}
 use Rattle.mdp_witness.specs.{Query.{PlainSubsystem, flow, floor}, Shown.{HasShape}}
@@ -22,8 +22,9 @@ mark_short false = refl
 
 -- ---- the lines before those of the kept states
 
-claim_short : (dir : Dir) (label : List ℕ) (threshold : ℚ) → is_name label ≡ true → IsNarrow threshold → length (claim_text (witness dir label threshold)) ≤ 400
-claim_short dir label threshold h w =
+claim_short : (dir : Dir) (stay : Option (List ℕ)) (label : List ℕ) (threshold : ℚ) → are_names (witness dir stay label threshold) ≡ true → IsNarrow threshold
+    → length (claim_text (witness dir stay label threshold)) ≤ 700
+claim_short dir None label threshold h w =
     let a = blank_length (codes "claim") (dir_text dir ␣ codes "witness" ␣ quoted label ␣ spelling threshold) in
     let b = blank_length (dir_text dir) (codes "witness" ␣ quoted label ␣ spelling threshold) in
     let c = blank_length (codes "witness") (quoted label ␣ spelling threshold) in
@@ -33,6 +34,21 @@ claim_short dir label threshold h w =
     let l = name_short label h in
     let t = spelling_short threshold w in
     omega (arith, a, b, c, d, e, n, l, t)
+claim_short dir (Some stay) label threshold h w =
+    let a = blank_length (codes "claim") (dir_text dir ␣ codes "witness" ␣ codes "until" ␣ quoted stay ␣ quoted label ␣ spelling threshold) in
+    let b = blank_length (dir_text dir) (codes "witness" ␣ codes "until" ␣ quoted stay ␣ quoted label ␣ spelling threshold) in
+    let c = blank_length (codes "witness") (codes "until" ␣ quoted stay ␣ quoted label ␣ spelling threshold) in
+    let d = blank_length (codes "until") (quoted stay ␣ quoted label ␣ spelling threshold) in
+    let e = blank_length (quoted stay) (quoted label ␣ spelling threshold) in
+    let f = blank_length (quoted label) (spelling threshold) in
+    let g = quoted_length stay in
+    let i = quoted_length label in
+    let n = dir_length dir in
+    let names = and_parts (is_name stay) (is_name label) h in
+    let k = name_short stay names.0 in
+    let l = name_short label names.1 in
+    let t = spelling_short threshold w in
+    omega (arith, a, b, c, d, e, f, g, i, n, k, l, t)
 
 -- ---- the lines of the kept states and of the flows
 
@@ -148,26 +164,26 @@ flows_below_32 n flows limit inside =
 
 -- ---- the whole
 
-module _ (dir : Dir) (label : List ℕ) (threshold : ℚ) (start : ℕ) (m : Mdp) (inside : start < states_of m) where
-  module _ (found : PlainSubsystem) (fits : Fits (certificate_of dir label threshold start m found)) where
-    head_short : length (head_text (certificate_of dir label threshold start m found)) ≤ 600
+module _ (dir : Dir) (stay : Option (List ℕ)) (label : List ℕ) (threshold : ℚ) (start : ℕ) (m : Mdp) (inside : start < states_of m) where
+  module _ (found : PlainSubsystem) (fits : Fits (certificate_of dir stay label threshold start m found)) where
+    head_short : length (head_text (certificate_of dir stay label threshold start m found)) ≤ 900
     head_short =
         let limit = fits.limit in
         let p : 2 ^ 20 < 2 ^ 32 = lit< tt in
-        let a = length-append (line (claim_text (witness dir label threshold))) (line (states_text (states_of m)) ++ line (init_text (Start start))) in
+        let a = length-append (line (claim_text (witness dir stay label threshold))) (line (states_text (states_of m)) ++ line (init_text (Start start))) in
         let b = length-append (line (states_text (states_of m))) (line (init_text (Start start))) in
-        let x = line_length (claim_text (witness dir label threshold)) in
+        let x = line_length (claim_text (witness dir stay label threshold)) in
         let y = line_length (states_text (states_of m)) in
         let z = line_length (init_text (Start start)) in
-        let c = claim_short dir label threshold fits.names fits.claim_width in
+        let c = claim_short dir stay label threshold fits.names fits.claim_width in
         let s = states_short (states_of m) (omega (arith, p, limit)) in
         let i = init_short (Start start) (omega (arith, p, limit, inside)) tt in
         omega (arith, a, b, x, y, z, c, s, i)
 
     whole_short : (lines : List ℕ) → length lines ≤ 400 * states_of m + 4
-        → length (line (codes "mdp-certificate 2") ++ (head_text (certificate_of dir label threshold start m found) ++ lines)) ≤ 2 ^ 30
+        → length (line (codes "mdp-certificate 2") ++ (head_text (certificate_of dir stay label threshold start m found) ++ lines)) ≤ 2 ^ 30
     whole_short lines k =
-        let head = head_text (certificate_of dir label threshold start m found) in
+        let head = head_text (certificate_of dir stay label threshold start m found) in
         let a = length-append (line (codes "mdp-certificate 2")) (head ++ lines) in
         let b = length-append head lines in
         let h = head_short in
@@ -175,8 +191,8 @@ module _ (dir : Dir) (label : List ℕ) (threshold : ℚ) (start : ℕ) (m : Mdp
         let p : 400 * 2 ^ 20 + 1000 < 2 ^ 30 = lit< tt in
         omega (arith, a, b, h, k, limit, p)
 
-  pub flow_text_short : (kept : List ℕ) (wide : List Bool) (flows : List Flow) → Fits (certificate_of dir label threshold start m (flow kept wide flows)) → IsFlowShape m kept wide flows
-      → length flows ≤ states_of m → length (text_of (certificate_of dir label threshold start m (flow kept wide flows))) ≤ 2 ^ 30
+  pub flow_text_short : (kept : List ℕ) (wide : List Bool) (flows : List Flow) → Fits (certificate_of dir stay label threshold start m (flow kept wide flows)) → IsFlowShape m kept wide flows
+      → length flows ≤ states_of m → length (text_of (certificate_of dir stay label threshold start m (flow kept wide flows))) ≤ 2 ^ 30
   unfolding text_in
   flow_text_short kept wide flows fits shape few =
       let lines = flow_lines kept wide flows in
@@ -189,8 +205,8 @@ module _ (dir : Dir) (label : List ℕ) (threshold : ℚ) (start : ℕ) (m : Mdp
       let n = kept_few (states_of m) kept shape.kept_ascends shape.kept_in_range in
       whole_short (flow kept wide flows) fits (listed_lines flow_listed lines) (omega (arith, l, a, b, k, n, few))
 
-  pub floor_text_short : (kept : List ℕ) (wide : List Bool) (values : List ℚ) (ranks : List ℕ) → Fits (certificate_of dir label threshold start m (floor kept wide values ranks))
-      → IsFloorShape m kept wide values ranks → length (text_of (certificate_of dir label threshold start m (floor kept wide values ranks))) ≤ 2 ^ 30
+  pub floor_text_short : (kept : List ℕ) (wide : List Bool) (values : List ℚ) (ranks : List ℕ) → Fits (certificate_of dir stay label threshold start m (floor kept wide values ranks))
+      → IsFloorShape m kept wide values ranks → length (text_of (certificate_of dir stay label threshold start m (floor kept wide values ranks))) ≤ 2 ^ 30
   unfolding text_in
   floor_text_short kept wide values ranks fits shape =
       let lines = floor_lines kept wide values ranks in
@@ -202,8 +218,8 @@ module _ (dir : Dir) (label : List ℕ) (threshold : ℚ) (start : ℕ) (m : Mdp
       whole_short (floor kept wide values ranks) fits (listed_lines floor_listed lines) (omega (arith, l, k, n))
 
   -- so is the text of a subsystem that a query ends with
-  pub witness_text_short : (d : Dir) (found : PlainSubsystem) → Fits (certificate_of dir label threshold start m found) → HasShape d m found → HasFewFlows m found
-      → length (text_of (certificate_of dir label threshold start m found)) ≤ 2 ^ 30
+  pub witness_text_short : (d : Dir) (found : PlainSubsystem) → Fits (certificate_of dir stay label threshold start m found) → HasShape d m found → HasFewFlows m found
+      → length (text_of (certificate_of dir stay label threshold start m found)) ≤ 2 ^ 30
   witness_text_short Max (flow kept wide flows) fits shape few = flow_text_short kept wide flows fits shape few
   witness_text_short Max (floor kept wide values ranks) fits shape few = absurd shape
   witness_text_short Min (flow kept wide flows) fits shape few = absurd shape

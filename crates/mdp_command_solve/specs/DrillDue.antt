@@ -1,5 +1,5 @@
 -- What is due to a drill: the greatest probability of reaching the goal of a layered model.
-use Rattle.std.specs.Prelude.{◌≡◌, ℕ, Bool, List, ◌++◌, length, sum_by, Result, Ok, Err, decimal, codes}
+use Rattle.std.specs.Prelude.{◌≡◌, ℕ, Bool, List, ◌++◌, length, sum_by, None, Result, Ok, Err, decimal, codes}
 use Rattle.mdp_math.specs.Rational.{ℚ}
 use Rattle.mdp_num.specs.Value.{spelling}
 use Rattle.mdp_spec.specs.{Labels.{marks_of}, Mdp.{Mdp, states_of, value_at}}
@@ -31,7 +31,7 @@ text_of_answer number layers width m a = drill_text number layers width (states_
 -- what is said of an end of the query; a term past width is said as `solve` says it
 abbrev pub said_of_end : ℕ → ℕ → ℕ → Mdp → Result Answer WideTerm → Said
 said_of_end number layers width m (Ok a) = Ok (text_of_answer number layers width m a)
-said_of_end number layers width m (Err w) = solve.said_of_end Max (codes "goal") m (Err w)
+said_of_end number layers width m (Err w) = solve.said_of_end Max None (codes "goal") m (Err w)
 
 -- the query with the goal of the layered model ends, and this is said of its end
 abbrev pub IsDueOf : ℕ → ℕ → ℕ → Mdp → Said → Type 0

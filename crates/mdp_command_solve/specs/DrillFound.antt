@@ -1,5 +1,5 @@
 -- What a drill finds on a model: an answer, of which the line gives the value of state 0.
-use Rattle.std.specs.Prelude.{◌≡◌, ℕ, List, length, Ok, codes}
+use Rattle.std.specs.Prelude.{◌≡◌, ℕ, List, length, None, Ok, codes}
 use Rattle.mdp_spec.specs.{Bounds.{ReachMax}, Mdp.{Mdp, states_of}}
 use Rattle.mdp_rows.specs.declared.dir.Dir.TheVariants.{Max}
 use Rattle.mdp_farkas.specs.Reach.{IsReach}
@@ -15,7 +15,7 @@ pub record IsFound (m : Mdp) (a : Answer) : Type 0 where
   pub greatest : ReachMax m (goals m) a.values a.choices
   pub values : length a.values ≡ states_of m
   pub ranks : length a.ranks ≡ states_of m
-  pub fits : Fits (certificate_of Max (codes "goal") m a)
+  pub fits : Fits (certificate_of Max None (codes "goal") m a)
 
 -- the text is the line of such an answer
 pub record IsLineOfFound (number layers width : ℕ) (m : Mdp) (text : List ℕ) : Type 0 where

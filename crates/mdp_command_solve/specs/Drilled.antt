@@ -1,5 +1,5 @@
 -- What is shown of the line of a drill.
-use Rattle.std.specs.Prelude.{◌≡◌, ℕ, ◌+◌, ◌*◌, List, Some, Ok, codes}
+use Rattle.std.specs.Prelude.{◌≡◌, ℕ, ◌+◌, ◌*◌, List, Some, None, Ok, codes}
 use Rattle.mdp_spec.specs.{Bounds.{ReachMax}, Labels.{place_of}, Mdp.{value_at}}
 use Rattle.mdp_rows.specs.{declared.dir.Dir.TheVariants.{Max}, declared.rule.RowRule.TheVariants.{Exact}}
 use Rattle.mdp_reach.specs.Query.{Answer, EndsSo}
@@ -19,4 +19,4 @@ pub record GivesGreatest (number layers width : ℕ) (text : List ℕ) : Type 0 
 -- and `check` accepts the text of that answer's certificate with the generated text, whose rows add to 1
 pub record IsDrilled (number layers width : ℕ) (text : List ℕ) : Type 0 where
   pub given : GivesGreatest number layers width text
-  pub solved : IsReachSolved Exact Max (codes "goal") (generated_text number layers width) (text_of (certificate_of Max (codes "goal") (layered_model number layers width) given.answer))
+  pub solved : IsReachSolved Exact Max (codes "goal") (generated_text number layers width) (text_of (certificate_of Max None (codes "goal") (layered_model number layers width) given.answer))

@@ -1,15 +1,17 @@
 -- Laws of what is due to a query, over the definitions alone.
-use Rattle.std.specs.Prelude.{◌≡◌, ℕ, Bool, false, List, Some, Ok}
-use Rattle.mdp_spec.specs.{Labels.{place_of, marks_of}, Mdp.{Mdp}, Bounds.{ReachMax, ReachMin, RewardMax, RewardMin, MeanMax, MeanMin}}
+use Rattle.std.specs.Prelude.{◌≡◌, ℕ, Bool, false, List, Option, Some, None, Ok}
+use Rattle.mdp_math.specs.Rational.{ℚ}
+use Rattle.mdp_spec.specs.{Labels.{place_of, marks_of}, Mdp.{Mdp}, Bounds.{ReachMax, ReachMin, RewardMax, RewardMin, MeanMax, MeanMin}, Until.{UntilMax, UntilMin}}
 use Rattle.mdp_rows.specs.{Negative.{has_negative}, declared.dir.Dir.{Dir}, declared.dir.Dir.TheVariants.{Max, Min}, declared.rule.RowRule.{RowRule}}
 use Rattle.mdp_farkas.specs.{Reach.{IsReach}, Reward.{IsReward}, Mean.{IsMean}}
 use Rattle.mdp_reach.specs.Query.{Answer}
 use Rattle.mdp_reward.specs.Query as rewarded
 use Rattle.mdp_mean.specs.Query as averaged
 use Rattle.mdp_cert.specs.Spelling.{text_of}
-use Rattle.mdp_job.specs.Job.{PlainQuery, reach, reward, mean}
+use Rattle.mdp_check.specs.Check.{stay_marks, way_by}
+use Rattle.mdp_job.specs.Job.{PlainQuery, reach, until, reward, mean}
 use Rattle.mdp_command.specs.{Files.{model_due}, Said.{Said}}
-use Rattle.mdp_command_solve.specs.Due.{certificate_of, reward_certificate_of, mean_certificate_of, IsSolveDue}
+use Rattle.mdp_command_solve.specs.{Ways.{place_on_way}, Due.{certificate_of, reward_certificate_of, mean_certificate_of, IsSolveDue}}
 
 -- what is due to a query and to the model's bytes is one thing
 abbrev pub IsDueOnce : Type 0
@@ -19,25 +21,32 @@ IsDueOnce =
 
 -- ---- reaching a label
 
--- the values are the greatest, or the least, probabilities of reaching a goal
-abbrev pub IsBest : Dir → Mdp → List Bool → Answer → Type 0
-IsBest Max m goals a = ReachMax m goals a.values a.choices
-IsBest Min m goals a = ReachMin m goals a.values a.choices
+-- the values are the greatest, or the least, probabilities of reaching a goal, by way of states with the label `stay` alone where there is one
+abbrev pub IsBest : Dir → Option (List ℕ) → Mdp → List Bool → List ℚ → List ℕ → Type 0
+IsBest Max None m goals = ReachMax m goals
+IsBest Min None m goals = ReachMin m goals
+IsBest Max (Some stay) m goals = UntilMax m (stay_marks m stay) goals
+IsBest Min (Some stay) m goals = UntilMin m (stay_marks m stay) goals
 
--- a text that is due spells an answer that meets the rules, and whose values are the best ones
-pub record IsAnswerTo (dir : Dir) (label : List ℕ) (m : Mdp) (text : List ℕ) : Type 0 where
+-- a text that is due spells an answer that meets the rules, on what is left of the model for the way, and whose values are the best ones
+pub record IsAnswerTo (dir : Dir) (stay : Option (List ℕ)) (label : List ℕ) (m : Mdp) (text : List ℕ) : Type 0 where
   pub place : ℕ
-  pub found : place_of label m.labels ≡ Some place
+  pub found : place_on_way m stay label ≡ Some place
   pub answer : Answer
-  pub spelled : text ≡ text_of (certificate_of dir label m answer)
-  pub rules : IsReach dir m (marks_of m place) answer.values answer.choices answer.ranks
-  pub best : IsBest dir m (marks_of m place) answer
+  pub spelled : text ≡ text_of (certificate_of dir stay label m answer)
+  pub rules : IsReach dir (way_by m (marks_of m place) stay) (marks_of m place) answer.values answer.choices answer.ranks
+  pub best : IsBest dir stay m (marks_of m place) answer.values answer.choices
 
 -- where a text is due to a query, it is such a text
 abbrev pub TextIsAnswer : Type 0
 TextIsAnswer =
     (rule : RowRule) (dir : Dir) (label model text : List ℕ) (m : Mdp) → model_due rule model ≡ Ok m → IsSolveDue dir (reach label) (model_due rule model) (Ok text)
-    → IsAnswerTo dir label m text
+    → IsAnswerTo dir None label m text
+
+abbrev pub UntilTextIsAnswer : Type 0
+UntilTextIsAnswer =
+    (rule : RowRule) (dir : Dir) (stay label model text : List ℕ) (m : Mdp) → model_due rule model ≡ Ok m → IsSolveDue dir (until stay label) (model_due rule model) (Ok text)
+    → IsAnswerTo dir (Some stay) label m text
 
 -- ---- the reward of a name until a label
 

@@ -1,3 +1,4 @@
+pub mod Ways
 pub mod Due
 pub mod Solved
 pub mod Laws

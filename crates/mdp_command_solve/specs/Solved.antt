@@ -1,13 +1,13 @@
 -- What is shown of the text that solves a query.
-use Rattle.std.specs.Prelude.{◌≡◌, ◌≤◌, ℕ, List, length, Ok}
+use Rattle.std.specs.Prelude.{◌≡◌, ◌≤◌, ℕ, List, length, Option, Some, None, Ok}
 use Rattle.mdp_spec.specs.Mdp.{Mdp}
 use Rattle.mdp_rows.specs.{declared.dir.Dir.{Dir}, declared.rule.RowRule.{RowRule}}
 use Rattle.mdp_cert.specs.Cert as certificate
 use Rattle.mdp_cert.specs.{Cert.{PlainClaim, Certificate}, Reading.{outcome}, Spelling.{text_of}}
 use Rattle.mdp_check.specs.Check.{IsAccepted, IsBound}
-use Rattle.mdp_job.specs.Job.{PlainQuery, reach, reward, mean}
+use Rattle.mdp_job.specs.Job.{PlainQuery, reach, until, reward, mean}
 use Rattle.mdp_command.specs.{Accepted.{IsTrueClaim}, Files.{most_bytes}, Read.{IsWorkOnModel}, Said.{Said}, Streams.{Input}}
-use Rattle.mdp_command_solve.specs.Due.{IsQueryDue}
+use Rattle.mdp_command_solve.specs.Due.{claim_of, IsQueryDue}
 
 -- the text of a certificate of this claim for the model, which reads as it; all rules hold, and the claim is true
 pub record IsClaimPrinted (claimed : PlainClaim) (m : Mdp) (text : List ℕ) : Type 0 where
@@ -19,8 +19,8 @@ pub record IsClaimPrinted (claimed : PlainClaim) (m : Mdp) (text : List ℕ) : T
   pub holds : IsAccepted m cert
   pub bound : IsBound m cert
 
-abbrev pub IsReachPrinted : Dir → List ℕ → Mdp → List ℕ → Type 0
-IsReachPrinted dir label = IsClaimPrinted (certificate.reach dir label)
+abbrev pub IsReachPrinted : Dir → Option (List ℕ) → List ℕ → Mdp → List ℕ → Type 0
+IsReachPrinted dir stay label = IsClaimPrinted (claim_of dir stay label)
 
 abbrev pub IsRewardPrinted : Dir → List ℕ → List ℕ → Mdp → List ℕ → Type 0
 IsRewardPrinted dir name label = IsClaimPrinted (certificate.reward dir name label)
@@ -29,7 +29,8 @@ abbrev pub IsMeanPrinted : Dir → List ℕ → Mdp → List ℕ → Type 0
 IsMeanPrinted dir name = IsClaimPrinted (certificate.mean dir name)
 
 abbrev pub IsPrinted : Dir → PlainQuery → Mdp → List ℕ → Type 0
-IsPrinted dir (reach label) = IsReachPrinted dir label
+IsPrinted dir (reach label) = IsReachPrinted dir None label
+IsPrinted dir (until stay label) = IsReachPrinted dir (Some stay) label
 IsPrinted dir (reward name label) = IsRewardPrinted dir name label
 IsPrinted dir (mean name) = IsMeanPrinted dir name
 
@@ -44,6 +45,10 @@ pub record IsClaimSolved (rule : RowRule) (claimed : PlainClaim) (model_bytes te
 abbrev pub IsReachSolved : RowRule → Dir → List ℕ → List ℕ → List ℕ → Type 0
 IsReachSolved rule dir label = IsClaimSolved rule (certificate.reach dir label)
 
+-- the claim that they are those by way of states with the label `stay` alone
+abbrev pub IsUntilSolved : RowRule → Dir → List ℕ → List ℕ → List ℕ → List ℕ → Type 0
+IsUntilSolved rule dir stay label = IsClaimSolved rule (certificate.until dir stay label)
+
 -- the claim that they are the greatest, or the least, rewards of this name until such a state
 abbrev pub IsRewardSolved : RowRule → Dir → List ℕ → List ℕ → List ℕ → List ℕ → Type 0
 IsRewardSolved rule dir name label = IsClaimSolved rule (certificate.reward dir name label)
@@ -54,6 +59,7 @@ IsMeanSolved rule dir name = IsClaimSolved rule (certificate.mean dir name)
 
 abbrev pub IsSolved : RowRule → Dir → PlainQuery → List ℕ → List ℕ → Type 0
 IsSolved rule dir (reach label) = IsReachSolved rule dir label
+IsSolved rule dir (until stay label) = IsUntilSolved rule dir stay label
 IsSolved rule dir (reward name label) = IsRewardSolved rule dir name label
 IsSolved rule dir (mean name) = IsMeanSolved rule dir name
 

@@ -1,5 +1,5 @@
 -- The certificate of a witness.
-use Rattle.std.specs.Prelude.{ℕ, List}
+use Rattle.std.specs.Prelude.{ℕ, List, Option}
 use Rattle.mdp_math.specs.Rational.{ℚ}
 use Rattle.mdp_spec.specs.Mdp.{Mdp, states_of}
 use Rattle.mdp_rows.specs.{declared.dir.Dir.{Dir}, declared.dir.Dir.TheVariants.{Max, Min}}
@@ -18,10 +18,11 @@ abbrev pub body_of : PlainSubsystem → PlainBody
 body_of (flow kept wide flows) = certificate.flow kept wide flows
 body_of (floor kept wide values ranks) = certificate.floor kept wide values ranks
 
--- the claim that on the kept states the greatest, or the least, probability of reaching the label from the start is the threshold at least
-abbrev pub certificate_of : Dir → List ℕ → ℚ → ℕ → Mdp → PlainSubsystem → Certificate
-certificate_of dir label threshold start m found = record {
-  claim = certificate.witness dir label threshold;
+-- the claim that on the kept states the greatest, or the least, probability of reaching the label from the start, by way of states with the label `stay`
+-- alone where there is one, is the threshold at least
+abbrev pub certificate_of : Dir → Option (List ℕ) → List ℕ → ℚ → ℕ → Mdp → PlainSubsystem → Certificate
+certificate_of dir stay label threshold start m found = record {
+  claim = certificate.witness dir stay label threshold;
   states = states_of m;
   init = Start start;
   body = body_of found;

@@ -1,30 +1,46 @@
-ghost use Rattle.std.specs.Prelude.{◌≡◌, ◌<◌, Some, length};
+ghost use Rattle.std.specs.Prelude.{◌≡◌, ◌<◌, IsTrue, Some, length};
 ghost use Rattle.mdp_spec.specs.Mdp.{states_of};
 ghost use Rattle.mdp_rows.specs.Name.{IsName};
 ghost use Rattle.mdp_reach.specs.Query as query;
 ghost use Rattle.mdp_reward.specs.Query as rewarded;
 ghost use Rattle.mdp_mean.specs.Query as averaged;
-ghost use Rattle.mdp_cert.specs.{Cert.{Fits}, Plain.{plain}};
-ghost use Rattle.mdp_command_solve.specs.Due.{certificate_of, reward_certificate_of, mean_certificate_of};
+ghost use Rattle.mdp_cert.specs.{Cert.{are_names, plain_claim, Fits}, Plain.{plain}};
+ghost use Rattle.mdp_command_solve.specs.{Ways.{owned_name}, Due.{claim_of, certificate_of, reward_certificate_of, mean_certificate_of}};
 
 use mdp_cert::{Body, Cert, Claim};
 use mdp_farkas::{MeanCert, ReachCert, RewardCert};
 use mdp_rows::{Dir, Model};
 use mdp_text::{init_with, init_with_rewards};
 
+/// The claim of reaching the label, by way of states with the label `stay` alone where there is one.
+fn claim_of(dir: Dir, stay: Option<Vec<u8>>, label: Vec<u8>) -> Claim
+    ensures { plain_claim result ≡ claim_of dir (owned_name stay) label.items }
+{
+    match stay {
+        None => Claim::Reach { dir, label },
+        Some(stay) => Claim::Until { dir, stay, label },
+    }
+}
+
 /// The certificate of an answer to a query of reachability, which has a text.
-pub fn certificate_of(model: &Model, dir: Dir, label: Vec<u8>, answer: ReachCert) -> Cert
-    requires name { IsName label.items }
+pub fn certificate_of(
+    model: &Model,
+    dir: Dir,
+    stay: Option<Vec<u8>>,
+    label: Vec<u8>,
+    answer: ReachCert,
+) -> Cert
+    requires names { IsTrue (are_names (claim_of dir (owned_name stay) label.items)) }
     requires values { length answer.values.items ≡ states_of model.now }
     requires choices { length answer.choices.items ≡ states_of model.now }
     requires ranks { length answer.ranks.items ≡ states_of model.now }
-    ensures certificate { plain result ≡ certificate_of dir label.items model.now (query.plain answer) }
+    ensures certificate { plain result ≡ certificate_of dir (owned_name stay) label.items model.now (query.plain answer) }
     ensures fits { Fits (plain result) }
 {
     model.known();
     let init = init_with(model, &answer.values);
     let cert = Cert {
-        claim: Claim::Reach { dir, label },
+        claim: claim_of(dir, stay, label),
         states: model.states(),
         init,
         body: Body::Reach(answer),

@@ -1,4 +1,4 @@
-ghost use Rattle.std.specs.Prelude.{◌≡◌, ◌⊎◌, ◌-◌, ◌*◌, ◌^◌, ◌≤◌, ◌<◌, length, codes, Err, IfOk};
+ghost use Rattle.std.specs.Prelude.{◌≡◌, ◌⊎◌, ◌-◌, ◌*◌, ◌^◌, ◌≤◌, ◌<◌, length, codes, None, Err, IfOk};
 ghost use Rattle.mdp_spec.specs.Mdp.{states_of, value_at};
 ghost use Rattle.mdp_rows.specs.declared.dir.Dir.TheVariants.{Max};
 ghost use Rattle.mdp_reach.specs.Query.{plain};
@@ -61,11 +61,11 @@ fn line_of(
     requires choices { length answer.choices.items ≡ states_of model.now }
     requires ranks { length answer.ranks.items ≡ states_of model.now }
     ensures spelled { IfOk result (λ text. text.items ≡ text_of_answer number layers width model.now (plain answer)) }
-    ensures fits { IfOk result (λ text. Fits (certificate_of Max (codes "goal") model.now (plain answer))) }
+    ensures fits { IfOk result (λ text. Fits (certificate_of Max None (codes "goal") model.now (plain answer))) }
 {
     let label = b"goal".to_vec(alloc)?;
     let value = first_value(&answer.values);
-    let cert = certificate_of(model, Dir::Max, label, answer);
+    let cert = certificate_of(model, Dir::Max, None, label, answer);
     drill_line(
         alloc,
         number,

@@ -17,6 +17,7 @@ mod laws;
 mod reaching;
 mod rewarding;
 mod solving;
+mod ways;
 mod witness_certificate;
 mod witness_laws;
 mod witness_search;

@@ -17,7 +17,8 @@ fn solve_query(alloc: Global, model: &Model, dir: Dir, query: Query<'_>) -> Resu
     ensures printed { IfOk (said result) (IsPrinted dir (plain_query query.entry) model.now) }
 {
     match query {
-        Query::Reach { label } => solve_label(alloc, model, dir, label),
+        Query::Reach { label } => solve_label(alloc, model, dir, None, label),
+        Query::Until { stay, label } => solve_label(alloc, model, dir, Some(stay), label),
         Query::Reward { name, label } => solve_named(alloc, model, dir, name, label),
         Query::Mean { name } => solve_payoff(alloc, model, dir, name),
     }

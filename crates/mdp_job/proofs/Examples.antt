@@ -4,8 +4,8 @@ use Rattle.std.specs.{Fmt.{digits}, List.{slice_split}, Prelude.{◌==◌, codes
 use Rattle.mdp_math.specs.{Gcd.{gcd, gcd_with_fuel}, Rational.{of_int, ratio, lt_ℚ}}
 use Rattle.mdp_num.specs.{Numeral.{parts_of, numeral_of}, Value.{spelling}}
 use Rattle.mdp_rows.specs.{declared.rule.RowRule.TheVariants.{Exact, Scaled}, declared.dir.Dir.TheVariants.{Max, Min}}
-use Rattle.mdp_job.specs.Job.{Asked, reach, reward, mean, solve, witness, check, drill, horizon, horizon_reward, policy, chain, discount, discount_check, files_of}
-use Rattle.mdp_job.specs.{Job.{bounds, bounds_until, bounds_total, bounds_discount, bounds_check}, Refusal.{no_job, query_init, below}}
+use Rattle.mdp_job.specs.Job.{Asked, reach, until, reward, mean, solve, witness, check, drill, horizon, total, policy, chain, discount, discount_check, files_of}
+use Rattle.mdp_job.specs.{Job.{bounds, bounds_until, bounds_total, bounds_discount, bounds_check, curve_until, curve_total}, Refusal.{no_job, query_init, below}}
 use Rattle.mdp_job.specs.{Status.{code_of, status_of}, Text.{text_of}, Words.{job_of_texts, path_at}}
 use Rattle.mdp_job.specs.declared.words_error.WordsError.TheVariants.{Command, Number, Rows, Direction, Objective, Threshold, Drill, Steps, Factor, Digits, Encoding}
 
@@ -65,6 +65,11 @@ solves : Asks (
     (codes "solve m exact max visit", Err Objective) ∷
     (codes "solve m exact max reach", Err Number) ∷
     (codes "solve m scaled max reach goal", Ok (solve Scaled Max (reach (codes "goal")))) ∷
+    -- until has two labels; `-` is a label's name here
+    (codes "solve m exact max until safe goal", Ok (solve Exact Max (until (codes "safe") (codes "goal")))) ∷
+    (codes "solve m exact max until - goal", Ok (solve Exact Max (until (codes "-") (codes "goal")))) ∷
+    (codes "solve m exact max until goal", Err Number) ∷
+    (codes "solve m exact max until safe goal 3", Err Number) ∷
     -- a reward has a name and a label
     (codes "solve m exact max reward -", Err Number) ∷
     (codes "solve m exact max reward - goal", Ok (solve Exact Max (reward (codes "-") (codes "goal")))) ∷
@@ -96,7 +101,7 @@ drills : Asks (
     )
 drills = refl
 
--- ---- `horizon`: the row rule, the direction, then the steps; with the word `reward` in the place of a label, the total of a reward
+-- ---- `horizon`, `total`: the row rule, the direction, then the steps
 
 horizons : Asks (
     (codes "horizon m exact max - goal 2", Ok (horizon Exact Max None (codes "goal") 2)) ∷
@@ -105,16 +110,43 @@ horizons : Asks (
     (codes "horizon m exact max - goal 00000001", Err Steps) ∷
     -- an empty word
     (codes "horizon m exact max - goal ", Err Steps) ∷
-    (codes "horizon m exact max reward cost 30", Ok (horizon_reward Exact Max (codes "cost") 30)) ∷
-    (codes "horizon m exact max reward cost 12345678", Err Steps) ∷
+    -- `reward` is a label as any other
+    (codes "horizon m exact max reward cost 30", Ok (horizon Exact Max (Some (codes "reward")) (codes "cost") 30)) ∷
+    (codes "total m exact max cost 30", Ok (total Exact Max (codes "cost") 30)) ∷
+    (codes "total m exact best cost x", Err Direction) ∷
+    (codes "total m exact max cost 12345678", Err Steps) ∷
+    (codes "total m EXACT max cost", Err Number) ∷
     []
     )
 horizons = refl
 
+-- ---- `curve`: four words at least, the row rule, the direction, the objective, its number of words, the steps, then the digits
+
+curves : Asks (
+    (codes "curve m exact max until - goal 100 9", Ok (curve_until Exact Max None (codes "goal") 100 9)) ∷
+    (codes "curve m exact min until safe goal 0 30", Ok (curve_until Exact Min (Some (codes "safe")) (codes "goal") 0 30)) ∷
+    (codes "curve m scaled max total cost 30 6", Ok (curve_total Scaled Max (codes "cost") 30 6)) ∷
+    (codes "curve m EXACT", Err Number) ∷
+    (codes "curve m EXACT best visit", Err Rows) ∷
+    (codes "curve m exact best visit", Err Direction) ∷
+    (codes "curve m exact max reach - goal 100 9", Err Objective) ∷
+    (codes "curve m exact max until - goal 100", Err Number) ∷
+    (codes "curve m exact max total cost x 9 1", Err Number) ∷
+    (codes "curve m exact max total cost x 31", Err Steps) ∷
+    (codes "curve m exact max total cost 30 31", Err Digits) ∷
+    []
+    )
+curves = refl
+
 -- ---- `policy`: the number of words, the row rule, then the objective; `chain`: the number of words, then the row rule
 
 policies : Asks (
-    (codes "policy m exact p reach goal", Ok (policy Exact (codes "goal"))) ∷
+    (codes "policy m exact p reach goal", Ok (policy Exact None (codes "goal"))) ∷
+    (codes "policy m exact p until safe goal", Ok (policy Exact (Some (codes "safe")) (codes "goal"))) ∷
+    (codes "policy m EXACT p until safe goal", Err Rows) ∷
+    -- one label, and another objective with two
+    (codes "policy m exact p until goal", Err Objective) ∷
+    (codes "policy m EXACT p reach safe goal", Err Number) ∷
     (codes "policy m EXACT p visit", Err Number) ∷
     (codes "policy m EXACT p visit goal", Err Rows) ∷
     (codes "policy m exact p reward goal", Err Objective) ∷
@@ -128,8 +160,14 @@ policies = refl
 -- ---- `witness`: the number of words, the row rule, the direction, then the threshold, which may be above 1
 
 witnesses : Asks (
-    (codes "witness m exact min goal 0.50", Ok (witness Exact Min (codes "goal") (ratio (pos 1) 2))) ∷
-    (codes "witness m scaled max goal 2", Ok (witness Scaled Max (codes "goal") (ratio (pos 2) 1))) ∷
+    (codes "witness m exact min goal 0.50", Ok (witness Exact Min None (codes "goal") (ratio (pos 1) 2))) ∷
+    (codes "witness m scaled max goal 2", Ok (witness Scaled Max None (codes "goal") (ratio (pos 2) 1))) ∷
+    -- with two labels
+    (codes "witness m exact max until safe goal 0.50", Ok (witness Exact Max (Some (codes "safe")) (codes "goal") (ratio (pos 1) 2))) ∷
+    (codes "witness m exact max until safe goal half", Err Threshold) ∷
+    (codes "witness m EXACT max reach safe goal 1", Err Number) ∷
+    -- `until` as a label
+    (codes "witness m exact max until 1", Ok (witness Exact Max None (codes "until") (ratio (pos 1) 1))) ∷
     (codes "witness m exact max goal -1/2", Err Threshold) ∷
     (codes "witness m exact best goal half", Err Direction) ∷
     (codes "witness m EXACT best goal", Err Number) ∷
@@ -165,6 +203,10 @@ bounds_asked : Asks (
     (codes "bounds m exact best visit goal 0", Err Direction) ∷
     (codes "bounds m exact max visit - goal 0", Err Objective) ∷
     (codes "bounds m exact max reach goal 0 1", Err Number) ∷
+    -- until without a deadline
+    (codes "bounds m exact max until safe goal 6", Ok (bounds Exact Max (until (codes "safe") (codes "goal")) 6)) ∷
+    (codes "bounds m exact max until safe goal 0", Err Digits) ∷
+    (codes "bounds m exact max until goal 0", Err Number) ∷
     -- a reward has a name and a label before the digits, a mean payoff a name alone
     (codes "bounds m exact max reward - goal 6", Ok (bounds Exact Max (reward (codes "-") (codes "goal")) 6)) ∷
     (codes "bounds m exact max reward goal 0", Err Number) ∷
@@ -178,7 +220,7 @@ bounds_asked = refl
 -- a deadline or a factor comes before the digits, and has its own refusal
 bounds_within : Asks (
     (codes "bounds m exact max until - goal 100 9", Ok (bounds_until Exact Max None (codes "goal") 100 9)) ∷
-    (codes "bounds m exact max until - x 0", Err Number) ∷
+    (codes "bounds m exact max until - goal 100 9 1", Err Number) ∷
     (codes "bounds m exact max until - goal x 0", Err Steps) ∷
     (codes "bounds m exact min total cost 7 9", Ok (bounds_total Exact Min (codes "cost") 7 9)) ∷
     (codes "bounds m exact max total - 7 0", Err Digits) ∷

@@ -19,12 +19,14 @@ pub fn files_of(words: &[String]) -> Files
             Job::Solve { .. }
             | Job::Witness { .. }
             | Job::Horizon { .. }
-            | Job::HorizonReward { .. }
+            | Job::Total { .. }
             | Job::Discount { .. }
             | Job::Bounds { .. }
             | Job::BoundsUntil { .. }
             | Job::BoundsTotal { .. }
-            | Job::BoundsDiscount { .. },
+            | Job::BoundsDiscount { .. }
+            | Job::CurveUntil { .. }
+            | Job::CurveTotal { .. },
         ) => Files {
             model: Some(1),
             second: None,

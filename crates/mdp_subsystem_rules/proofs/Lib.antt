@@ -16,5 +16,7 @@ pub mod FloorRules
 pub mod Counted
 pub mod Fewer
 pub mod Listed
+pub mod Untils
 mod Examples
 mod ExamplesChecks
+mod ExamplesUntil

@@ -9,4 +9,5 @@ pub mod Listed
 pub mod Policy
 pub mod Shape
 pub mod Sums
+pub mod Until
 pub mod Visits

@@ -1,4 +1,5 @@
 ghost use Rattle.mdp_spec.specs.UntilLaws.{IsOneSubsystem, IsHitWhereKeptStay, UntilIsReach, ReachIsUntil, UntilBySub, SubByUntil, UntilLies, UntilIsUnique};
+ghost use Rattle.mdp_subsystem_rules.specs.Until.{SubUntilMaxBySub, SubUntilMaxWithinBySub, SubUntilMinBySub};
 ghost use Rattle.mdp_subsystem_rules.specs.Laws.{FloorShows, FlowShows, PolicyShows, LeastIsFloor, VisitsAreFlow, VisitsBound, TreesReachMore};
 ghost use Rattle.mdp_subsystem_rules.specs.Laws.{WholeIsModel, GreatestGrows, LeastGrows, LeastFallsShort, PolicyFallsShort, VisitsFallShort, ShortIsNoFloor};
 ghost use Rattle.mdp_subsystem_rules.specs.Laws.{FlowNeverNo, FloorNeverNo, ListedAreMarks, ListedFlowShape, ListedFloorShape, ListedMeetsFloor};
@@ -34,7 +35,8 @@ pub fn fewer_law()
 /// Until by way of states that stay is reaching a goal on the subsystem that keeps them: each tree of the model has one of the subsystem that comes to
 /// the same, and the other way round. So values and a policy of the subsystem for reaching a goal are values and a policy of the model for until,
 /// and those of until are unique. A subsystem of that one whose kept states all stay is one of the model, and there each tree comes to the same
-/// for both.
+/// for both. Whatever a subsystem of that one keeps, what it comes to for reaching a goal, the subsystem of the model with the same kept states
+/// comes to for until.
 pub fn stay_law()
     ensures there { UntilIsReach }
     ensures back { ReachIsUntil }
@@ -44,6 +46,9 @@ pub fn stay_law()
     ensures one { UntilIsUnique }
     ensures one_sub { IsOneSubsystem }
     ensures kept { IsHitWhereKeptStay }
+    ensures sub_max { SubUntilMaxBySub }
+    ensures within { SubUntilMaxWithinBySub }
+    ensures sub_min { SubUntilMinBySub }
 {}
 
 /// A subsystem whose least probability is under the threshold falls short of it, and so does each smaller one; the same of one policy's

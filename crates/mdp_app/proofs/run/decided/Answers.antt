@@ -52,10 +52,10 @@ returns-in-Horizon g c =
     decided_as _ _ _ _ _ (sym (ap (λ (job : Job). asked_for (plain_job job)) c.in-Horizon.is) ∙ c.in-Ok.ensures)
     (model_decided _ _ _ _ _ _ refl refl (λ bytes other said due. due) (λ bytes other text shown. shown) refl refl _ c.horizon_file.ensures.read c.horizon_file.ensures.end)
 
-pub returns-in-HorizonReward : goal.returns-in-HorizonReward
-returns-in-HorizonReward g c =
-    decided_as _ _ _ _ _ (sym (ap (λ (job : Job). asked_for (plain_job job)) c.in-HorizonReward.is) ∙ c.in-Ok.ensures)
-    (model_decided _ _ _ _ _ _ refl refl (λ bytes other said due. due) (λ bytes other text shown. shown) refl refl _ c.horizon_reward_file.ensures.read c.horizon_reward_file.ensures.end)
+pub returns-in-Total : goal.returns-in-Total
+returns-in-Total g c =
+    decided_as _ _ _ _ _ (sym (ap (λ (job : Job). asked_for (plain_job job)) c.in-Total.is) ∙ c.in-Ok.ensures)
+    (model_decided _ _ _ _ _ _ refl refl (λ bytes other said due. due) (λ bytes other text shown. shown) refl refl _ c.total_file.ensures.read c.total_file.ensures.end)
 
 pub returns-in-Policy : goal.returns-in-Policy
 returns-in-Policy g c =
@@ -117,3 +117,19 @@ returns-in-BoundsCheck g c =
     decided_as _ _ _ _ _ (sym (ap (λ (job : Job). asked_for (plain_job job)) c.in-BoundsCheck.is) ∙ c.in-Ok.ensures)
     (pair_decided _ _ _ _ _ _ refl refl (λ bytes other said due. due) (λ bytes other text shown. shown) (λ bytes read. read) _ c.check_files-in-BoundsCheck.ensures.read
     c.check_files-in-BoundsCheck.ensures.unread c.check_files-in-BoundsCheck.ensures.model_end c.check_files-in-BoundsCheck.ensures.second_end)
+
+pub until_curve_file-requires : goal.until_curve_file-requires
+until_curve_file-requires g c = in_range_of c.args.words.now _ (sym (ap (λ (job : Job). asked_for (plain_job job)) c.in-CurveUntil.is) ∙ c.in-Ok.ensures)
+
+pub returns-in-CurveUntil : goal.returns-in-CurveUntil
+returns-in-CurveUntil g c =
+    decided_as _ _ _ _ _ (sym (ap (λ (job : Job). asked_for (plain_job job)) c.in-CurveUntil.is) ∙ c.in-Ok.ensures)
+    (model_decided _ _ _ _ _ _ refl refl (λ bytes other said due. due) (λ bytes other text shown. shown) refl refl _ c.until_curve_file.ensures.read c.until_curve_file.ensures.end)
+
+pub total_curve_file-requires : goal.total_curve_file-requires
+total_curve_file-requires g c = in_range_of c.args.words.now _ (sym (ap (λ (job : Job). asked_for (plain_job job)) c.in-CurveTotal.is) ∙ c.in-Ok.ensures)
+
+pub returns-in-CurveTotal : goal.returns-in-CurveTotal
+returns-in-CurveTotal g c =
+    decided_as _ _ _ _ _ (sym (ap (λ (job : Job). asked_for (plain_job job)) c.in-CurveTotal.is) ∙ c.in-Ok.ensures)
+    (model_decided _ _ _ _ _ _ refl refl (λ bytes other said due. due) (λ bytes other text shown. shown) refl refl _ c.total_curve_file.ensures.read c.total_curve_file.ensures.end)

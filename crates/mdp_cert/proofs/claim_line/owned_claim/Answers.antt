@@ -19,4 +19,5 @@ pub returns-in_ok-name-in-Mean : goal.returns-in_ok-name-in-Mean
 returns-in_ok-name-in-Mean c = rw c.in-Mean.is (ap (λ n. mean c.in-Mean.dir n) c.in_ok-name-in-Mean.ensures.items)
 
 pub returns-in_ok-label-in-Witness : goal.returns-in_ok-label-in-Witness
-returns-in_ok-label-in-Witness c = rw c.in-Witness.is (ap (λ l. witness c.in-Witness.dir l c.in-Witness.threshold) c.in_ok-label-in-Witness.ensures.items)
+returns-in_ok-label-in-Witness c =
+    rw c.in-Witness.is (ap₂ (λ s l. witness c.in-Witness.dir s l c.in-Witness.threshold) c.in_ok-stay-in-Witness.ensures c.in_ok-label-in-Witness.ensures.items)

@@ -2,11 +2,11 @@ use Rattle.mdp_checker.proofs.run.run_on_files.Goals as goal
 
 pub returns : goal.returns
 returns g c = record {
-  model = c.open_file-model.result;
+  model = c.open_model-model.result;
   model_after = c.run.new.model;
-  second = c.open_file-cert.result;
+  second = c.open_cert-cert.result;
   second_after = c.run.new.cert;
-  opened_model = record { shown = _; shows = c.paths_of-paths.ensures.model; says = record { met = c.open_file-model.ensures } };
-  opened_second = record { shown = _; shows = c.paths_of-paths.ensures.cert; says = record { met = c.open_file-cert.ensures } };
+  opened_model = record { shown = _; shows = c.paths_of-paths.ensures.model; says = record { met = c.open_model-model.ensures } };
+  opened_second = record { shown = _; shows = c.paths_of-paths.ensures.cert; says = record { met = c.open_cert-cert.ensures } };
   run = record { answer = c.run.ensures.answer; done = c.run.ensures.done; complete = c.run.ensures.complete };
 }

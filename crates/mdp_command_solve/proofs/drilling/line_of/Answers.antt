@@ -1,4 +1,4 @@
-use Rattle.std.proofs.Common.{◌≡◌, ℕ, List, codes, length, ap, subst, ◌∙◌, arith, rules}
+use Rattle.std.proofs.Common.{◌≡◌, ℕ, List, codes, length, None, ap, subst, ◌∙◌, arith, rules}
 use Rattle.std.specs.Global.{Vec}
 use Rattle.mdp_math.specs.Rational.{ℚ}
 use Rattle.mdp_spec.specs.Mdp.{value_at}
@@ -31,7 +31,7 @@ returns-clause-fits c =
     let m = c.args.model.now in
     let a = query.plain c.args.answer in
     let name : c.in_ok-label.label.items ≡ codes "goal" = search rules in
-    let cert : plain c.certificate_of-cert.result ≡ certificate_of Max (codes "goal") m a = c.certificate_of-cert.ensures.certificate ∙ ap (λ (t : List ℕ). certificate_of Max t m a) name in
-    let fits : Fits (certificate_of Max (codes "goal") m a) = subst Fits cert c.certificate_of-cert.ensures.fits in
-    ok-weaker (λ (t : Vec ℕ). t.items ≡ drill_text c.args.number c.args.layers c.args.width _ _ _) (λ (t : Vec ℕ). Fits (certificate_of Max (codes "goal") m a))
+    let cert : plain c.certificate_of-cert.result ≡ certificate_of Max None (codes "goal") m a = c.certificate_of-cert.ensures.certificate ∙ ap (λ (t : List ℕ). certificate_of Max None t m a) name in
+    let fits : Fits (certificate_of Max None (codes "goal") m a) = subst Fits cert c.certificate_of-cert.ensures.fits in
+    ok-weaker (λ (t : Vec ℕ). t.items ≡ drill_text c.args.number c.args.layers c.args.width _ _ _) (λ (t : Vec ℕ). Fits (certificate_of Max None (codes "goal") m a))
     c.drill_line.result (λ t e. fits) c.drill_line.ensures

@@ -1,15 +1,6 @@
 use Rattle.std.proofs.{Common.{arith}, lemmas.Grind.{common_steps}}
 use Rattle.mdp_job.proofs.job.other_of.Goals as goal
 
-pub returns-in-horizon : goal.returns-in-horizon
-returns-in-horizon c = grind (arith, common_steps)
-
-pub returns-in-policy : goal.returns-in-policy
-returns-in-policy c = grind (arith, common_steps)
-
-pub returns-in-chain : goal.returns-in-chain
-returns-in-chain c = grind (arith, common_steps)
-
 pub returns-in-discount : goal.returns-in-discount
 returns-in-discount c = grind (arith, common_steps)
 

@@ -1,5 +1,5 @@
 use Rattle.std.proofs.{Common.{arith}, lemmas.Grind.{common_steps}}
-use Rattle.mdp_job.proofs.job.policy_of.Goals as goal
+use Rattle.mdp_job.proofs.job.curve_of.Goals as goal
 
 pub returns : goal.returns
 returns c = grind (arith, common_steps)
@@ -7,5 +7,5 @@ returns c = grind (arith, common_steps)
 pub returns-in_err-rule : goal.returns-in_err-rule
 returns-in_err-rule c = grind (arith, common_steps)
 
-pub returns-then-ne : goal.returns-then-ne
-returns-then-ne c = grind (arith, common_steps)
+pub returns-in_err-dir : goal.returns-in_err-dir
+returns-in_err-dir c = grind (arith, common_steps)

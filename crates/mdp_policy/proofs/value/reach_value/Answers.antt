@@ -1,7 +1,7 @@
-use Rattle.std.proofs.Common.{◌∙◌, sym}
+use Rattle.std.proofs.Common.{◌∙◌, None, sym}
 use Rattle.mdp_policy.specs.Answer.{plain}
-use Rattle.mdp_policy.proofs.{Solving.{policy_rows-len, along_ranks, policy_leaves}, Facts.{IsValued, written_valued}, value.value_of.Goals.{In-Ok}}
-use Rattle.mdp_policy.proofs.value.value_of.Goals as goal
+use Rattle.mdp_policy.proofs.{Solving.{policy_rows-len, along_ranks, policy_leaves}, Facts.{IsValued, written_valued}, value.reach_value.Goals.{In-Ok}}
+use Rattle.mdp_policy.proofs.value.reach_value.Goals as goal
 
 pub along-requires : goal.along-requires
 along-requires c = record { target = c.requires.goals ∙ sym (policy_rows-len c.args.model.now c.args.policy.now) }
@@ -24,7 +24,7 @@ evaluated-requires c =
     )
 
 -- the value that was found, and its changes
-valued : (c : In-Ok) → IsValued c.args.model.now c.args.goals.now c.args.policy.now (plain c.in-Ok.value)
+valued : (c : In-Ok) → IsValued c.args.model.now None c.args.goals.now c.args.policy.now (plain c.in-Ok.value)
 valued c =
     let m = c.args.model.now in
     let pass = c.in_ok-pass.pass in
@@ -47,3 +47,9 @@ returns-in-Ok-clause-up c = (valued (goal.at.returns-in-Ok-clause-up c).In-Ok).u
 
 pub returns-in-Ok-clause-down : goal.returns-in-Ok-clause-down
 returns-in-Ok-clause-down c = (valued (goal.at.returns-in-Ok-clause-down c).In-Ok).down
+
+pub returns-in-Ok-clause-up_in : goal.returns-in-Ok-clause-up_in
+returns-in-Ok-clause-up_in c = (valued (goal.at.returns-in-Ok-clause-up_in c).In-Ok).up_in
+
+pub returns-in-Ok-clause-down_in : goal.returns-in-Ok-clause-down_in
+returns-in-Ok-clause-down_in c = (valued (goal.at.returns-in-Ok-clause-down_in c).In-Ok).down_in

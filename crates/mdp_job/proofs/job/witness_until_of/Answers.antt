@@ -1,0 +1,14 @@
+use Rattle.std.proofs.{Common.{arith}, lemmas.Grind.{common_steps}}
+use Rattle.mdp_job.proofs.job.witness_until_of.Goals as goal
+
+pub returns : goal.returns
+returns c = grind (arith, common_steps)
+
+pub returns-in_err-rule : goal.returns-in_err-rule
+returns-in_err-rule c = grind (arith, common_steps)
+
+pub returns-in_err-dir : goal.returns-in_err-dir
+returns-in_err-dir c = grind (arith, common_steps)
+
+pub returns-in_err-threshold : goal.returns-in_err-threshold
+returns-in_err-threshold c = grind (arith, common_steps)
