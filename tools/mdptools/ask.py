@@ -142,11 +142,11 @@ def value_text(result):
 
 def evidence_text(one):
     """Who vouches for a number."""
-    solved = f"{one.command} by {one.solver.name}, {one.solver.vouches}"
+    written = f"{one.command} of {one.solver.name} ({one.solver.vouches})"
     if one.checker:
-        return f"certificate {shown_path(one.file)}, checked: {one.verdict} by {one.checker.name}, {one.checker.vouches}; written by {solved}"
-    behind = "its proof stands behind the numbers" if one.solver.is_proved else "nothing but its tests stands behind the numbers until bin/mdp is built"
-    return f"a deadline has no certificate: {behind}; {shown_path(one.file)}, written by {solved}"
+        return f"certificate {shown_path(one.file)}: {one.verdict} by {one.checker.name} ({one.checker.vouches}); from {written}"
+    behind = "whose proof stands behind it" if one.solver.is_proved else "so tests alone stand behind it"
+    return f"no certificate, as for each deadline: from {written}, {behind}; its text is {shown_path(one.file)}"
 
 
 def line_of(result):
@@ -267,8 +267,6 @@ def tables_of(session, words, result):
 
 def write_files(words, results):
     """The files that --certificate, --policy and --plot name."""
-    if (words.certificate or words.policy or words.plot) and len(results) != 1:
-        raise Ends(WORDS, "bin/ask: --certificate, --policy and --plot belong to one property")
     if words.certificate:
         if not results[0].evidence:
             raise Ends(WORDS, "bin/ask: nothing was computed for this property, so there is no certificate")
@@ -279,7 +277,10 @@ def write_files(words, results):
             raise Ends(WORDS, "bin/ask: the answer has no policy without a deadline; of a deadline --certificate FILE keeps the table of choices")
         pathlib.Path(words.policy).write_text(certificates.policy_of(answer.choices))
     if words.plot:
-        curves.plot(words.plot, results[0])
+        try:
+            curves.plot(words.plot, results[0])
+        except curves.CannotPlot as why:
+            raise Ends(WORDS, f"bin/ask: {why}") from None
 
 
 def status_of(results):
@@ -314,17 +315,18 @@ def print_facts(model, words):
         print(*shown.table(["fact", "value"], pairs), sep="\n")
 
 
-def run(words):
-    """Answers what is asked, and gives the status."""
-    options, found = options_of(words), properties_of(words)
-    model = read_model(words.model, words, not found)
-    if not found:
-        print_facts(model, words)
-        return DONE
+def session_of(words, model, options):
+    """The model with the programs that are to answer. What has to be compiled for them is compiled first."""
     try:
-        session = asking.Session(words.model, model, options, program.solver(words.solver), program.checker(words.checker))
+        solver, checker = program.solver(words.solver), program.checker(words.checker)
+        program.prepare(solver)
     except program.Unbuilt as unbuilt:
         raise Ends(70, f"bin/ask: {unbuilt}") from None
+    return asking.Session(words.model, model, options, solver, checker)
+
+
+def print_answers(session, words, found):
+    """Prints what each property comes to, and gives the status."""
     results = []
     for asked in found:
         results.append(answered(session, asked))
@@ -336,6 +338,23 @@ def run(words):
         sys.stdout.write(csv_of(session, words, results))
     write_files(words, results)
     return status_of(results)
+
+
+def run(words):
+    """Answers what is asked, and gives the status."""
+    options, found = options_of(words), properties_of(words)
+    model = read_model(words.model, words, not found)
+    if not found:
+        print_facts(model, words)
+        return DONE
+    if len(found) != 1 and (words.certificate or words.policy or words.plot):
+        raise Ends(WORDS, "bin/ask: --certificate, --policy and --plot belong to one property")
+    session = session_of(words, model, options)
+    try:
+        where_bits(session, words)
+        return print_answers(session, words, found)
+    finally:
+        session.close()
 
 
 def main(arguments):

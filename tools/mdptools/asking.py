@@ -5,6 +5,8 @@ import hashlib
 import math
 import pathlib
 import re
+import shutil
+import tempfile
 from dataclasses import dataclass, field, replace
 from fractions import Fraction
 
@@ -12,7 +14,7 @@ from . import certificates, drn, program
 from .formulas import Labels, bits_of, states_of
 from .properties import Label, Query, Range, Unsupported
 
-MOST_DIGITS, MORE_DIGITS = 30, 6
+MOST_DIGITS, MORE_DIGITS = 30, 3
 FLIPPED = {"max": "min", "min": "max"}
 TURNED = {">=": "<=", ">": "<", "<=": ">=", "<": ">"}
 UNDECIDED = 5
@@ -65,11 +67,12 @@ class Question:
             return "discount", "bounds", ["discount", self.name, str(self.factor)]
         return "solve", "bounds", [self.kind, self.name, self.goal][: 3 if self.goal else 2]
 
-    def claim(self):
-        """The second line of the text that answers it."""
+    def claims(self):
+        """The second lines of texts that answer it. A total of rewards within a deadline is spelled in two ways."""
         kind, *names = self.words()[2]
         number = [names.pop()] if self.steps is not None or self.kind == "discount" else []
-        return " ".join(["claim", self.direction, kind, *(f'"{name}"' for name in names), *number])
+        kinds = ["total", "reward"] if kind == "total" else [kind]
+        return [" ".join(["claim", self.direction, each, *(f'"{name}"' for name in names), *number]) for each in kinds]
 
 
 @dataclass
@@ -137,19 +140,28 @@ class Session:
 
     def __init__(self, path, model, options, solver, checker):
         self.path, self.model, self.options, self.solver, self.checker = pathlib.Path(path), model, options, solver, checker
+        options.keep.mkdir(parents=True, exist_ok=True)
+        self.work = pathlib.Path(tempfile.mkdtemp(prefix="at-work-", dir=options.keep))
         self.labels = Labels(model, self.nested)
         self.size, self.rows = len(model.states), options.rows or "exact"
         self.is_chain = all(len(state.choices) == 1 for state in model.states)
         self.starts = states_of(self.labels.bits.get("init", 0))
         self.evidence, self.notes, self.copies = [], [], {}
 
+    def close(self):
+        """Takes away what isn't kept."""
+        shutil.rmtree(self.work, ignore_errors=True)
+
     # ---- copies of the model
 
     def file(self, key, suffix):
-        """The file in which something that belongs to a key is kept."""
+        """A file for something that belongs to a key, in a folder of this run alone; `kept` moves it to where it stays."""
         digest = hashlib.sha256(repr((str(self.path.resolve()), key)).encode("utf-8", "surrogateescape")).hexdigest()[:8]
-        self.options.keep.mkdir(parents=True, exist_ok=True)
-        return self.options.keep / f"{self.path.stem}-{digest}{suffix}"
+        return self.work / f"{self.path.stem}-{digest}{suffix}"
+
+    def kept(self, file):
+        """Moves a whole file to where it is kept: another run that keeps one of the same name meets no half of one."""
+        return pathlib.Path(shutil.move(file, self.options.keep / file.name))
 
     def note(self, text):
         if text not in self.notes:
@@ -173,7 +185,7 @@ class Session:
         if key not in self.copies:
             target = self.file(key, ".drn")
             drn.copy(self.path, target, {name: set(states_of(bits)) for name, bits in added.items()}, reward and (reward[0], set(states_of(reward[1]))))
-            self.copies[key] = target
+            self.copies[key] = self.kept(target)
         target = self.copies[key]
         labels = [f'the label "{name}"' for name in added] + ([f'the reward "{reward[0]}", 1 at each state of it'] if reward else [])
         self.note(f"asked of a copy of the model, {shown_path(target)}, with {' and '.join(labels)}")
@@ -295,7 +307,7 @@ class Session:
         pairs = certificates.read(output).curve
         if question.is_complement:
             pairs = [(1 - high, 1 - low) for low, high in pairs]
-        return pairs, self.vouched(Evidence(f"curve, {digits} digits", output, question.model, self.rows, self.solver, is_bounds=True))
+        return pairs, self.vouched(Evidence(f"curve, {digits} digits", self.kept(output), question.model, self.rows, self.solver, is_bounds=True))
 
     def vouched(self, evidence):
         self.evidence.append(evidence)
@@ -304,11 +316,12 @@ class Session:
     def answer(self, question, command, output, digits=0):
         """What a text says, once it is checked where it is a certificate."""
         text = certificates.read(output)
-        if text.claim != question.claim() or len(text.lower) != self.size:
-            raise Refused(70, f"{self.solver.name} answers another question: {text.claim[:200]}", f"asked was {question.claim()[:200]}")
+        if text.claim not in question.claims() or len(text.lower) != self.size:
+            raise Refused(70, f"{self.solver.name} answers another question: {text.claim[:200]}", f"asked was {question.claims()[0][:200]}")
         evidence = Evidence(command, output, question.model, self.rows, self.solver, is_bounds=text.is_bounds)
         if question.steps is None:
             self.check(evidence)
+        evidence.file = self.kept(output)
         lower, upper = text.lower, text.upper
         if question.is_complement:
             lower, upper = [1 - value for value in upper], [1 - value for value in lower]
@@ -322,7 +335,7 @@ class Session:
         evidence.checker, evidence.verdict = self.checker, ended.first
         if ended.status != 0 or ended.first != "yes":
             status = ended.status if ended.status and 0 < ended.status <= 11 else 70
-            raise Refused(status, f"{self.checker.name} doesn't accept the certificate: {ended.first[:200]}", f"{shown_path(evidence.file)} has it; nothing is claimed")
+            raise Refused(status, f"{self.checker.name} doesn't accept the certificate: {ended.first[:200]}", f"{shown_path(self.kept(evidence.file))} has it; nothing is claimed")
 
     # ---- values
 

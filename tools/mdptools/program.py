@@ -64,21 +64,35 @@ def is_built(name, crate):
 def solver(given=""):
     """The program that answers: the given one; else bin/mdp where it is built; else bin/try."""
     if given:
-        return Tool(pathlib.Path(given), given, "given by --solver: nothing is said here of what stands behind it", False)
+        return Tool(pathlib.Path(given), given, "given by --solver", False)
     if is_built("mdp", "mdp_app"):
         return Tool(TOP / "bin" / "mdp", "bin/mdp", "proved", True)
     if (TOP / "bin" / "try").exists():
-        return Tool(TOP / "bin" / "try", "bin/try", "compiled from sources that aren't proved in this run", False)
+        return Tool(TOP / "bin" / "try", "bin/try", "sources not proved in this run", False)
     raise Unbuilt("bin/mdp isn't built, and there is no bin/try")
 
 
 def checker(given=""):
     """The program that checks certificates: the given one; else bin/check where it is built; else tools/recheck."""
     if given:
-        return Tool(pathlib.Path(given), given, "given by --checker: nothing is said here of what stands behind it", False)
+        return Tool(pathlib.Path(given), given, "given by --checker", False)
     if is_built("check", "mdp_checker"):
         return Tool(TOP / "bin" / "check", "bin/check", "proved", True)
-    return Tool(TOP / "tools" / "recheck", "tools/recheck", "a second opinion in Python, not proved", False)
+    return Tool(TOP / "tools" / "recheck", "tools/recheck", "in Python, not proved", False)
+
+
+def prepare(tool):
+    """Has bin/try compile what it runs, where that isn't kept yet, so that no limit of time counts it."""
+    if tool.name != "bin/try":
+        return
+    with subprocess.Popen([TOP / "tools" / "compile", "mdp_app"], stdin=subprocess.DEVNULL, stdout=subprocess.DEVNULL, start_new_session=True) as process:
+        try:
+            status = process.wait()
+        except BaseException:
+            end(process)
+            raise
+    if status != 0:
+        raise Unbuilt("there is no program to ask: bin/mdp isn't built, and the sources can't be compiled here")
 
 
 class Clock:

@@ -291,6 +291,8 @@ class Parser:
             self.refuse(f"{token.text} isn't taken: the nearest is {'P>=1' if token.text == 'A' else 'P>0'} [ .. ]", token)
         if token.text == "filter":
             self.refuse("a filter stands at the head of a property alone", token)
+        if token.text == "multi":
+            self.refuse("several objectives at once aren't taken: the nearest is one property for each objective", token)
         if re.fullmatch("P(max|min)?|R(max|min)?|S(max|min)?|LRA(max|min)?", token.text):
             self.at -= 1
             found = self.inner(self.query)
@@ -373,9 +375,8 @@ class Parser:
     def way(self):
         """What stands in the brackets of P."""
         token = self.now
-        if self.sees("X", "multi"):
-            near = 'F<=1 "goal", which counts the first state too' if token.text == "X" else "one property for each objective"
-            self.refuse(f"{token.text} isn't taken: the nearest is {near}")
+        if self.sees("X"):
+            self.refuse('X isn\'t taken: the nearest is F<=1 "goal", which counts the first state too')
         if self.sees("F", "G"):
             self.next()
             steps = self.deadline()

@@ -16,7 +16,8 @@ use std::alloc::Global;
 fn states_with(alloc: Global, model: &Model, label: &[u8]) -> Result<Marks, Refusal>
     ensures marks { IfOk result (λ marks. labelled_marks model.now label.now ≡ Some marks) }
     ensures each { IfOk result (λ marks. length marks ≡ states_of model.now) }
-    ensures refused { IfErr result (λ r. (plain_refusal r ≡ no_memory) ⊎ (label_fault (place_of label.now model.now.labels) ≡ Some (plain_refusal r))) }
+    ensures refused { IfErr result (λ r. (plain_refusal r ≡ no_memory)
+        ⊎ (label_fault (place_of label.now model.now.labels) ≡ Some (plain_refusal r))) }
 {
     let Some(place) = model.label(label) else {
         return Err(Refusal::QueryLabel);
@@ -47,8 +48,8 @@ fn bounds_of_label(
     }
 }
 
-/// Bounds of the probabilities of reaching a label by way of states with the label `stay` alone, or the refusal of a label that isn't there: `stay` is
-/// looked up first. They are bounds of reaching the label on the model in which each state with neither label is left with a loop.
+/// Bounds of the probabilities of reaching a label by way of states with the label `stay` alone, or the refusal of a label that isn't there: `stay`
+/// is looked up first. They are bounds of reaching the label on the model in which each state with neither label is left with a loop.
 fn bounds_of_until(
     alloc: Global,
     model: &Model,

@@ -11,7 +11,7 @@ use Rattle.mdp_policy_iteration.specs.Path.{Found, Refusal}
 use Rattle.mdp_farkas.specs.{Reach.{IsReach}, Reward.{MeetsReward, IsReward, reward_checks}, Mean.{MeetsMean, IsMean}}
 use Rattle.mdp_farkas.specs.{Verdict.{verdict_of}, Initial.{init_fault}}
 use Rattle.mdp_claims.specs.{declared.verdict.Verdict.{Verdict}, declared.verdict.Verdict.TheVariants.{Yes, No, Wide}}
-use Rattle.mdp_reach.specs.Query.{Answer, HasOneEach}
+use Rattle.mdp_reach.specs.Query.{Answer, HasOneEach, EndsSo}
 use Rattle.mdp_reward.specs.Query as rewarded
 use Rattle.mdp_mean.specs.Query as averaged
 use Rattle.mdp_text.specs.{declared.init.Init.{Init}, Heads.{init_of, init_by}}
@@ -23,7 +23,7 @@ use Rattle.mdp_check.proofs.Accepting.{accepted_is_bound}
 use Rattle.mdp_job.specs.Refusal.{no_memory}
 use Rattle.mdp_command.specs.{Files.{most_bytes}, Said.{Said}}
 use Rattle.mdp_command_solve.specs.Ways.{goals_by}
-use Rattle.mdp_command_solve.specs.Due.{claim_of, certificate_of, reward_certificate_of, mean_certificate_of}
+use Rattle.mdp_command_solve.specs.Due.{claim_of, certificate_of, IsReachEnd, reward_certificate_of, mean_certificate_of}
 use Rattle.mdp_command_solve.specs.Solved.{IsClaimPrinted, IsReachPrinted, IsRewardPrinted, IsMeanPrinted}
 use Rattle.mdp_text.proofs.InitialState.{initial_below}
 use Rattle.mdp_command_solve.proofs.{TextLength.{text_short}, OnWay.{way_states, marked}}
@@ -261,3 +261,9 @@ pub text_printed : (P : List ℕ → Type 0) (c : Certificate) (said : Said) →
 text_printed P c (Ok text) shows (inl memory) = cc memory
 text_printed P c (Ok text) shows (inr e) = shows text (cc e)
 text_printed P c (Err r) shows e = tt
+
+-- the text of an answer is due, where the query ends with it
+pub text_due : (dir : Dir) (stay : Option (List ℕ)) (label : List ℕ) (m : Mdp) (goals : List Bool) (a : Answer) (c : Certificate) (said : Said)
+    → EndsSo dir (way_by m goals stay) goals (Ok a) → c ≡ certificate_of dir stay label m a → IsTextOf c said → (said ≡ Err no_memory) ⊎ IsReachEnd dir stay label m goals said
+text_due dir stay label m goals a c said end is (inl memory) = inl memory
+text_due dir stay label m goals a c said end is (inr e) = inr (Ok a, end, e ∙ ap (λ (x : Certificate). let r : Said = Ok (text_of x) in r) is)

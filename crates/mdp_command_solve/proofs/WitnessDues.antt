@@ -65,7 +65,7 @@ module _ (dir : Dir) (stay : Option (List ℕ)) (label : List ℕ) (threshold : 
           let each = marks_each m stay label goals named_so ∙ sym (way_states m goals stay) in
           let inside = subst (λ (n : ℕ). start < n) (sym (way_states m goals stay)) (initial_below m start initial) in
           witness_of dir stay label threshold m goals start named_so initial found.0
-          (is_witness m mdp stay goals start threshold found.0 dir end (holds dir way goals start threshold found.0 known each inside end)
+          (is_witness m mdp stay goals start threshold found.0 way refl dir end (holds dir way goals start threshold found.0 known each inside end)
           (sub_max dir way goals start threshold found.0 known each inside end)
           (sub_min dir way goals start threshold found.0 known each inside end) (policy dir way goals start threshold found.0 known each inside end)
           (needed_max dir way goals start threshold found.0 known each inside end) (needed_min dir way goals start threshold found.0 known each inside end)

@@ -1,5 +1,5 @@
 -- Worked witnesses, and what is said of them.
-use Rattle.std.proofs.Common.{◌≡◌, ℕ, ◌+◌, ◌^◌, List, [], ◌∷◌, ◌++◌, true, false, Some, Err, refl, pos}
+use Rattle.std.proofs.Common.{◌≡◌, ℕ, ◌+◌, ◌^◌, List, [], ◌∷◌, ◌++◌, true, false, Some, None, Err, refl, pos}
 use Rattle.std.specs.{Fmt.{digits}, Prelude.{codes}}
 use Rattle.mdp_math.specs.{Gcd.{gcd, gcd_with_fuel}, Rational.{of_int, ratio}}
 use Rattle.mdp_num.specs.Value.{spelling}
@@ -45,19 +45,26 @@ by_flow = flow (0 ∷ []) (false ∷ []) ((let f : Flow = record { state = 0; ch
 abbrev by_floor : PlainSubsystem
 by_floor = floor (0 ∷ []) (true ∷ []) (of_int (pos 1) ∷ []) (1 ∷ [])
 
-flow-text : text_of (certificate_of Max (codes "goal") half 0 two by_flow) ≡
+flow-text : text_of (certificate_of Max None (codes "goal") half 0 two by_flow) ≡
     line (codes "mdp-certificate 2") ++ line (codes "claim max witness \"goal\" 1/2") ++ line (codes "states 2") ++ line (codes "init 0") ++ line (codes "keep 0 kept") ++ line (codes "flow 0 0 1")
     ++ line (codes "end")
 unfolding text_in listed_lines spelling digits ratio of_int gcd gcd_with_fuel
 flow-text = refl
 
-floor-text : text_of (certificate_of Min (codes "goal") half 0 two by_floor) ≡
+floor-text : text_of (certificate_of Min None (codes "goal") half 0 two by_floor) ≡
     line (codes "mdp-certificate 2") ++ line (codes "claim min witness \"goal\" 1/2") ++ line (codes "states 2") ++ line (codes "init 0") ++ line (codes "keep 0 1 1 wide") ++ line (codes "end")
 unfolding text_in listed_lines spelling digits ratio of_int gcd gcd_with_fuel
 floor-text = refl
 
+-- by way of states with the label `init` alone
+until-text : text_of (certificate_of Max (Some (codes "init")) (codes "goal") half 0 two by_flow) ≡
+    line (codes "mdp-certificate 2") ++ line (codes "claim max witness until \"init\" \"goal\" 1/2") ++ line (codes "states 2") ++ line (codes "init 0") ++ line (codes "keep 0 kept")
+    ++ line (codes "flow 0 0 1") ++ line (codes "end")
+unfolding text_in listed_lines spelling digits ratio of_int gcd gcd_with_fuel
+until-text = refl
+
 -- no state is kept where the threshold is 0
-empty-text : text_of (certificate_of Max (codes "goal") (of_int (pos 0)) 0 two (flow [] [] [])) ≡
+empty-text : text_of (certificate_of Max None (codes "goal") (of_int (pos 0)) 0 two (flow [] [] [])) ≡
     line (codes "mdp-certificate 2") ++ line (codes "claim max witness \"goal\" 0") ++ line (codes "states 2") ++ line (codes "init 0") ++ line (codes "end")
 unfolding text_in listed_lines spelling digits of_int
 empty-text = refl
@@ -70,28 +77,35 @@ floor-dir = refl
 
 -- ---- what is due
 
-below-said : said_of_end Max (codes "goal") half 0 two (Err (below (ratio (pos 1) 3))) ≡ Err (job.below (ratio (pos 1) 3))
+below-said : said_of_end Max None (codes "goal") half 0 two (Err (below (ratio (pos 1) 3))) ≡ Err (job.below (ratio (pos 1) 3))
 below-said = refl
 
 -- a round above 2^64 - 1 is given as 2^64 - 1
-capped-said : said_of_end Max (codes "goal") half 0 two (Err (too_wide (record { part = part.Whole; number = 2 ^ 64 + 7; policy = 0 ∷ 0 ∷ []; kind = Evaluate; state = Some 0; choice = Some 0 })))
+capped-said : said_of_end Max None (codes "goal") half 0 two (Err (too_wide (record { part = part.Whole; number = 2 ^ 64 + 7; policy = 0 ∷ 0 ∷ []; kind = Evaluate; state = Some 0; choice = Some 0 })))
     ≡ Err (job.too_wide (record { part = part.Whole; number = 18446744073709551615; policy = 0 ∷ 0 ∷ []; kind = Evaluate; state = Some 0; choice = Some 0 }))
 capped-said = refl
 
 -- a label that isn't there is refused before an initial state is looked for
-unknown-label : IsWitnessDue Max (codes "none") half no_start (Err query_label)
+unknown-label : IsWitnessDue Max None (codes "none") half no_start (Err query_label)
 unknown-label = refl
 
-unknown-label-alone : IsWitnessDue Max (codes "none") half no_start (Err query_init) → ⊥
+unknown-label-alone : IsWitnessDue Max None (codes "none") half no_start (Err query_init) → ⊥
 unknown-label-alone e = cc
 
+-- and so is the label of the states on the way
+unknown-way : IsWitnessDue Max (Some (codes "none")) (codes "goal") half no_start (Err query_label)
+unknown-way = refl
+
+no-start-on-way : IsWitnessDue Max (Some (codes "goal")) (codes "goal") half no_start (Err query_init)
+no-start-on-way = refl
+
 -- not exactly one initial state
-two-starts : IsWitnessDue Min (codes "goal") half two_starts (Err query_init)
+two-starts : IsWitnessDue Min None (codes "goal") half two_starts (Err query_init)
 two-starts = refl
 
-no-start : IsWitnessDue Max (codes "goal") half no_start (Err query_init)
+no-start : IsWitnessDue Max None (codes "goal") half no_start (Err query_init)
 no-start = refl
 
 -- a model that was refused comes first
-refused-model : IsStepDue Max (codes "none") half (Err job.long_model) (Err job.long_model)
+refused-model : IsStepDue Max None (codes "none") half (Err job.long_model) (Err job.long_model)
 refused-model = refl

@@ -75,34 +75,39 @@ module _ (m : Mdp) (mdp : IsMdp m) (goals : List Bool) (start : ℕ) (threshold 
   reaches_min None h = h
   reaches_min (Some a) h = sub_until_min m (stay_marks m a) goals kept start threshold mdp h
 
-module _ (m : Mdp) (mdp : IsMdp m) (stay : Option (List ℕ)) (goals : List Bool) (start : ℕ) (threshold : ℚ) (found : PlainSubsystem) where
-  -- what it shows, by the direction
-  pub is_witness : (dir : Dir) → EndsSo dir (way_by m goals stay) goals start threshold (Ok found) → Holds dir (way_by m goals stay) goals start threshold found
-      → (dir ≡ Max → SubMax (way_by m goals stay) goals (kept_in (way_by m goals stay) found) start threshold)
-      → (dir ≡ Min → SubMin (way_by m goals stay) goals (kept_in (way_by m goals stay) found) start threshold)
-      → (dir ≡ Max → PolicyReaches (way_by m goals stay) goals start threshold found)
-      → (dir ≡ Max → AreNeeded (IsNeededMax (way_by m goals stay) goals start threshold) (way_by m goals stay) found)
-      → (dir ≡ Min → AreNeeded (IsNeededMin (way_by m goals stay) goals start threshold) (way_by m goals stay) found)
-      → (dir ≡ Max → MarksAreExactMax (way_by m goals stay) goals start threshold found) → (dir ≡ Min → MarksAreExactMin (way_by m goals stay) goals start threshold found)
-      → IsWitness dir stay threshold m goals start found
-  is_witness Max ends rules sub_max sub_min policy needed_max needed_min wide_max wide_min = record {
-    ends = ends;
-    rules = rules;
-    reaches = reaches_max m mdp goals start threshold (kept_in m found) stay
-        (subst (λ (kept : List Bool). SubMax (way_by m goals stay) goals kept start threshold) (kept_of_way m goals stay found) (sub_max refl));
-    policy = policy refl;
-    needed = needed_max refl;
-    marks = wide_max refl;
-  }
-  is_witness Min ends rules sub_max sub_min policy needed_max needed_min wide_max wide_min = record {
-    ends = ends;
-    rules = rules;
-    reaches = reaches_min m mdp goals start threshold (kept_in m found) stay
-        (subst (λ (kept : List Bool). SubMin (way_by m goals stay) goals kept start threshold) (kept_of_way m goals stay found) (sub_min refl));
-    policy = tt;
-    needed = needed_min refl;
-    marks = wide_min refl;
-  }
+-- what it shows, by the direction, from what it shows on what is left
+pub is_witness :
+    (m : Mdp) → IsMdp m → (stay : Option (List ℕ)) (goals : List Bool) (start : ℕ) (threshold : ℚ) (found : PlainSubsystem) (way : Mdp) → way ≡ way_by m goals stay → (dir : Dir)
+    → EndsSo dir way goals start threshold (Ok found) → Holds dir way goals start threshold found → (dir ≡ Max → SubMax way goals (kept_in way found) start threshold)
+    → (dir ≡ Min → SubMin way goals (kept_in way found) start threshold) → (dir ≡ Max → PolicyReaches way goals start threshold found)
+    → (dir ≡ Max → AreNeeded (IsNeededMax way goals start threshold) way found) → (dir ≡ Min → AreNeeded (IsNeededMin way goals start threshold) way found)
+    → (dir ≡ Max → MarksAreExactMax way goals start threshold found) → (dir ≡ Min → MarksAreExactMin way goals start threshold found) → IsWitness dir stay threshold m goals start found
+is_witness m mdp stay goals start threshold found way is Max ends rules sub_max sub_min policy needed_max needed_min wide_max wide_min =
+    subst
+    (λ (w : Mdp). EndsSo Max w goals start threshold (Ok found) → Holds Max w goals start threshold found → SubMax w goals (kept_in w found) start threshold → PolicyReaches w goals start threshold found
+    → AreNeeded (IsNeededMax w goals start threshold) w found → MarksAreExactMax w goals start threshold found → IsWitness Max stay threshold m goals start found) (sym is)
+    (λ ends rules sub policy needed wide. record {
+      ends = ends;
+      rules = rules;
+      reaches = reaches_max m mdp goals start threshold (kept_in m found) stay
+          (subst (λ (kept : List Bool). SubMax (way_by m goals stay) goals kept start threshold) (kept_of_way m goals stay found) sub);
+      policy = policy;
+      needed = needed;
+      marks = wide;
+    }) ends rules (sub_max refl) (policy refl) (needed_max refl) (wide_max refl)
+is_witness m mdp stay goals start threshold found way is Min ends rules sub_max sub_min policy needed_max needed_min wide_max wide_min =
+    subst
+    (λ (w : Mdp). EndsSo Min w goals start threshold (Ok found) → Holds Min w goals start threshold found → SubMin w goals (kept_in w found) start threshold
+    → AreNeeded (IsNeededMin w goals start threshold) w found → MarksAreExactMin w goals start threshold found → IsWitness Min stay threshold m goals start found) (sym is)
+    (λ ends rules sub needed wide. record {
+      ends = ends;
+      rules = rules;
+      reaches = reaches_min m mdp goals start threshold (kept_in m found) stay
+          (subst (λ (kept : List Bool). SubMin (way_by m goals stay) goals kept start threshold) (kept_of_way m goals stay found) sub);
+      policy = tt;
+      needed = needed;
+      marks = wide;
+    }) ends rules (sub_min refl) (needed_min refl) (wide_min refl)
 
 -- ---- its text
 

@@ -202,7 +202,8 @@ impl Query<'_> {
     {
         let mut made = Vec::with_capacity(alloc, column.len())?;
         for s in 0..self.model.states() {
-            made.push(self.cover_at(rows[s as usize].as_slice(), column, s))?;
+            let choices = rows[s as usize].as_slice();
+            made.push(self.cover_at(choices, column, s))?;
         }
         Ok(made)
     }
@@ -222,7 +223,8 @@ impl Query<'_> {
     {
         let mut made = Vec::with_capacity(alloc, column.len())?;
         for s in 0..self.model.states() {
-            let leader = self.follow_at(rows[s as usize].as_slice(), column, s);
+            let choices = rows[s as usize].as_slice();
+            let leader = self.follow_at(choices, column, s);
             made.push(leader.value)?;
         }
         Ok(made)

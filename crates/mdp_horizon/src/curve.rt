@@ -9,29 +9,28 @@ use crate::bounds_induction::shown;
 use crate::bounds_objective::Objective;
 use crate::columns::Query;
 use crate::point::Point;
-use mdp_num::Memory;
+use mdp_num::{Frac, Memory};
 use mdp_rows::{Dir, Marks, Model};
 use std::alloc::{AllocError, Global};
 
 impl Query<'_> {
-    /// The values of state `s` in the two columns.
-    fn point(self, cover: &[Option<i128>], follow: &[Option<i128>], s: u32) -> Point
+    /// The lower and the upper value of state `s` in the two columns.
+    fn values_at(
+        self,
+        cover: &[Option<i128>],
+        follow: &[Option<i128>],
+        s: u32,
+    ) -> (Option<Frac>, Option<Frac>)
         requires one { pos 0 <ℤ self.one }
         requires cover { s < length cover.now }
         requires follow { s < length follow.now }
-        ensures { result ≡ point_by self.entry.dir self.entry.one (whole_at cover.now s) (whole_at follow.now s) }
+        ensures { record { lower = result.0; upper = result.1 } ≡ point_by self.entry.dir self.entry.one (whole_at cover.now s) (whole_at follow.now s) }
     {
         let covering = shown(cover[s as usize], self.one);
         let following = shown(follow[s as usize], self.one);
         match self.dir {
-            Dir::Max => Point {
-                lower: following,
-                upper: covering,
-            },
-            Dir::Min => Point {
-                lower: covering,
-                upper: following,
-            },
+            Dir::Max => (following, covering),
+            Dir::Min => (covering, following),
         }
     }
 
@@ -46,11 +45,13 @@ impl Query<'_> {
         let mut cover = self.end_column(alloc)?;
         let mut follow = self.end_column(alloc)?;
         let mut curve = Vec::new(alloc);
-        curve.push(self.point(&cover, &follow, s))?;
+        let (lower, upper) = self.values_at(&cover, &follow, s);
+        curve.push(Point { lower, upper })?;
         for done in 0..steps {
             cover = self.cover_next(alloc, &rows, &cover)?;
             follow = self.follow_next(alloc, &rows, &follow)?;
-            curve.push(self.point(&cover, &follow, s))?;
+            let (lower, upper) = self.values_at(&cover, &follow, s);
+            curve.push(Point { lower, upper })?;
         }
         Ok(curve)
     }

@@ -55,7 +55,7 @@ fn factor_of(steps: u32, room: u128) -> u32
     ensures some { 0 < result }
 {
     let mut factor = 1;
-    for _ in 0..7 {
+    for _ in 0..7u32 {
         factor = finer(steps, room, factor);
     }
     factor

@@ -1,32 +1,24 @@
-use Rattle.std.proofs.Common.{◌≡◌, ℕ, Bool, List, sym, ap, subst, ◌∙◌, rules}
-use Rattle.mdp_rows.specs.Name.{IsName}
-use Rattle.mdp_farkas.specs.Reach.{IsReach}
-use Rattle.mdp_reach.specs.Query as query
-use Rattle.mdp_cert.specs.{Cert.{Fits}, Plain.{plain}, Spelling.{text_of}}
-use Rattle.mdp_command_solve.specs.{Due.{certificate_of}, Solved.{IsReachPrinted}}
-use Rattle.mdp_rows.proofs.FoundNames.{found_among}
-use Rattle.mdp_command_solve.proofs.Printing.{answer_sizes, printed, text_printed}
+use Rattle.std.proofs.Common.{◌≡◌, ◌⊎◌, ℕ, Bool, List, Option, Some, Err, sym, ap, subst, ◌∙◌}
+use Rattle.std.specs.Prelude.{option_map}
+use Rattle.mdp_spec.specs.{Labels.{marks_of}, Mdp.{Mdp}}
+use Rattle.mdp_command.specs.Said.{said}
+use Rattle.mdp_job.specs.Refusal.{no_memory}
+use Rattle.mdp_command_solve.specs.{Ways.{name_of, goals_by}, Due.{IsReachEnd, IsReachDue}}
 use Rattle.mdp_command_solve.proofs.reaching.solve_label.Goals as goal
 
-pub certificate_of-cert-requires-clause-name : goal.certificate_of-cert-requires-clause-name
-certificate_of-cert-requires-clause-name c =
-    let same : c.in-Ok-to_vec.label.items ≡ c.args.label.now = search rules in
-    subst IsName (sym same) (found_among IsName c.args.label.now c.args.model.now.labels c.in-Some.place (sym c.in-Some.ensures) c.known.ensures.model.labels)
+pub solve_on_way-requires-clause-way : goal.solve_on_way-requires-clause-way
+solve_on_way-requires-clause-way c = c.way_in.ensures ∙ c.in-Ok-cut_of.ensures
 
-pub certificate_of-cert-requires-clause-values : goal.certificate_of-cert-requires-clause-values
-certificate_of-cert-requires-clause-values c =
-    (answer_sizes c.args.dir c.args.model.now c.in-Ok.goals (query.plain c.in-Ok-solve_reach.answer)
-    c.known.ensures.mdp c.path_law.ensures.best c.avoid_law.ensures.rest c.in-Ok-solve_reach.ensures.path).values
+pub solve_on_way-requires-clause-goals : goal.solve_on_way-requires-clause-goals
+solve_on_way-requires-clause-goals c =
+    ap (option_map (marks_of c.args.model.now)) (sym c.in-Some.ensures) ∙ ap (λ (g : List Bool). let found : Option (List Bool) = Some g in found) (sym c.in-Ok.ensures)
 
-pub returns-clause-printed : goal.returns-clause-printed
-returns-clause-printed c =
+pub returns-clause-due : goal.returns-clause-due
+returns-clause-due c =
     let dir = c.args.dir in
+    let stay = name_of c.args.stay in
+    let label = c.args.label.now in
     let m = c.args.model.now in
-    let a = query.plain c.in-Ok-solve_reach.answer in
-    let same : c.in-Ok-to_vec.label.items ≡ c.args.label.now = search rules in
-    let cert : plain c.certificate_of-cert.result ≡ certificate_of dir c.args.label.now m a =
-    c.certificate_of-cert.ensures.certificate ∙ ap (λ (t : List ℕ). certificate_of dir t m a) same in
-    text_printed (IsReachPrinted dir c.args.label.now m) (plain c.certificate_of-cert.result) _
-    (λ text spelled. printed dir c.args.label.now m c.in-Some.place a (sym c.in-Some.ensures) (subst (λ (g : List Bool). IsReach dir m g a.values a.choices a.ranks) c.in-Ok.ensures c.in-Ok-solve_reach.ensures.rules)
-    (answer_sizes dir m c.in-Ok.goals a c.known.ensures.mdp c.path_law.ensures.best c.avoid_law.ensures.rest c.in-Ok-solve_reach.ensures.path) c.known.ensures.mdp c.text_law.ensures.back
-    text (subst Fits cert c.certificate_of-cert.ensures.fits) (spelled ∙ ap text_of cert)) c.certificate_text.ensures
+    let said = said c.solve_on_way.result in
+    subst (λ (p : Option ℕ). (said ≡ Err no_memory) ⊎ IsReachDue dir stay label m p said) c.in-Some.ensures
+    (subst (λ (g : List Bool). (said ≡ Err no_memory) ⊎ IsReachEnd dir stay label m g said) c.in-Ok.ensures c.solve_on_way.ensures.due)

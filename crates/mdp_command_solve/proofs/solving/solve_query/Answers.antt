@@ -8,6 +8,10 @@ pub returns-in-Reach-clause-printed : goal.returns-in-Reach-clause-printed
 returns-in-Reach-clause-printed c =
     subst (λ (q : Query). IfOk (said c.solve_label.result) (IsPrinted c.args.dir (plain_query q) c.args.model.now)) (sym c.in-Reach.is) c.solve_label.ensures.printed
 
+pub returns-in-Until-clause-printed : goal.returns-in-Until-clause-printed
+returns-in-Until-clause-printed c =
+    subst (λ (q : Query). IfOk (said c.solve_label-2.result) (IsPrinted c.args.dir (plain_query q) c.args.model.now)) (sym c.in-Until.is) c.solve_label-2.ensures.printed
+
 pub returns-in-Reward-clause-printed : goal.returns-in-Reward-clause-printed
 returns-in-Reward-clause-printed c =
     subst (λ (q : Query). IfOk (said c.solve_named.result) (IsPrinted c.args.dir (plain_query q) c.args.model.now)) (sym c.in-Reward.is) c.solve_named.ensures.printed
