@@ -1,3 +1,4 @@
 pub mod Printing
 mod BoundsPrinting
 mod CurvePrinting
+mod CurveExamples
