@@ -4,7 +4,7 @@ many a text that bin/mdp refuses. A text that it can't follow is `Unclear`, with
 import pathlib
 import re
 import sys
-from dataclasses import dataclass, field
+from dataclasses import dataclass
 from fractions import Fraction
 
 MOST_STATES = 1 << 20
@@ -19,23 +19,22 @@ class Unclear(Exception):
         self.number = number
 
 
-@dataclass(slots=True)
 class Choice:
     """A choice: what it earns by each reward name, its state's own rewards included; its action's name; its row of targets and probabilities."""
 
-    rewards: list
-    name: str
-    row: list = field(default_factory=list)
+    __slots__ = ("name", "rewards", "row")
+
+    def __init__(self, rewards, name, row=None):
+        self.rewards, self.name, self.row = rewards, name, [] if row is None else row
 
 
-@dataclass(slots=True)
 class State:
     """A state; `name` is the valuation that Storm writes in a comment behind the state's line, where there is one."""
 
-    rewards: list
-    labels: list
-    choices: list = field(default_factory=list)
-    name: str = ""
+    __slots__ = ("choices", "labels", "name", "rewards")
+
+    def __init__(self, rewards, labels, choices=None, name=""):
+        self.rewards, self.labels, self.choices, self.name = rewards, labels, [] if choices is None else choices, name
 
 
 @dataclass
