@@ -288,6 +288,9 @@ def run(program, least):
 
 
 def main():
+    if sys.argv[1:2] in (["--help"], ["-h"]):
+        print(__doc__)
+        return
     with tempfile.TemporaryDirectory() as folder:
         theirs = build_theirs(folder)
         ours = build_ours(folder)
