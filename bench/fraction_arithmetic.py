@@ -10,6 +10,7 @@ Where libgmp-dev or gcc is missing, it is installed by apt-get. Usage: bench/fra
 import os
 import shutil
 import subprocess
+import sys
 import tempfile
 
 TOP = os.path.join(os.path.dirname(os.path.abspath(__file__)), "..")
