@@ -1,5 +1,5 @@
 -- Which states the labels name, and the refusals in their order.
-use Rattle.std.proofs.Common.{◌≡◌, List, [], ◌∷◌, inr, Bool, true, false, Some, None, Ok, Err, refl, arith}
+use Rattle.std.proofs.Common.{List, [], ◌∷◌, inr, Bool, true, false, Some, None, Ok, Err, refl, arith}
 use Rattle.std.specs.Prelude.{codes}
 use Rattle.mdp_math.proofs.Tables.{AreEqual}
 use Rattle.mdp_spec.specs.Mdp.{Mdp}
