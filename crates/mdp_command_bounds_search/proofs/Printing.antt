@@ -42,18 +42,6 @@ pub labels_there : (m : Mdp) (stay label : Option ℕ) (stays goals : List Bool)
 labels_there m None label stays goals e f = absurd cc
 labels_there m (Some a) label stays goals e f = label_there m label goals f
 
--- the first label's fault comes first, and where that label is there, the other's
-pub stay_refused : (stay label : Option ℕ) (r : PlainRefusal) → (r ≡ no_memory) ⊎ (label_fault stay ≡ Some r) → (r ≡ no_memory) ⊎ (until_fault stay label ≡ Some r)
-stay_refused stay label r (inl memory) = inl memory
-stay_refused None label r (inr e) = inr e
-stay_refused (Some a) label r (inr e) = absurd cc
-
-pub label_refused : (m : Mdp) (stay label : Option ℕ) (stays : List Bool) (r : PlainRefusal) → option_map (marks_of m) stay ≡ Some stays → (r ≡ no_memory) ⊎ (label_fault label ≡ Some r)
-    → (r ≡ no_memory) ⊎ (until_fault stay label ≡ Some r)
-label_refused m stay label stays r there (inl memory) = inl memory
-label_refused m None label stays r there (inr e) = absurd cc
-label_refused m (Some a) label stays r there (inr e) = inr e
-
 -- ---- a body has an entry per state
 
 pub values_of_body : (claim : PlainClaim) (n : ℕ) (body : PlainBounds) → is_body_of claim n body ≡ true → HasValues n body
