@@ -131,10 +131,9 @@ def value_text(result):
         return str(result.count[0]) if result.count[0] == result.count[1] else f"from {result.count[0]} to {result.count[1]}"
     if result.least is not None:
         return "no number of steps" if result.truth is False else f"{result.least} steps, value {value}"
-    is_bound = hasattr(result.asked.tree, "relation") and result.asked.tree.relation or result.truth is not None
     if result.curve:
         return f"{len(result.curve)} numbers of steps"
-    if not is_bound:
+    if not result.is_bound:
         return value
     word = {True: "true", False: "false", None: "not decided"}[result.truth]
     return f"{word}, the value is {value}" if value else word
@@ -197,7 +196,7 @@ def json_of(session, words, result):
     found = {"property": result.asked.words(), "name": result.asked.name or None}
     if result.low is not None:
         found |= {"lower": shown.exact(result.low), "upper": shown.exact(result.high)}
-    if result.truth is not None or getattr(result.asked.tree, "relation", ""):
+    if result.is_bound:
         found["holds"] = result.truth
     if result.count is not None:
         found["count"] = list(result.count)
@@ -286,8 +285,7 @@ def write_files(words, results):
 def status_of(results):
     if any(result.truth is False for result in results):
         return FALSE
-    undecided = [result for result in results if result.truth is None and getattr(result.asked.tree, "relation", "") and not result.curve and result.count is None]
-    return asking.UNDECIDED if undecided else DONE
+    return asking.UNDECIDED if any(result.is_bound and result.truth is None for result in results) else DONE
 
 
 # ---- the run

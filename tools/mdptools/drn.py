@@ -130,7 +130,7 @@ class Reader:
         text = text.strip(" \t\r\n")
         if text.startswith("//"):
             if self.is_behind_state and text.startswith("//["):
-                self.states[-1].name = text[2:].strip()
+                self.states[-1].name = " ".join(text[2:].split())
             return
         if self.states is None:
             if text or self.waits in ("parameters", "reward_models"):
