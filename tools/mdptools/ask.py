@@ -276,10 +276,7 @@ def write_files(words, results):
             raise Ends(WORDS, "bin/ask: the answer has no policy without a deadline; of a deadline --certificate FILE keeps the table of choices")
         pathlib.Path(words.policy).write_text(certificates.policy_of(answer.choices))
     if words.plot:
-        try:
-            curves.plot(words.plot, results[0])
-        except curves.CannotPlot as why:
-            raise Ends(WORDS, f"bin/ask: {why}") from None
+        curves.plot(words.plot, results[0])
 
 
 def status_of(results):
@@ -347,6 +344,8 @@ def run(words):
         return DONE
     if len(found) != 1 and (words.certificate or words.policy or words.plot):
         raise Ends(WORDS, "bin/ask: --certificate, --policy and --plot belong to one property")
+    if words.plot:
+        curves.ready(words.plot)
     session = session_of(words, model, options)
     try:
         where_bits(session, words)
@@ -367,6 +366,9 @@ def main(arguments):
             sys.stdout.flush()
         print(*ends.lines, sep="\n", file=sys.stderr)
         status = ends.status
+    except curves.CannotPlot as why:
+        print(f"bin/ask: {why}", file=sys.stderr)
+        status = WORDS
     except KeyboardInterrupt:
         print("\nbin/ask: broken off", file=sys.stderr)
         status = BROKEN_OFF
