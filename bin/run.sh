@@ -150,7 +150,7 @@ build() {
 compile() {
   need python3 "which tools/compile is written in"
   kept=$("$top/tools/compile" "$crate") || exit 70
-  say "these sources are not proved in this run; bin/$proved proves them."
+  say "these sources are not proved in this run, and run slowly, with checks; bin/$proved proves them."
 }
 
 # ---- the run

@@ -1,5 +1,5 @@
 -- One thing is due to the value of a policy.
-use Rattle.std.proofs.Common.{◌≡◌, ℕ, ◌⊎◌, inl, inr, Bool, true, false, List, length, Option, Some, None, Result, Ok, Err, refl, sym, ap, subst, ◌∙◌, arith}
+use Rattle.std.proofs.Common.{◌≡◌, ℕ, ◌⊎◌, inl, inr, Bool, true, false, List, length, Option, Some, Result, Ok, Err, refl, sym, ap, subst, ◌∙◌, arith}
 use Rattle.std.proofs.lemmas.List.FromFn.{fill_by_all}
 use Rattle.std.specs.Prelude.{slice_index_or, ◌==◌}
 use Rattle.mdp_math.specs.Result.{◌>>=◌}
@@ -83,13 +83,6 @@ module _ (stay : Option (List ℕ)) (label : List ℕ) (m : Mdp) (policy : List 
   wide_due e w is gives =
       let g = subst (λ (s : Option (List Bool)). GivesOn m s marks.goals policy (Err (error.TooWide w))) are (subst (λ (x : SolveError). GivesOn m stays marks.goals policy (Err x)) is gives) in
       (Err g.0, g.2, ap (λ (t : WideTerm). let r : Said = Err (too_wide t) in r) (term_is (way_policy marks.stays marks.goals policy) g.0 w g.1))
-
--- ---- what is due to the labels and to a policy that fits the model
-
-pub marks_refused : (stay : Option (List ℕ)) (label : List ℕ) (m : Mdp) (policy : List ℕ) (r : PlainRefusal) → (Err r ≡ Err no_memory) ⊎ (Err r ≡ marks_due stay label m)
-    → (let s : Said = Err r in s ≡ Err no_memory) ⊎ IsMarksDue stay label m policy (marks_due stay label m) (Err r)
-marks_refused stay label m policy r (inl e) = inl (cc e)
-marks_refused stay label m policy r (inr e) = inr (subst (λ (x : Result Marked PlainRefusal). IsMarksDue stay label m policy x (Err r)) e refl)
 
 -- ---- what is due to the bytes of a file, from what was read of it
 

@@ -1,14 +1,14 @@
 -- What a curve says at each number of steps.
-use Rattle.std.proofs.Common.{◌≡◌, ◌∙◌, ℕ, zero, suc, ◌+◌, ◌*◌, ◌<◌, ◌≤◌, ◌^◌, Bool, List, [], ◌∷◌, map, length, Option, Some, None, refl, sym, ap, subst, arith, ℤ, pos, ◌<ℤ◌}
-use Rattle.std.proofs.{lemmas.Int.{ints}, lemmas.List.{get_or-map}, lemmas.List.FromFn.{get_or-map-range_with_len, length-map-range_with_len}}
-use Rattle.std.proofs.Math.Nat.{one-le-pow, mul-le-mul_right, le_trans}
+use Rattle.std.proofs.Common.{◌≡◌, ◌∙◌, ℕ, suc, ◌+◌, ◌*◌, ◌<◌, ◌≤◌, ◌^◌, Bool, List, [], ◌∷◌, length, Option, Some, refl, sym, ap, subst, arith, ℤ, pos}
+use Rattle.std.proofs.{lemmas.List.{get_or-map}, lemmas.List.FromFn.{get_or-map-range_with_len, length-map-range_with_len}}
+use Rattle.std.proofs.Math.Nat.{one-le-pow, mul-le-mul_right}
 use Rattle.mdp_math.specs.Rational.{ℚ, ratio, ◌+ℚ◌, ◌≤ℚ◌}
 use Rattle.mdp_math.proofs.{Linear.{linear, known}, Order.{0ℚ, ratio-le}, Ring.{◌⊕◌}}
-use Rattle.mdp_spec.specs.{Mdp.{Mdp, states_of}, Row.{IsMdp}, Bounds.{reward_at}}
+use Rattle.mdp_spec.specs.{Mdp.{Mdp, states_of}, Row.{IsMdp}}
 use Rattle.mdp_rows.specs.{declared.dir.Dir.{Dir}, declared.dir.Dir.TheVariants.{Max, Min}}
-use Rattle.mdp_horizon.specs.{declared.point.Point.{Point}, Objective.{Objective, value_of}, Objective.Objective.{until}, Between.{Claimed}, Whole.{whole_at}}
-use Rattle.mdp_horizon.specs.{Columns.{cover, follow, shown, Bounds, bounds_of}, Gap.{NoneIsWide, IsNear}, Table.{unfolded_steps}}
-use Rattle.mdp_horizon.specs.Curve.{point_by, point_of, curve_of, no_point, point_at, MaxLies, MinLies, IsMaxCurve, IsMinCurve, IsFinite, IsFiniteCurve}
+use Rattle.mdp_horizon.specs.{declared.point.Point.{Point}, Objective.{Objective, value_of}, Objective.Objective.{until}, Between.{Claimed}}
+use Rattle.mdp_horizon.specs.{Columns.{cover, follow, shown, Bounds, bounds_of}, Gap.{NoneIsWide}, Table.{unfolded_steps}}
+use Rattle.mdp_horizon.specs.Curve.{point_of, curve_of, no_point, point_at, MaxLies, MinLies, IsMaxCurve, IsMinCurve, IsFinite, IsFiniteCurve}
 use Rattle.mdp_horizon.specs.Curve.{IsNearPoint, IsNearCurve, IsPointOf, IsCurveOfBounds}
 use Rattle.mdp_horizon.proofs.{Between.{bounds-max, bounds-min}, Finite.{finite_is}, Gap.{meet, shown_near}, StepsLemmas.{cover_states, follow_states}}
 

@@ -1,20 +1,9 @@
--- How wide rows are, choice by choice and state by state; and the unit that comes of it.
-use Rattle.std.proofs.Common.{◌≡◌, ◌∙◌, ℕ, zero, suc, ◌+◌, ◌*◌, ◌<◌, ◌≤◌, ◌^◌, Bool, true, false, if◌then◌else◌, List, ◌∷◌, length, drop, get_or, refl, sym, ap, ap₂, arith, ℤ, pos, ◌*ℤ◌, nat_lt, ◌&&◌, not}
+-- The unit of a curve is above 0 and in width.
+use Rattle.std.proofs.Common.{◌≡◌, ◌∙◌, ℕ, zero, suc, ◌*◌, ◌<◌, ◌≤◌, ◌^◌, Bool, true, false, if◌then◌else◌, ap, ap₂, arith, ℤ, pos, ◌*ℤ◌, nat_lt, ◌&&◌, not}
 use Rattle.std.proofs.Math.Nat.{pow-suc, one-le-pow, pow-le-pow_right, mul-le-mul, one-le-mul}
-use Rattle.mdp_spec.specs.Mdp.{Choice, State, Mdp, no_choice, no_state}
+use Rattle.mdp_spec.specs.Mdp.{Mdp}
 use Rattle.mdp_horizon.specs.{declared.finer.Widest.{Widest}, Objective.{Objective}}
-use Rattle.mdp_horizon.specs.Finer.{widened, widened_by, widened_in, widest, span, room, finer, finer_by, factor_of, unit_of}
-use Rattle.mdp_horizon.proofs.Loops.{rest_of}
-
--- ---- one more choice, one more state
-
-pub choice_step : (o : Objective) (w next : Widest) (xs : List Choice) (c : ℕ) → c < length xs → next ≡ widened o w (get_or xs c no_choice)
-    → widened_by o next (drop (c + 1) xs) ≡ widened_by o w (drop c xs)
-choice_step o w next xs c l e = ap (λ (w : Widest). widened_by o w (drop (c + 1) xs)) e ∙ sym (ap (widened_by o w) (rest_of xs c no_choice l))
-
-pub state_step : (o : Objective) (w next : Widest) (xs : List State) (s : ℕ) → s < length xs → next ≡ widened_by o w (State.choices (get_or xs s no_state))
-    → widened_in o next (drop (s + 1) xs) ≡ widened_in o w (drop s xs)
-state_step o w next xs s l e = ap (λ (w : Widest). widened_in o w (drop (s + 1) xs)) e ∙ sym (ap (widened_in o w) (rest_of xs s no_state l))
+use Rattle.mdp_horizon.specs.Finer.{widest, span, room, finer_by, factor_of, unit_of}
 
 -- ---- the factor
 

@@ -1,5 +1,5 @@
 -- The curve of a deadline: for each number of steps a lower and an upper value of one state.
-use Rattle.std.specs.{Prelude.{◌≡◌, ℕ, suc, ◌*◌, ◌<◌, ◌≤◌, List, map, length, Option, Some, None, ℤ, pos, slice_index_or}, List.{range_with_len}}
+use Rattle.std.specs.{Prelude.{◌≡◌, ℕ, suc, ◌≤◌, List, map, Option, Some, None, ℤ, pos, slice_index_or}, List.{range_with_len}}
 use Rattle.mdp_math.specs.Rational.{ℚ, of_int, ratio, ◌+ℚ◌, ◌≤ℚ◌}
 use Rattle.mdp_spec.specs.{Mdp.{Mdp}, Tree.{Tree, IsStrategy}, Bounds.{reward_at}}
 use Rattle.mdp_rows.specs.{declared.dir.Dir.{Dir}, declared.dir.Dir.TheVariants.{Max, Min}}

@@ -57,7 +57,13 @@ impl Query<'_> {
     }
 
     /// The same with a unit that is as fine as so many steps need.
-    fn finer_curve(self, alloc: Global, s: u32, digits: u32, steps: u32) -> Result<Vec<Point>, Memory>
+    fn finer_curve(
+        self,
+        alloc: Global,
+        s: u32,
+        digits: u32,
+        steps: u32,
+    ) -> Result<Vec<Point>, Memory>
         requires digits { digits ≤ 30 }
         requires asked { IsAsked self.model.now (plain_objective self.objective) }
         requires state { s < states_of self.model.now }

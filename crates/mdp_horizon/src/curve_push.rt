@@ -22,11 +22,7 @@ fn front_of(dir: Dir) -> &'static [u8]
 }
 
 /// Appends the lines of the version and of the claim. After `Memory` the text is as before.
-pub(crate) fn push_curve_claim(
-    out: &mut Vec<u8>,
-    dir: Dir,
-    claim: Claim<'_>,
-) -> Result<(), Memory>
+pub(crate) fn push_curve_claim(out: &mut Vec<u8>, dir: Dir, claim: Claim<'_>) -> Result<(), Memory>
     ensures text { OnOk result (out.new.items ≡ out.old.items ++ (line version_text ++ line (claim_text dir (plain_claim claim.entry)))) }
     ensures front { Keeps out.old.items out.new.items }
     ensures unchanged { OnErr result (out.new.items ≡ out.old.items) }
@@ -45,7 +41,10 @@ pub(crate) fn push_curve_claim(
             ],
         ),
         Claim::Total(name) => {
-            push_parts(out, &[front, Bytes(b"total \""), Bytes(name), Bytes(b"\"\n")])
+            push_parts(
+                out,
+                &[front, Bytes(b"total \""), Bytes(name), Bytes(b"\"\n")],
+            )
         }
     }
 }
@@ -119,11 +118,7 @@ fn push_points(out: &mut Vec<u8>, curve: &[Point]) -> Result<(), Memory>
 }
 
 /// Appends the lines behind the claim.
-pub(crate) fn push_curve_lines(
-    out: &mut Vec<u8>,
-    start: u32,
-    curve: &[Point],
-) -> Result<(), Memory>
+pub(crate) fn push_curve_lines(out: &mut Vec<u8>, start: u32, curve: &[Point]) -> Result<(), Memory>
     requires { 0 < length curve.now }
     ensures text { OnOk result (out.new.items ≡ out.old.items
         ++ (line (init_text (Start start)) ++ (line (steps_text (steps_in curve.now)) ++ (point_lines curve.now ++ line end_text)))) }

@@ -1,12 +1,12 @@
 ghost use Rattle.std.specs.Prelude.{◌≡◌, ◌<◌, ◌++◌, codes, option_copied, OnOk, Some, None};
-ghost use Rattle.mdp_text.specs.{Answer.{Keeps}, Spelling.{line, dir_text}};
+ghost use Rattle.mdp_text.specs.{Answer.{Keeps}, Parts.{parts_text}, Spelling.{line, dir_text}};
 ghost use Rattle.mdp_policy.specs.Spelling.{version_text, query_text, change_text, improve_text};
 
 use crate::value::Change;
 use mdp_num::Memory;
 use mdp_rows::Dir;
 use mdp_text::Part::Bytes;
-use mdp_text::{push_parts, push_whole, push_word};
+use mdp_text::{Part, push_parts, push_whole, push_word};
 
 /// The word of a direction, with the blanks around it.
 fn front_of(dir: Dir) -> &'static [u8]
@@ -38,21 +38,25 @@ fn push_reach(out: &mut Vec<u8>, label: &[u8]) -> Result<(), Memory>
     )
 }
 
+/// The line of the query `until`.
+fn until_line<'a>(stay: &'a [u8], label: &'a [u8]) -> [Part<'a>; 5]
+    ensures { parts_text result ≡ line (query_text (Some stay.now) label.now) }
+{
+    [
+        Bytes(b"policy until \""),
+        Bytes(stay),
+        Bytes(b"\" \""),
+        Bytes(label),
+        Bytes(b"\"\n"),
+    ]
+}
+
 /// Appends the line of the query `until`.
 fn push_until(out: &mut Vec<u8>, stay: &[u8], label: &[u8]) -> Result<(), Memory>
     ensures text { OnOk result (out.new.items ≡ out.old.items ++ line (query_text (Some stay.now) label.now)) }
     ensures front { Keeps out.old.items out.new.items }
 {
-    push_parts(
-        out,
-        &[
-            Bytes(b"policy until \""),
-            Bytes(stay),
-            Bytes(b"\" \""),
-            Bytes(label),
-            Bytes(b"\"\n"),
-        ],
-    )
+    push_parts(out, &until_line(stay, label))
 }
 
 /// Appends the line of what was asked.

@@ -1,4 +1,4 @@
-ghost use Rattle.std.specs.Prelude.{◌≡◌, length, option_copied, IfOk, IfSome, Some, None};
+ghost use Rattle.std.specs.Prelude.{◌≡◌, ◌<◌, length, slice_index, option_copied, IfOk, IfSome, Some, None};
 ghost use Rattle.mdp_spec.specs.{Mdp.{states_of}, Tree.{IsPolicy}, Sub.{policy_on}};
 ghost use Rattle.mdp_policy.specs.{Bounds.{PolicyBound, AreGreatest, SomeTreePasses, DeepTreesStayBelow}, Answer.{GivesOn}, declared.value.Change.{Change}};
 
@@ -7,7 +7,21 @@ use mdp_rows::{Marks, Model};
 use mdp_wide::SolveError;
 use std::alloc::{AllocError, Global};
 
-/// The policy as it is read on the way: its own choice at each state that is a goal or stays, and 0 at any other.
+/// The policy's choice at state `s` as it is read on the way: its own where the state is a goal or stays, and else 0.
+fn choice_on(stay: &Marks, goals: &Marks, policy: &[u32], s: u32) -> u32
+    requires stay { s < length stay.now }
+    requires goals { s < length goals.now }
+    requires policy { s < length policy.now }
+    ensures { result ≡ slice_index (policy_on goals.now stay.now policy.now) s }
+{
+    if goals.at(s) || stay.at(s) {
+        policy[s as usize]
+    } else {
+        0
+    }
+}
+
+/// The policy as it is read on the way.
 fn policy_on(
     alloc: Global,
     model: &Model,
@@ -22,8 +36,7 @@ fn policy_on(
 {
     let mut choices = Vec::new(alloc);
     for s in 0..model.states() {
-        let stays = goals.at(s) || stay.at(s);
-        choices.push(if stays { policy[s as usize] } else { 0 })?;
+        choices.push(choice_on(stay, goals, policy, s))?;
     }
     Ok(choices)
 }

@@ -1,4 +1,4 @@
-use Rattle.std.proofs.Common.{◌≡◌, ◌∙◌, ℕ, suc, ◌+◌, ◌≤◌, ◌^◌, ap, arith}
+use Rattle.std.proofs.Common.{◌≡◌, ◌∙◌, suc, ◌+◌, ◌≤◌, ◌^◌, ap, arith}
 use Rattle.std.proofs.Math.Nat.{pow-le-pow_right}
 use Rattle.mdp_horizon.specs.Finer.{finer, finer_by}
 use Rattle.mdp_horizon.proofs.Fineness.{finer-bounds}
@@ -8,7 +8,7 @@ pub finer-factor-requires : goal.finer-factor-requires
 finer-factor-requires c =
     let p = finer-bounds c.args.steps c.args.room c.loop.counter in
     let few : c.loop.counter ≤ 6 = omega arith in
-    let q : 10 ^ c.loop.counter ≤ 10 ^ 6 = pow-le-pow_right {n = 10} {j = 6} (omega arith) few in
+    let q : 10 ^ c.loop.counter ≤ 10 ^ 6 = pow-le-pow_right {n = 10} (omega arith) few in
     omega (arith, p.1, q, c.loop.invariant)
 
 pub loop-preserved : goal.loop-preserved

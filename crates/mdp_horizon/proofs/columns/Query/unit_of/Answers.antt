@@ -1,4 +1,4 @@
-use Rattle.std.proofs.Common.{◌≡◌, ◌∙◌, ◌<◌, ◌^◌, ◌*ℤ◌, ◌<ℤ◌, ℤ, FitsSigned, pos, sym, ap, subst, arith, unsigned_abs}
+use Rattle.std.proofs.Common.{◌∙◌, ◌<ℤ◌, ℤ, FitsSigned, pos, sym, ap, subst, arith, unsigned_abs}
 use Rattle.std.proofs.lemmas.Int.{ints, fits_signed_from_abs}
 use mir.Syntax.{w128}
 use mir.Val.{to_z, of_z}
