@@ -43,6 +43,9 @@ class Model:
     states: list
     is_chain: bool = False
 
+    def labels(self):
+        return sorted({label for state in self.states for label in state.labels})
+
     def states_with(self, label):
         return [s for s, state in enumerate(self.states) if label in state.labels]
 
@@ -80,7 +83,7 @@ class Reader:
         elif self.waits == "nr_states":
             self.announced = int(text)
             if self.announced > self.most:
-                raise Unclear(self.path, self.number, f"{self.announced} states are too many here, the most are {self.most}")
+                raise Unclear(self.path, self.number, f"{self.announced} states are too many, the most are {self.most}")
         elif self.waits is None or text.startswith("@"):
             return self.entry(text)
         self.waits = None
