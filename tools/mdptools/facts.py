@@ -65,17 +65,15 @@ def denominators(model):
 
 
 def bits_text(model):
-    """What the longest denominator of a row means for `solve`."""
+    """The longest denominators, and what they mean for `solve`: the probabilities of a policy are fractions below the product of its rows' denominators."""
     single, row = denominators(model)
-    active = sum(len({target for choice in state.choices for target, _ in choice.row} - {s}) > 0 for s, state in enumerate(model.states))
+    active = sum(any(target != s for choice in state.choices for target, _ in choice.row) for s, state in enumerate(model.states))
     bits = (row - 1).bit_length()
     if bits * active <= 127:
-        means = "exact answers about probabilities fit in 127 bits"
-    elif bits <= 8:
-        means = "whether exact answers fit in 127 bits depends on how the states hang together; where not, bounds are asked for"
+        means = f"exact probabilities have at most {max(bits * active, 1)} bits, and solve writes up to 127"
     else:
-        means = "exact answers may need more than 127 bits; bounds are asked for then"
-    return [("longest denominator", f"{single}; of a whole row {row}, {bits} bits: {means}")]
+        means = "exact values may have more than the 127 bits that solve writes; where they do, bounds are asked for"
+    return [("longest denominator", f"{single}; of a whole row {row}, {bits} bit{'s' * (bits != 1)}: {means}")]
 
 
 def reward_lines(model):

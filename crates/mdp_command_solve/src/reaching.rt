@@ -23,8 +23,8 @@ fn solve_on_way(
     stay: Option<&[u8]>,
     label: &[u8],
 ) -> Result<Vec<u8>, Refusal>
-    requires way { way.now ≡ way_by model.now goals.now (name_of stay.entry) }
-    requires goals { goals_by model.now (name_of stay.entry) label.now ≡ Some goals.now }
+    requires way { way.now ≡ way_by model.now goals.now (name_of stay) }
+    requires goals { goals_by model.now (name_of stay) label.now ≡ Some goals.now }
     ensures due { (said result ≡ Err no_memory) ⊎ IsReachEnd dir (name_of stay.entry) label.now model.now goals.now (said result) }
     ensures printed { IfOk (said result) (IsReachPrinted dir (name_of stay.entry) label.now model.now) }
 {
