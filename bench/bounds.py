@@ -221,6 +221,9 @@ def measure(kind, size, query, path, folder):
 
 
 def main():
+    if sys.argv[1:2] in (["--help"], ["-h"]):
+        print(__doc__)
+        return
     words = sys.argv[1:] or MODELS.split()
     if len(words) % 2 or any(kind not in QUERIES for kind in words[::2]):
         sys.exit(__doc__)

@@ -56,6 +56,9 @@ def measure(states, folder):
 
 
 def main():
+    if sys.argv[1:2] in (["--help"], ["-h"]):
+        print(__doc__)
+        return
     with tempfile.TemporaryDirectory() as name:
         for states in map(int, sys.argv[1:] or (2**16, 2**20)):
             measure(states, pathlib.Path(name))

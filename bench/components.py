@@ -92,6 +92,9 @@ def write_waiting(path, states):
 
 
 def main():
+    if sys.argv[1:2] in (["--help"], ["-h"]):
+        print(__doc__)
+        return
     models = [(write_ring, states) for states in (10000, 100000, 1000000)]
     models += [(write_chain, states) for states in (1000, 2000, 4000, 100000)]
     models += [(write_waiting, states) for states in (1000, 2000, 4000)]

@@ -77,6 +77,9 @@ def solve(model):
 
 
 def main():
+    if sys.argv[1:2] in (["--help"], ["-h"]):
+        print(__doc__)
+        return
     words = sys.argv[1:] or "line 1000 line 10000 line 100000 random 1000 random 10000 random 100000 grid 100 hub 1000 hub 10000 hub 100000".split()
     with tempfile.TemporaryDirectory() as folder:
         model = os.path.join(folder, "chain.drn")

@@ -10,6 +10,7 @@ Where libgmp-dev or gcc is missing, it is installed by apt-get. Usage: bench/fra
 import os
 import shutil
 import subprocess
+import sys
 import tempfile
 
 TOP = os.path.join(os.path.dirname(os.path.abspath(__file__)), "..")
@@ -288,6 +289,9 @@ def run(program, least):
 
 
 def main():
+    if sys.argv[1:2] in (["--help"], ["-h"]):
+        print(__doc__)
+        return
     with tempfile.TemporaryDirectory() as folder:
         theirs = build_theirs(folder)
         ours = build_ours(folder)

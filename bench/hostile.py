@@ -345,6 +345,9 @@ def tried(name):
 
 
 def main():
+    if sys.argv[1:2] in (["--help"], ["-h"]):
+        print(__doc__)
+        return
     names = sys.argv[1:] or list(CASES)
     if names == ["--list"]:
         print(*CASES, sep="\n")

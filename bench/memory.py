@@ -115,6 +115,9 @@ def tried_pair(library, folder):
 
 
 def main():
+    if sys.argv[1:2] in (["--help"], ["-h"]):
+        print(__doc__)
+        return
     subprocess.run([TOP / "bin" / "mdp"], stdout=subprocess.DEVNULL, check=False)
     with tempfile.TemporaryDirectory() as name:
         folder = pathlib.Path(name)

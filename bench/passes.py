@@ -104,6 +104,9 @@ def write_chain(path, states):
 
 
 def main():
+    if sys.argv[1:2] in (["--help"], ["-h"]):
+        print(__doc__)
+        return
     sizes = [int(size) for size in sys.argv[1:]] or [10000, 100000]
     sys.exit(timer_program.run("chain_timer", LIBRARIES, PROGRAM, [(write_chain, size) for size in sizes]))
 

@@ -53,6 +53,9 @@ def measure(name, model, cert, transitions):
 
 
 def main():
+    if sys.argv[1:2] in (["--help"], ["-h"]):
+        print(__doc__)
+        return
     transitions = int(sys.argv[1]) if len(sys.argv) > 1 else 1_000_000
     with tempfile.TemporaryDirectory() as folder:
         model = os.path.join(folder, "large.drn")

@@ -249,6 +249,9 @@ def measure_named(folder, words):
 
 
 def main():
+    if sys.argv[1:2] in (["--help"], ["-h"]):
+        print(__doc__)
+        return
     words = sys.argv[1:] or MODELS.split()
     with tempfile.TemporaryDirectory() as folder:
         while words:

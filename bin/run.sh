@@ -1,14 +1,83 @@
-# What bin/mdp and bin/check share: it runs a program with the words given. The caller has set
+# What bin/mdp, bin/check and bin/try share: it runs a program with the words given. The caller has set
 #   name      its own name in bin/
 #   crate     the program's crate
 #   took      what is known of the time of a first build
-#   meanings  what the words of the usage mean
-# and usage_of KIND COMMAND, which prints how the program is used, for a refusal `words KIND`.
+#   unproved  something, where the program is compiled without its proofs, and proved, the program of bin/ that proves them
+#   about     what it does, for --help
 top=$(cd "$(dirname "${BASH_SOURCE[0]}")/.." && pwd)
 built=$top/crates/$crate/out/$crate
 kept=$top/out/$name
 
 say() { echo "bin/$name: $*" >&2; }
+
+# ---- help
+
+case $crate in
+  mdp_checker)
+    usage='MODEL ROWS CERT'
+    meanings='ROWS is exact or scaled.'
+    ;;
+  *)
+    usage='solve MODEL ROWS DIR reach LABEL
+solve MODEL ROWS DIR until A B
+solve MODEL ROWS DIR reward NAME LABEL
+solve MODEL ROWS DIR mean NAME
+bounds MODEL ROWS DIR reach LABEL DIGITS
+bounds MODEL ROWS DIR until A B DIGITS
+bounds MODEL ROWS DIR reward NAME LABEL DIGITS
+bounds MODEL ROWS DIR mean NAME DIGITS
+bounds MODEL ROWS DIR discount NAME FACTOR DIGITS
+bounds MODEL ROWS DIR until A B STEPS DIGITS
+bounds MODEL ROWS DIR total NAME STEPS DIGITS
+witness MODEL ROWS DIR LABEL THRESHOLD
+witness MODEL ROWS DIR until A B THRESHOLD
+check MODEL ROWS CERT
+chain MODEL ROWS POLICY
+policy MODEL ROWS POLICY reach LABEL
+policy MODEL ROWS POLICY until A B
+horizon MODEL ROWS DIR A B STEPS
+total MODEL ROWS DIR NAME STEPS
+curve MODEL ROWS DIR until A B STEPS DIGITS
+curve MODEL ROWS DIR total NAME STEPS DIGITS
+discount MODEL ROWS DIR NAME FACTOR
+discount-check MODEL ROWS CERT
+bounds-check MODEL ROWS CERT
+drill NUMBER LAYERS WIDTH'
+    meanings='ROWS is exact or scaled, DIR is max or min. The table of README.md says what each command answers.'
+    ;;
+esac
+
+# usage_of KIND COMMAND: how the program is used, for a refusal `words KIND`
+usage_of() {
+  case $1 in
+    command | encoding) cat <<<"$usage" ;;
+    *) [ "$crate" = mdp_checker ] && cat <<<"$usage" || grep "^$2 " <<<"$usage" ;;
+  esac | sed "s|^|  bin/$name |"
+}
+
+help() {
+  echo "$about"
+  echo
+  usage_of command
+  echo "  $meanings"
+  echo
+  echo "bin/$name --help prints this, bin/$name --version the commit of the sources and the toolchain."
+  echo "Every answer and status: docs/answers.md."
+}
+
+# version: the commit of the sources, where there is one, and the toolchain
+version() {
+  local commit='no commit'
+  commit=$(git -C "$top" rev-parse HEAD 2>/dev/null) || commit='no commit'
+  [ -z "$(git -C "$top" status --porcelain --untracked-files=no 2>/dev/null)" ] || commit+=', changed since'
+  echo "bin/$name $commit"
+  rt version 2>/dev/null || echo 'no toolchain on the PATH'
+}
+
+case $1 in
+  --help | -h) help; exit 0 ;;
+  --version) version; exit 0 ;;
+esac
 
 # ---- the build
 
@@ -77,6 +146,13 @@ build() {
   rm -f "$log" "$began"
 }
 
+# compile: compiles the program without its proofs, where these sources aren't yet
+compile() {
+  need python3 "which tools/compile is written in"
+  kept=$("$top/tools/compile" "$crate") || exit 70
+  say "these sources are not proved in this run, and run slowly, with checks; bin/$proved proves them."
+}
+
 # ---- the run
 
 # advice SECTION KEY: the cells behind the one that begins with KEY, in that section of docs/answers.md
@@ -91,10 +167,39 @@ advice() {
     } }' "$top/docs/answers.md" >&2
 }
 
-# explain COMMAND TEXT: what to do with a text, where it is a refusal
+# names MODEL: the labels and the reward names of a model that was read, each once, and no more than 40 of either
+names() {
+  [ -f "$1" ] && LC_ALL=C awk -v name="$name" '
+    function add(kind, word) {
+      gsub(/[\001-\037\177]/, "?", word)
+      if (word ~ /[ ,]/) word = "\"" word "\""
+      if (!((kind, word) in seen)) { seen[kind, word]; if (++count[kind] <= 40) all[kind] = all[kind] (count[kind] > 1 ? ", " : "") word }
+    }
+    function say(kind, what) {
+      print "bin/" name ": the model has " (count[kind] ? "the " what " " all[kind] : "no " what) (count[kind] > 40 ? ", and " count[kind] - 40 " more" : "")
+    }
+    { sub(/\r$/, ""); sub(/^[ \t]+/, ""); sub(/[ \t]+$/, "") }
+    /^\/\// { next }
+    /^@/ { rewards = $0 == "@reward_models"; next }
+    rewards { rewards = 0; for (i = 1; i <= NF; i++) add("reward", $i) }
+    /^state[ \t]/ {
+      sub(/^state[ \t]+[0-9]+[ \t]*(\[[^]]*\])?[ \t]*/, "")
+      while (match($0, /^("[^"]*"|[^ \t"]+)/)) {
+        word = substr($0, 1, RLENGTH)
+        gsub(/"/, "", word)
+        add("label", word)
+        $0 = substr($0, RLENGTH + 1)
+        sub(/^[ \t]+/, "")
+      }
+    }
+    END { if (!count["reward"]) add("reward", "-"); say("label", "labels"); say("reward", "reward names") }' "$1" >&2
+}
+
+# explain WORDS TEXT: what to do with a text, where it is a refusal; WORDS are those of the program, and TEXT is the last one
 explain() {
-  local first second place kind
-  read -r first second place kind <<<"$2"
+  local first second place kind command=$1 model=$2
+  [ "$crate" = mdp_checker ] && model=$1
+  read -r first second place kind <<<"${!#}"
   case $first in
     model) advice 'Lines of a model' "$kind" ;;
     cert | policy) advice 'Lines of a certificate' "$kind" ;;
@@ -102,10 +207,11 @@ explain() {
     denied | query | too-wide | read-fault | long) advice 'Every answer' "$first $second" ;;
     words)
       advice 'Every answer' "$first $second"
-      usage_of "$second" "$1" | sed "s|^|  bin/$name |" >&2
+      usage_of "$second" "$command" >&2
       echo "  $meanings" >&2
       ;;
   esac
+  case "$first $second" in 'query label' | 'query reward') names "$model" ;; esac
 }
 
 # show_seconds: how long the program has been at work, from the third second on, in one line of the terminal
@@ -114,7 +220,7 @@ show_seconds() {
   while printf '\rbin/%s: at work for %d seconds ' "$name" "$SECONDS" >&2; do sleep 1; done
 }
 
-# pass_on COMMAND: copies what the program writes, and explains it by its first line. Ends with 7 where it can't be written. A signal is for the
+# pass_on WORDS: copies what the program writes, and explains it by its first line. Ends with 7 where it can't be written. A signal is for the
 # program alone: behind it this one ends
 pass_on() {
   local first='' feed='' clock=''
@@ -124,14 +230,16 @@ pass_on() {
   IFS= read -r first && feed=$'\n'
   if [ -n "$clock" ]; then { kill "$clock" && wait "$clock"; } 2>/dev/null; printf '\r\033[K' >&2; fi
   { printf '%s%s' "$first" "$feed" && cat; } 2>/dev/null || return 7
-  explain "$1" "$first"
+  explain "$@" "$first"
   return 0
 }
 
-if ! is_fresh "$kept"; then
+if [ -n "$unproved" ]; then
+  compile
+elif ! is_fresh "$kept"; then
   if is_fresh "$built"; then keep "$built"; else build; fi
 fi
-exec 3> >(pass_on "$1")
+exec 3> >(pass_on "$@")
 copier=$!
 "$kept" "$@" <&0 >&3 3>&- &
 program=$!
@@ -144,5 +252,6 @@ while kill -0 "$program" 2>/dev/null; do
   status=$?
 done
 wait "$copier" || status=7
+[ -n "$unproved" ] && [ "$status" -gt 128 ] && say "the program was stopped, by a check of the compiled sources that failed or by a signal (status $status)"
 [ "$status" = 7 ] && say "standard output couldn't be written: look at where it goes, a full disk or a closed pipe (docs/answers.md)"
 exit "$status"

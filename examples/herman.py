@@ -58,6 +58,9 @@ def chain(count, has_bits):
 
 
 def main():
+    if sys.argv[1:2] in (["--help"], ["-h"]):
+        print(__doc__)
+        return
     count = int(sys.argv[1])
     if count < 3 or count % 2 == 0:
         sys.exit("examples/herman.py: the number of processes is odd and at least 3")

@@ -11,6 +11,9 @@ import sys
 
 
 def main():
+    if sys.argv[1:2] in (["--help"], ["-h"]):
+        print(__doc__)
+        return
     stake, goal = map(int, sys.argv[1:])
     print("@type: DTMC", "@parameters", "", "@reward_models", "", "@nr_states", goal + 1, "@nr_choices", goal + 1, "@model", sep="\n")
     for state in range(goal + 1):

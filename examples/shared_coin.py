@@ -47,6 +47,9 @@ def labels(state):
 
 
 def main():
+    if sys.argv[1:2] in (["--help"], ["-h"]):
+        print(__doc__)
+        return
     processes, bound = int(sys.argv[1]), int(sys.argv[1]) * int(sys.argv[2])
     states = [(0, (FLIP,) * processes)]
     numbers = {states[0]: 0}

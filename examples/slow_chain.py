@@ -17,6 +17,9 @@ def row(state, middle):
 
 
 def main():
+    if sys.argv[1:2] in (["--help"], ["-h"]):
+        print(__doc__)
+        return
     middle = int(sys.argv[1])
     states = 2 * middle + 1
     print("@type: DTMC", "@parameters", "", "@reward_models", "", "@nr_states", states, "@nr_choices", states, "@model", sep="\n")

@@ -9,6 +9,7 @@ expected fare of its trip. The driver starts in town A, the state labelled `init
 """
 
 import fractions
+import sys
 
 # For each town its choices: the name, the chances of a trip to A, B and C, and the fares of these trips.
 TOWNS = [
@@ -23,6 +24,9 @@ def numbers(words):
 
 
 def main():
+    if sys.argv[1:2] in (["--help"], ["-h"]):
+        print(__doc__)
+        return
     print("@type: MDP", "@parameters", "", "@reward_models", "fare", "@nr_states", 3, "@nr_choices", sum(map(len, TOWNS)), "@model", sep="\n")
     for town, choices in enumerate(TOWNS):
         print("state", town, *["init"] * (town == 0), "ABC"[town])

@@ -9,6 +9,10 @@ care, in two; the third one as it comes. A try is lost with probability 1/10, 1/
 
 import sys
 
+if sys.argv[1:2] in (["--help"], ["-h"]):
+    print(__doc__)
+    sys.exit()
+
 CHUNKS = int(sys.argv[1])
 DONE, FAILED = 5 * CHUNKS, 5 * CHUNKS + 1
 

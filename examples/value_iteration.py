@@ -46,6 +46,9 @@ def iterate(states, goals, best, change):
 
 
 def main():
+    if sys.argv[1:2] in (["--help"], ["-h"]):
+        print(__doc__)
+        return
     path, direction, label = sys.argv[1:4]
     change = float(sys.argv[4]) if len(sys.argv) > 4 else 1e-6
     states, labels = read(path)

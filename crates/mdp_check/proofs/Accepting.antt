@@ -235,17 +235,17 @@ module _ (m : Mdp) (r : ℕ) (goals : List Bool) (init : Init) (states : ℕ) (s
       (mean_min m r g bound bias k choices Min (mean_verdict Min g bound bias choices k) (below_names name m.names r named) (entries.bounds ∙ size) (entries.biases ∙ size)
       (entries.choices ∙ size) refl is refl) e
 
-  flow_bound : (stay : Option (List ℕ)) (label : List ℕ) (t : ℚ) (kept : List ℕ) (wide : List Bool) (flows : List Flow) → IsMdp m
+  flow_bound_of : (stay : Option (List ℕ)) (label : List ℕ) (t : ℚ) (kept : List ℕ) (wide : List Bool) (flows : List Flow) → IsMdp m
       → is_body_of (witness Max stay label t) states (flow kept wide flows) ≡ true → init_check init (initial_of m) (flow kept wide flows) ≡ verdict.Yes
       → verdict_of (flow_checks (way_by m goals stay) goals start t kept flows) ≡ verdict.Yes → bound_by m r goals start (witness Max stay label t) (flow kept wide flows)
-  flow_bound None label t kept wide flows is fits rule1 e =
+  flow_bound_of None label t kept wide flows is fits rule1 e =
       let v = verdict_of (flow_checks m goals start t kept flows) in
       let inside = start_below m init (flow kept wide flows) refl rule1 in
       let shape = flow_shape m states kept wide flows size fits in (
         of_if_yes _ _ (flow_sub_max m goals start t kept wide flows inside shape v is refl) e,
         of_if_yes _ _ (flow_within m goals start t kept wide flows inside shape v is refl) e,
       )
-  flow_bound (Some stay) label t kept wide flows is fits rule1 e =
+  flow_bound_of (Some stay) label t kept wide flows is fits rule1 e =
       let way : Mdp = way_of m goals stay in
       let known : IsMdp way = sub_is_mdp m goals (stay_marks m stay) is in
       let v = verdict_of (flow_checks way goals start t kept flows) in
@@ -255,16 +255,16 @@ module _ (m : Mdp) (r : ℕ) (goals : List Bool) (init : Init) (states : ℕ) (s
         way_sub_within m goals stay kept start t is (flow_total flows) (of_if_yes _ _ (flow_within way goals start t kept wide flows inside shape v known refl) e),
       )
 
-  floor_bound : (stay : Option (List ℕ)) (label : List ℕ) (t : ℚ) (kept : List ℕ) (wide : List Bool) (values : List ℚ) (ranks : List ℕ) → IsMdp m → length goals ≡ states_of m
+  floor_bound_of : (stay : Option (List ℕ)) (label : List ℕ) (t : ℚ) (kept : List ℕ) (wide : List Bool) (values : List ℚ) (ranks : List ℕ) → IsMdp m → length goals ≡ states_of m
       → is_body_of (witness Min stay label t) states (floor kept wide values ranks) ≡ true → init_check init (initial_of m) (floor kept wide values ranks) ≡ verdict.Yes
       → verdict_of (floor_checks (way_by m goals stay) goals start t kept values ranks) ≡ verdict.Yes
       → bound_by m r goals start (witness Min stay label t) (floor kept wide values ranks)
-  floor_bound None label t kept wide values ranks is each fits rule1 e =
+  floor_bound_of None label t kept wide values ranks is each fits rule1 e =
       of_if_yes _ _
       (floor_sub_min m goals start t kept wide values ranks each (start_below m init (floor kept wide values ranks) refl rule1)
       (floor_shape m states kept wide values ranks size fits)
       (verdict_of (floor_checks m goals start t kept values ranks)) is refl) e
-  floor_bound (Some stay) label t kept wide values ranks is each fits rule1 e =
+  floor_bound_of (Some stay) label t kept wide values ranks is each fits rule1 e =
       let way : Mdp = way_of m goals stay in
       way_sub_min m goals stay kept start t is
       (of_if_yes _ _
@@ -309,7 +309,7 @@ module _ (m : Mdp) (r : ℕ) (goals : List Bool) (init : Init) (states : ℕ) (s
   body_bound (witness Max stay label t) (policy z choices ranks) is named marked fits rule1 e = absurd (let t = fits in cc)
   body_bound (witness Max stay label t) (rewards v choices ranks) is named marked fits rule1 e = absurd (let t = fits in cc)
   body_bound (witness Max stay label t) (gains g bound bias choices k) is named marked fits rule1 e = absurd (let t = fits in cc)
-  body_bound (witness Max stay label t) (flow kept wide flows) is named marked fits rule1 e = flow_bound stay label t kept wide flows is fits rule1 e
+  body_bound (witness Max stay label t) (flow kept wide flows) is named marked fits rule1 e = flow_bound_of stay label t kept wide flows is fits rule1 e
   body_bound (witness Max stay label t) (floor kept wide values ranks) is named marked fits rule1 e = absurd (let t = fits in cc)
   body_bound (witness Min stay label t) (bounds z) is named marked fits rule1 e = absurd (let t = fits in cc)
   body_bound (witness Min stay label t) (policy z choices ranks) is named marked fits rule1 e = absurd (let t = fits in cc)
@@ -317,7 +317,7 @@ module _ (m : Mdp) (r : ℕ) (goals : List Bool) (init : Init) (states : ℕ) (s
   body_bound (witness Min stay label t) (gains g bound bias choices k) is named marked fits rule1 e = absurd (let t = fits in cc)
   body_bound (witness Min stay label t) (flow kept wide flows) is named marked fits rule1 e = absurd (let t = fits in cc)
   body_bound (witness Min stay label t) (floor kept wide values ranks) is named marked fits rule1 e =
-      floor_bound stay label t kept wide values ranks is (goals_count m (witness Min stay label t) goals marked) fits rule1 e
+      floor_bound_of stay label t kept wide values ranks is (goals_count m (witness Min stay label t) goals marked) fits rule1 e
 
 -- a verdict of yes is one on a body that fits
 pub by_body : (fits : Bool) (v : Verdict) → cond fits v (init_fault None) ≡ verdict.Yes → (fits ≡ true) × (v ≡ verdict.Yes)

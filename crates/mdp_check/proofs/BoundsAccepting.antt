@@ -130,9 +130,9 @@ module _ (m : Mdp) (known : IsMdp m) (r : ℕ) (goals : List Bool) (states : ℕ
   body_rules (mean dir name) (probabilities low high choices ranks) named fits = absurd (let t = fits in cc)
   body_rules (mean dir name) (rewards low high choices ranks) named fits = absurd (let t = fits in cc)
   body_rules (mean dir name) (gains low high bound bias choices k) named fits = mean_rules dir name low high bound bias choices k named fits
-  body_rules (witness dir label t) (probabilities low high choices ranks) named fits = absurd (let t = fits in cc)
-  body_rules (witness dir label t) (rewards low high choices ranks) named fits = absurd (let t = fits in cc)
-  body_rules (witness dir label t) (gains low high bound bias choices k) named fits = absurd (let t = fits in cc)
+  body_rules (witness dir stay label t) (probabilities low high choices ranks) named fits = absurd (let t = fits in cc)
+  body_rules (witness dir stay label t) (rewards low high choices ranks) named fits = absurd (let t = fits in cc)
+  body_rules (witness dir stay label t) (gains low high bound bias choices k) named fits = absurd (let t = fits in cc)
 
   body_between : (claim : PlainClaim) (body : PlainBounds) → reward_place m claim ≡ Some r → is_body_of claim states body ≡ true
       → bounds_verdict_by m r goals claim body ≡ verdict.Yes → between_by m r goals claim body
@@ -151,9 +151,9 @@ module _ (m : Mdp) (known : IsMdp m) (r : ℕ) (goals : List Bool) (states : ℕ
   body_between (mean dir name) (probabilities low high choices ranks) named fits e = absurd (let t = fits in cc)
   body_between (mean dir name) (rewards low high choices ranks) named fits e = absurd (let t = fits in cc)
   body_between (mean dir name) (gains low high bound bias choices k) named fits e = mean_between dir name low high bound bias choices k named fits e
-  body_between (witness dir label t) (probabilities low high choices ranks) named fits e = absurd (let t = fits in cc)
-  body_between (witness dir label t) (rewards low high choices ranks) named fits e = absurd (let t = fits in cc)
-  body_between (witness dir label t) (gains low high bound bias choices k) named fits e = absurd (let t = fits in cc)
+  body_between (witness dir stay label t) (probabilities low high choices ranks) named fits e = absurd (let t = fits in cc)
+  body_between (witness dir stay label t) (rewards low high choices ranks) named fits e = absurd (let t = fits in cc)
+  body_between (witness dir stay label t) (gains low high bound bias choices k) named fits e = absurd (let t = fits in cc)
 
 -- ---- the whole
 

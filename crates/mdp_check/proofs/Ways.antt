@@ -1,5 +1,5 @@
 -- The model on which an until is checked: it has the states of the model, and what a yes says there of reaching a goal, it says of until.
-use Rattle.std.proofs.Common.{◌≡◌, ℕ, ◌<◌, Bool, List, Option, Some, None, refl, sym, ap, subst, ◌∙◌}
+use Rattle.std.proofs.Common.{◌≡◌, ℕ, ◌<◌, Bool, List, [], Option, Some, None, refl, sym, ap, subst, ◌∙◌}
 use Rattle.std.specs.{Prelude.{Result, Ok, Err, IfOk}, List.{All}}
 use Rattle.mdp_math.specs.Rational.{ℚ}
 use Rattle.mdp_spec.specs.{Mdp.{Mdp, states_of}, Row.{IsMdp}, Sub.{sub_of}, Bounds.{ReachMax, ReachMin, SubMax, SubMaxWithin, SubMin}, Between.{ReachMaxBetween, ReachMinBetween}}
@@ -7,6 +7,7 @@ use Rattle.mdp_spec.specs.Until.{UntilMax, UntilMin, UntilMaxBetween, UntilMinBe
 use Rattle.mdp_spec.proofs.{Subsystem.{sub-states}, Until.{until_max_exact, until_min_exact, until_max_of_sub, until_min_of_sub}}
 use Rattle.mdp_claims.specs.{declared.verdict.Verdict.{Verdict}, declared.verdict.Verdict.TheVariants.{Yes, No, Wide}}
 use Rattle.mdp_claims.specs.declared.subsystem.Flow.{Flow}
+use Rattle.mdp_cert.specs.Cert.{PlainClaim, witness}
 use Rattle.mdp_farkas.specs.Verdict.{IfYes}
 use Rattle.mdp_subsystem_rules.specs.{Kept.{kept_marks}, Shape.{IsFlowShape, IsFloorShape}, Until.{SubUntilMax, SubUntilMaxWithin, SubUntilMin}}
 use Rattle.mdp_subsystem_rules.proofs.Untils.{sub_until_max, sub_until_within, sub_until_min}
@@ -96,3 +97,18 @@ module _ (m : Mdp) (goals : List Bool) (stay kept : List ℕ) (start : ℕ) (t :
 
     pub yes_sub_min : IfYes v (SubMin way goals (kept_marks (states_of way) kept) start t) → IfYes v (SubUntilMin m stays_ goals (kept_marks (states_of m) kept) start t)
     yes_sub_min = if_yes_so v _ _ (λ h. way_sub_min (subst (λ (b : Mdp). SubMin b goals (kept_marks (states_of b) kept) start t) is h))
+
+-- the label in the claim of a subsystem
+abbrev pub label_in : PlainClaim → List ℕ
+label_in (witness dir stay label t) = label
+label_in claim = []
+
+-- two facts after yes are one
+both_yes_so : (v : Verdict) (P Q : Type 0) → IfYes v P → IfYes v Q → IfYes v (P × Q)
+both_yes_so Yes P Q p q = (p, q)
+both_yes_so (No fault) P Q p q = tt
+both_yes_so (Wide state choice) P Q p q = tt
+
+pub both_ok : {E : Type 0} (r : Result Verdict E) (P Q : Type 0) → IfOk r (λ v. IfYes v P) → IfOk r (λ v. IfYes v Q) → IfOk r (λ v. IfYes v (P × Q))
+both_ok (Ok v) P Q p q = both_yes_so v P Q p q
+both_ok (Err f) P Q p q = tt

@@ -10,6 +10,8 @@ use Rattle.mdp_farkas.specs.{Upper.{upper_checks, IsUpper}, Reach.{reach_checks,
 use Rattle.mdp_farkas.specs.{Verdict.{verdict_of}, Initial.{init_fault}}
 use Rattle.mdp_subsystem_rules.specs.{Flow.{flow_total}, Kept.{kept_marks}, FlowChecks.{flow_checks, HoldsFlow}, FloorChecks.{floor_checks, HoldsFloor}}
 use Rattle.mdp_subsystem_rules.specs.Until.{SubUntilMax, SubUntilMaxWithin, SubUntilMin}
+use Rattle.mdp_claims.specs.declared.subsystem.Flow.{Flow}
+use Rattle.mdp_math.specs.Rational.{ℚ}
 use Rattle.mdp_claims.specs.declared.verdict.Verdict.{Verdict}
 use Rattle.mdp_claims.specs.declared.verdict.Verdict.TheVariants as verdict
 use Rattle.mdp_check.specs.{Initial.{init_check, start_of}, declared.answer.Answer.{Answer}}
@@ -130,6 +132,20 @@ pub record IsAccepted (m : Mdp) (c : Certificate) : Type 0 where
   pub init : init_check c.init (initial_of m) c.body ≡ verdict.Yes
   pub body : IsValidBody m reward goals c
 
+-- on the kept states alone some strategy tree from the start comes close to the threshold or over it, also at a depth that the sum of the flows
+-- bounds; by way of the states that stay, where these are named
+abbrev pub flow_bound : Mdp → List Bool → ℕ → Option (List ℕ) → ℚ → List ℕ → List Flow → Type 0
+flow_bound m goals start None t kept flows =
+    SubMax m goals (kept_marks (states_of m) kept) start t × SubMaxWithin m goals (kept_marks (states_of m) kept) start t (flow_total flows)
+flow_bound m goals start (Some stay) t kept flows =
+    SubUntilMax m (stay_marks m stay) goals (kept_marks (states_of m) kept) start t
+    × SubUntilMaxWithin m (stay_marks m stay) goals (kept_marks (states_of m) kept) start t (flow_total flows)
+
+-- and each deep tree does
+abbrev pub floor_bound : Mdp → List Bool → ℕ → Option (List ℕ) → ℚ → List ℕ → Type 0
+floor_bound m goals start None t kept = SubMin m goals (kept_marks (states_of m) kept) start t
+floor_bound m goals start (Some stay) t kept = SubUntilMin m (stay_marks m stay) goals (kept_marks (states_of m) kept) start t
+
 -- the claim, for the reward model of place r and these goals: for upper bounds, that no strategy tree passes them; for a direction, that the
 -- values are the greatest, or the least, probabilities of reaching a goal, also by way of some states alone, or rewards until a goal, and the policy comes close to them; that
 -- the gains are the greatest, or the least, mean payoffs to within the spread; or that on the kept states alone some strategy tree from the
@@ -145,13 +161,8 @@ bound_by m r goals start (reward Max name label) (rewards v choices ranks) = Rew
 bound_by m r goals start (reward Min name label) (rewards v choices ranks) = RewardMin m r goals choices v
 bound_by m r goals start (mean Max name) (gains g bound bias choices spread) = MeanMax m r g spread choices
 bound_by m r goals start (mean Min name) (gains g bound bias choices spread) = MeanMin m r g spread choices
-bound_by m r goals start (witness Max None label t) (flow kept wide flows) =
-    SubMax m goals (kept_marks (states_of m) kept) start t × SubMaxWithin m goals (kept_marks (states_of m) kept) start t (flow_total flows)
-bound_by m r goals start (witness Max (Some stay) label t) (flow kept wide flows) =
-    SubUntilMax m (stay_marks m stay) goals (kept_marks (states_of m) kept) start t
-    × SubUntilMaxWithin m (stay_marks m stay) goals (kept_marks (states_of m) kept) start t (flow_total flows)
-bound_by m r goals start (witness Min None label t) (floor kept wide values ranks) = SubMin m goals (kept_marks (states_of m) kept) start t
-bound_by m r goals start (witness Min (Some stay) label t) (floor kept wide values ranks) = SubUntilMin m (stay_marks m stay) goals (kept_marks (states_of m) kept) start t
+bound_by m r goals start (witness Max stay label t) (flow kept wide flows) = flow_bound m goals start stay t kept flows
+bound_by m r goals start (witness Min stay label t) (floor kept wide values ranks) = floor_bound m goals start stay t kept
 bound_by m r goals start claim body = ⊥
 
 abbrev pub BoundOf : Mdp → ℕ → List Bool → Certificate → Type 0

@@ -6,12 +6,11 @@ ghost use Rattle.mdp_check.specs.Check.{reward_place, goal_marks, answer_to, bod
 
 use crate::answer::{Answer, answer_of};
 use crate::initial::{init_verdict, start_of};
-use crate::until::{until_floor_verdict, until_flow_verdict, until_verdict};
+use crate::until::{floor_verdict, flow_verdict, until_verdict};
 use mdp_cert::{Body, Cert, Claim};
 use mdp_farkas::{Verdict, holds_mean, holds_reach, holds_reward, holds_upper, init_denied};
 use mdp_num::Memory;
 use mdp_rows::{Dir, Marks, Model};
-use mdp_subsystem_rules::{holds_floor, holds_flow};
 use std::alloc::Global;
 
 /// The place of the claim's reward model in the model, where it is there; 0 where the claim names none.
@@ -45,7 +44,9 @@ pub(crate) fn goal_marks(
         }
         Claim::Reward { label, .. } => label,
         Claim::Witness {
-            stay: None, label, ..
+            stay: None,
+            label,
+            ..
         } => label,
         Claim::Witness {
             stay: Some(stay),
@@ -96,42 +97,21 @@ fn body_verdict(
         (
             Claim::Witness {
                 dir: Dir::Max,
-                stay: None,
+                stay,
                 threshold,
                 ..
             },
             Body::Flow(flow),
-        ) => {
-            let verdict = holds_flow(alloc, model, goals, start, *threshold, flow)?;
-            Ok(verdict)
-        }
-        (
-            Claim::Witness {
-                dir: Dir::Max,
-                stay: Some(stay),
-                threshold,
-                ..
-            },
-            Body::Flow(flow),
-        ) => until_flow_verdict(alloc, model, goals, start, stay, *threshold, flow),
+        ) => flow_verdict(alloc, model, goals, start, stay, *threshold, flow),
         (
             Claim::Witness {
                 dir: Dir::Min,
-                stay: None,
+                stay,
                 threshold,
                 ..
             },
             Body::Floor(floor),
-        ) => Ok(holds_floor(model, goals, start, *threshold, floor)),
-        (
-            Claim::Witness {
-                dir: Dir::Min,
-                stay: Some(stay),
-                threshold,
-                ..
-            },
-            Body::Floor(floor),
-        ) => until_floor_verdict(alloc, model, goals, start, stay, *threshold, floor),
+        ) => floor_verdict(alloc, model, goals, start, stay, *threshold, floor),
         _ => Ok(init_denied(None)),
     }
 }

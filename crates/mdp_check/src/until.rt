@@ -1,11 +1,11 @@
-ghost use Rattle.std.specs.Prelude.{◌≡◌, ◌↔◌, ◌<◌, IfOk, length};
+ghost use Rattle.std.specs.Prelude.{◌≡◌, ◌↔◌, ◌<◌, IfOk, length, option_map};
 ghost use Rattle.mdp_spec.specs.{Mdp.{states_of}, Until.{UntilMax, UntilMin, UntilMaxBetween, UntilMinBetween}};
 ghost use Rattle.mdp_rows.specs.declared.dir.Dir.TheVariants.{Max, Min};
 ghost use Rattle.mdp_farkas.specs.{Verdict.{verdict_of, IfYes, IsYes}, Reach.{reach_checks, IsReach}};
 ghost use Rattle.mdp_bounds.specs.Reach.{bounds_checks, IsReachBounds};
 ghost use Rattle.mdp_subsystem_rules.specs.{Flow.{flow_total}, Kept.{kept_marks}, Shape.{IsFlowShape, IsFloorShape}};
 ghost use Rattle.mdp_subsystem_rules.specs.{FlowChecks.{flow_checks, HoldsFlow}, FloorChecks.{floor_checks, HoldsFloor}, Until.{SubUntilMax, SubUntilMaxWithin, SubUntilMin}};
-ghost use Rattle.mdp_check.specs.Check.{stay_marks, way_of};
+ghost use Rattle.mdp_check.specs.Check.{stay_marks, way_of, way_by, flow_bound, floor_bound};
 
 use mdp_bounds::holds_bounds_reach;
 use mdp_claims::{FloorCert, FlowCert, ReachBoundsCert, ReachCert};
@@ -60,7 +60,7 @@ pub(crate) fn until_verdict(
 }
 
 /// What the rules of a flow say on the way.
-pub(crate) fn until_flow_verdict(
+fn until_flow_verdict(
     alloc: Global,
     model: &Model,
     goals: &Marks,
@@ -88,7 +88,7 @@ pub(crate) fn until_flow_verdict(
 }
 
 /// What the rules of a floor say on the way.
-pub(crate) fn until_floor_verdict(
+fn until_floor_verdict(
     alloc: Global,
     model: &Model,
     goals: &Marks,
@@ -112,7 +112,62 @@ pub(crate) fn until_floor_verdict(
     Ok(holds_floor(&way, goals, start, threshold, cert))
 }
 
-/// The same of lower and upper values as of values.
+/// What the rules of a flow say: on the way where one is named, else on the model.
+pub(crate) fn flow_verdict(
+    alloc: Global,
+    model: &Model,
+    goals: &Marks,
+    start: u32,
+    stay: &Option<Vec<u8>>,
+    threshold: Frac,
+    cert: &FlowCert,
+) -> Result<Verdict, Memory>
+    requires goals { length goals.now ≡ states_of model.now }
+    requires start { start < states_of model.now }
+    requires shape { IsFlowShape model.now cert.now.kept.items cert.now.wide.items cert.now.flows.items }
+    ensures verdict { IfOk result (λ v. v ≡ verdict_of (flow_checks (way_by model.now goals.now (option_map (λ name. name.items) stay.now)) goals.now
+        start threshold cert.now.kept.items cert.now.flows.items)) }
+    ensures rules { IfOk result (λ v. IsYes v ↔ HoldsFlow (way_by model.now goals.now (option_map (λ name. name.items) stay.now)) goals.now
+        start threshold cert.now.kept.items cert.now.flows.items) }
+    ensures bound { IfOk result (λ v. IfYes v (flow_bound model.now goals.now start (option_map (λ name. name.items) stay.now) threshold
+        cert.now.kept.items cert.now.flows.items)) }
+{
+    match stay {
+        Some(stay) => until_flow_verdict(alloc, model, goals, start, stay, threshold, cert),
+        None => {
+            let verdict = holds_flow(alloc, model, goals, start, threshold, cert)?;
+            Ok(verdict)
+        }
+    }
+}
+
+/// What the rules of a floor say: on the way where one is named, else on the model.
+pub(crate) fn floor_verdict(
+    alloc: Global,
+    model: &Model,
+    goals: &Marks,
+    start: u32,
+    stay: &Option<Vec<u8>>,
+    threshold: Frac,
+    cert: &FloorCert,
+) -> Result<Verdict, Memory>
+    requires goals { length goals.now ≡ states_of model.now }
+    requires start { start < states_of model.now }
+    requires shape { IsFloorShape model.now cert.now.kept.items cert.now.wide.items cert.now.values.items cert.now.ranks.items }
+    ensures verdict { IfOk result (λ v. v ≡ verdict_of (floor_checks (way_by model.now goals.now (option_map (λ name. name.items) stay.now)) goals.now
+        start threshold cert.now.kept.items cert.now.values.items cert.now.ranks.items)) }
+    ensures rules { IfOk result (λ v. IsYes v ↔ HoldsFloor (way_by model.now goals.now (option_map (λ name. name.items) stay.now)) goals.now
+        start threshold cert.now.kept.items cert.now.values.items cert.now.ranks.items) }
+    ensures bound { IfOk result (λ v. IfYes v
+        (floor_bound model.now goals.now start (option_map (λ name. name.items) stay.now) threshold cert.now.kept.items)) }
+{
+    match stay {
+        Some(stay) => until_floor_verdict(alloc, model, goals, start, stay, threshold, cert),
+        None => Ok(holds_floor(model, goals, start, threshold, cert)),
+    }
+}
+
+/// What the rules of reaching a goal say on the way of lower and upper values.
 pub(crate) fn until_bounds_verdict(
     alloc: Global,
     model: &Model,

@@ -1,18 +1,19 @@
 -- What is due to `bounds`, computed. `draw` stays at 0, or moves to 1 with 1/3 and to 2 with 2/3; 1 is the goal. Each step costs 1, which is a loss of 1.
--- `both` has two initial states.
+-- `both` has two initial states. `risky` moves from 0, its one safe state, to 1, or to 1 and to the goal 2 with 1/2 each; from 1 the goal is next.
 use Rattle.std.proofs.Common.{◌≡◌, ℕ, List, [], ◌∷◌, Err, refl, pos, Some, None}
 use Rattle.std.specs.Prelude.{codes}
 use Rattle.mdp_math.specs.{Gcd.{gcd, gcd_with_fuel}, Rational.{ℚ, of_int, ratio, neg_ℚ, le_ℚ, lt_ℚ, ◌+ℚ◌, ◌*ℚ◌}}
 use Rattle.mdp_math.specs.Written.{narrow, narrow_ℚ, written_add, written_mul}
-use Rattle.mdp_spec.specs.Mdp.{Entry, Choice, Mdp}
-use Rattle.mdp_spec.proofs.Small.{entry, labelled, number}
+use Rattle.mdp_spec.specs.{Mdp.{Entry, Choice, Mdp}, Sub.{sub_of}}
+use Rattle.mdp_spec.proofs.Small.{entry, labelled, number, half, quarter}
 use Rattle.mdp_rows.specs.declared.dir.Dir.TheVariants.{Max, Min}
-use Rattle.mdp_claims.specs.declared.rule.Rule.TheVariants.{ValueOnEachChoice}
+use Rattle.mdp_claims.specs.declared.rule.Rule.TheVariants.{ChoiceExists, ValueOnEachChoice}
 use Rattle.mdp_cert.specs.Cert as claim
+use Rattle.mdp_cert.specs.Cert.{PlainClaim}
 use Rattle.mdp_cert.specs.{BoundsCert.{probabilities, rewards, gains, Certificate}, declared.init.BoundsInit.TheVariants.{Missing, Between}}
 use Rattle.mdp_check.specs.{Bounds.{bounds_answer_to}, declared.answer.Answer.TheVariants.{Yes, No}}
-use Rattle.mdp_job.specs.{Job.{reach, reward, mean}, Refusal.{PlainRefusal, query_label, query_reward, query_negative, query_size}}
-use Rattle.mdp_command_bounds_search.specs.{Certificate.{certificate_of}, Due.{IsBoundsDue}}
+use Rattle.mdp_job.specs.{Job.{reach, until, reward, mean}, Refusal.{PlainRefusal, query_label, query_reward, query_negative, query_size}}
+use Rattle.mdp_command_bounds_search.specs.{Certificate.{certificate_of}, Due.{claim_of, IsBoundsDue}, Laws.{LieBetween}}
 
 abbrev choice : List Entry → Choice
 choice row = record { row = row; rewards = number 1 ∷ neg_ℚ (number 1) ∷ [] }
@@ -92,6 +93,58 @@ loss_holds :
 unfolding gcd gcd_with_fuel of_int ratio neg_ℚ le_ℚ lt_ℚ ◌+ℚ◌ ◌*ℚ◌ narrow narrow_ℚ written_add written_mul
 loss_holds = refl
 
+-- ---- by way of safe states alone
+
+abbrev moves : List Entry → Choice
+moves row = record { row = row; rewards = [] }
+
+abbrev risky : Mdp
+risky = record {
+  names = [];
+  labels = codes "init" ∷ codes "safe" ∷ codes "goal" ∷ [];
+  states =
+      labelled (0 ∷ 1 ∷ []) (moves (entry 1 (number 1) ∷ []) ∷ moves (entry 1 half ∷ entry 2 half ∷ []) ∷ [])
+      ∷ labelled [] (moves (entry 2 (number 1) ∷ []) ∷ [])
+      ∷ labelled (2 ∷ []) (moves (entry 2 (number 1) ∷ []) ∷ [])
+      ∷ [];
+}
+
+abbrev chances : PlainClaim → ℚ → ℚ → Certificate
+chances claimed low high =
+    certificate_of claimed risky (probabilities (low ∷ number 0 ∷ number 1 ∷ []) (high ∷ number 0 ∷ number 1 ∷ []) (1 ∷ 0 ∷ 0 ∷ []) (1 ∷ 0 ∷ 0 ∷ []))
+
+-- the claim has both labels
+safe_claim : claim_of Max (until (codes "safe") (codes "goal")) ≡ claim.until Max (codes "safe") (codes "goal")
+safe_claim = refl
+
+not_reach : claim_of Max (until (codes "safe") (codes "goal")) ≡ claim.reach Max (codes "goal") → ⊥
+not_reach e = cc e
+
+-- the line `init` is that of the model
+safe_line : (chances (claim.until Max (codes "safe") (codes "goal")) quarter half).init ≡ Between 0 (Some quarter) (Some half)
+safe_line = refl
+
+-- the greatest probability of reaching the goal by way of safe states alone, 1/2, lies between 1/4 and 1/2
+safe_holds : bounds_answer_to risky (chances (claim.until Max (codes "safe") (codes "goal")) quarter half) ≡ Yes
+unfolding gcd gcd_with_fuel of_int ratio le_ℚ lt_ℚ ◌+ℚ◌ ◌*ℚ◌ narrow narrow_ℚ written_add written_mul sub_of
+safe_holds = refl
+
+safe_too_small : bounds_answer_to risky (chances (claim.until Max (codes "safe") (codes "goal")) quarter quarter) ≡ No (record { rule = ValueOnEachChoice; state = Some 0; choice = Some 1 })
+unfolding gcd gcd_with_fuel of_int ratio le_ℚ lt_ℚ ◌+ℚ◌ ◌*ℚ◌ narrow narrow_ℚ written_add written_mul sub_of
+safe_too_small = refl
+
+-- they are no bounds of reaching the goal by any way, nor by way of states that have the goal's label
+any_way : bounds_answer_to risky (chances (claim.reach Max (codes "goal")) quarter half) ≡ No (record { rule = ValueOnEachChoice; state = Some 1; choice = Some 0 })
+unfolding gcd gcd_with_fuel of_int ratio le_ℚ lt_ℚ ◌+ℚ◌ ◌*ℚ◌ narrow narrow_ℚ written_add written_mul
+any_way = refl
+
+goal_way : bounds_answer_to risky (chances (claim.until Max (codes "goal") (codes "goal")) quarter half) ≡ No (record { rule = ChoiceExists; state = Some 0; choice = Some 1 })
+unfolding gcd gcd_with_fuel of_int ratio le_ℚ lt_ℚ ◌+ℚ◌ ◌*ℚ◌ narrow narrow_ℚ written_add written_mul sub_of
+goal_way = refl
+
+no_rewards_between : LieBetween Max (until (codes "safe") (codes "goal")) risky (rewards [] [] [] []) → ⊥
+no_rewards_between h = h
+
 -- ---- what is due
 
 unknown : IsBoundsDue Max (reach (codes "done")) draw (Err query_label)
@@ -99,6 +152,23 @@ unknown = refl
 
 unknown_alone : IsBoundsDue Max (reach (codes "done")) draw (Err query_size) → ⊥
 unknown_alone d = cc d
+
+-- either label may be missing, also where the other one is there
+unknown_stay : IsBoundsDue Max (until (codes "calm") (codes "goal")) risky (Err query_label)
+unknown_stay = refl
+
+unknown_goal : IsBoundsDue Min (until (codes "safe") (codes "done")) risky (Err query_label)
+unknown_goal = refl
+
+unknown_both : IsBoundsDue Max (until (codes "calm") (codes "done")) risky (Err query_label)
+unknown_both = refl
+
+unknown_stay_alone : IsBoundsDue Max (until (codes "calm") (codes "goal")) risky (Err query_size) → ⊥
+unknown_stay_alone d = cc d
+
+-- `-` is no word for any way here: it is the name of a label, which isn't there
+no_dash : IsBoundsDue Max (until (codes "-") (codes "goal")) risky (Err query_label)
+no_dash = refl
 
 -- the reward's name is looked up before the label
 unknown_name : IsBoundsDue Max (reward (codes "time") (codes "done")) draw (Err query_reward)
@@ -118,6 +188,9 @@ unknown_mean = refl
 -- no refusal is due to a query that fits the model
 no_refusal : (refusal : PlainRefusal) → IsBoundsDue Max (reach (codes "goal")) draw (Err refusal) → ⊥
 no_refusal refusal d = cc (d.spelled)
+
+no_until_refusal : (refusal : PlainRefusal) → IsBoundsDue Max (until (codes "safe") (codes "goal")) risky (Err refusal) → ⊥
+no_until_refusal refusal d = cc (d.spelled)
 
 no_mean_refusal : (refusal : PlainRefusal) → IsBoundsDue Max (mean (codes "gain")) draw (Err refusal) → ⊥
 no_mean_refusal refusal d = cc (d.spelled)

@@ -4,7 +4,8 @@ use Rattle.std.proofs.{Common.{Ok, Err, IfOk, refl, sym, ap, ap₂, subst, ◌�
 use Rattle.std.specs.Prelude.{All, option_map}
 use Rattle.mdp_math.specs.Rational.{ℚ}
 use Rattle.mdp_num.specs.OrderView.{equal_decides}
-use Rattle.mdp_spec.specs.{Bounds.{reward_at}, Labels.{place_of, marks_of, initial_of}, Mdp.{Mdp, states_of, value_at}, Row.{IsMdp}}
+use Rattle.mdp_spec.specs.{Bounds.{reward_at}, Labels.{place_of, marks_of, initial_of}, Mdp.{Mdp, states_of, value_at}, Row.{IsMdp}, Sub.{sub_of}}
+use Rattle.mdp_spec.proofs.Subsystem.{sub-states}
 use Rattle.mdp_rows.proofs.FoundNames.{found_among, name_of_reward}
 use Rattle.mdp_rows.specs.{Name.{IsName, IsRewardName}, declared.dir.Dir.{Dir}}
 use Rattle.mdp_farkas.specs.Initial.{init_fault, is_value}
@@ -17,11 +18,29 @@ use Rattle.mdp_cert.specs.{BoundsCert.{PlainBounds, probabilities, rewards, gain
 use Rattle.mdp_cert.specs.{BoundsReading.{outcome}, BoundsSpelling.{text_of}}
 use Rattle.mdp_cert.proofs.BoundsBodies.{reach-counts, reward-counts, mean-counts}
 use Rattle.mdp_check.specs.{Bounds.{IsBoundsAccepted}, BoundsInitial.{bounds_init_check}, BoundsLaws.{AcceptedBoundsAreTrue}, Initial.{is_reward}}
+use Rattle.mdp_check.specs.Check.{labelled_marks, marks_on_way, stays_at, way_of}
 use Rattle.mdp_job.specs.{Job.{PlainQuery}, Refusal.{PlainRefusal, no_memory}}
 use Rattle.mdp_command.specs.{Files.{most_bytes}, Said.{Said}}
 use Rattle.mdp_command_bounds_search.specs.Certificate.{HasValues, init_between, certificate_of, AreBounds}
-use Rattle.mdp_command_bounds_search.specs.{Due.{claim_of, fault_of, IsAcceptedText, IsDueBy, IsBoundsDue}, Shown.{IsBoundsPrinted}}
+use Rattle.mdp_command_bounds_search.specs.{Due.{claim_of, label_fault, until_fault, fault_of, IsAcceptedText, IsDueBy, IsBoundsDue}, Shown.{IsBoundsPrinted}}
 use Rattle.mdp_command_bounds_search.proofs.TextLength.{text_short}
+
+-- ---- the states of a label
+
+-- marks that are those of a label are those of its place
+pub marked_at : (m : Mdp) (place : Option ℕ) (marks : List Bool) → option_map (marks_of m) place ≡ Some marks → (l : ℕ) × (place ≡ Some l) × (marks_of m l ≡ marks)
+marked_at m None marks e = absurd cc
+marked_at m (Some l) marks e = (l, refl, cc e)
+
+-- a label that has such marks is there
+pub label_there : (m : Mdp) (place : Option ℕ) (marks : List Bool) → option_map (marks_of m) place ≡ Some marks → label_fault place ≡ None
+label_there m None marks e = absurd cc
+label_there m (Some l) marks e = refl
+
+-- of two labels
+pub labels_there : (m : Mdp) (stay label : Option ℕ) (stays goals : List Bool) → option_map (marks_of m) stay ≡ Some stays → option_map (marks_of m) label ≡ Some goals → until_fault stay label ≡ None
+labels_there m None label stays goals e f = absurd cc
+labels_there m (Some a) label stays goals e f = label_there m label goals f
 
 -- ---- a body has an entry per state
 
@@ -62,6 +81,32 @@ module _ (dir : Dir) (label : List ℕ) (m : Mdp) (l : ℕ) (known : All IsName 
     marked = ap (option_map (marks_of m)) found;
     valid = subst (λ (g : List Bool). IsRewardBounds dir m r g lower upper choices ranks) same rules;
   }
+
+-- the model that is cut down to these states is the one on which the claim is checked
+way_is : (m : Mdp) (stay : List ℕ) (stays goals : List Bool) → labelled_marks m stay ≡ Some stays → sub_of m goals stays ≡ way_of m goals stay
+way_is m stay stays goals e = let at = marked_at m (place_of stay m.labels) stays e in ap (sub_of m goals) (sym at.2 ∙ ap (stays_at m) (sym at.1))
+
+-- and it has as many states
+pub way_states : (m : Mdp) (stays goals : List Bool) (way : Mdp) → way ≡ sub_of m goals stays → states_of way ≡ states_of m
+way_states m stays goals way is = ap states_of is ∙ sub-states m goals stays
+
+-- bounds of the probabilities of reaching this label by way of states of that one alone
+pub until_bounds : (dir : Dir) (stay label : List ℕ) (m : Mdp) → All IsName m.labels → (stays goals : List Bool) → labelled_marks m stay ≡ Some stays → labelled_marks m label ≡ Some goals
+    → (way : Mdp) → way ≡ sub_of m goals stays → (lower upper : List ℚ) (choices ranks : List ℕ) → IsReachBounds dir way goals lower upper choices ranks → length lower ≡ states_of way
+    → length upper ≡ states_of way → length choices ≡ states_of way → length ranks ≡ states_of way → AreBounds (until dir stay label) m (probabilities lower upper choices ranks)
+until_bounds dir stay label m known stays goals stayed marked way is lower upper choices ranks rules x y z w =
+    let a = marked_at m (place_of stay m.labels) stays stayed in
+    let l = marked_at m (place_of label m.labels) goals marked in
+    let size = way_states m stays goals way is in
+    record {
+      names = ap₂ (λ (p q : Bool). p && q) (found_among IsName stay m.labels a.0 a.1 known) (found_among IsName label m.labels l.0 l.1 known);
+      entries = four (states_of m) (length lower) (length upper) (length choices) (length ranks) (x ∙ size) (y ∙ size) (z ∙ size) (w ∙ size);
+      reward = 0;
+      named = refl;
+      goals = goals;
+      marked = subst (λ (o : Option ℕ). marks_on_way m label o ≡ Some goals) (sym a.1) marked;
+      valid = subst (λ (k : Mdp). IsReachBounds dir k goals lower upper choices ranks) (is ∙ way_is m stay stays goals stayed) rules;
+    }
 
 -- bounds of the mean payoffs of this name
 pub mean_bounds : (dir : Dir) (name : List ℕ) (m : Mdp) (r : ℕ) → All IsRewardName m.names → place_of name m.names ≡ Some r → (lower upper bound bias : List ℚ) (spread : ℚ) (choices : List ℕ)
@@ -117,7 +162,7 @@ init_inside (until dir stay label) n (Some s) (rewards lower high choices ranks)
 init_inside (reward dir name label) n (Some s) (rewards lower high choices ranks) e below =
     ap₂ (λ (a b : Bool). a && b) (ap₂ (λ (a b : Bool). a && b) (lt-ltb s n (below s refl)) (may_be_reward dir name label (reward_at lower s))) (may_be_reward dir name label (reward_at high s))
 init_inside (mean dir name) n (Some s) (rewards lower high choices ranks) e below = absurd cc
-init_inside (certificate.witness dir label threshold) n (Some s) (rewards lower high choices ranks) e below = absurd cc
+init_inside (certificate.witness dir stay label threshold) n (Some s) (rewards lower high choices ranks) e below = absurd cc
 init_inside claim n (Some s) (gains lower upper bound bias choices spread) e below = ap (λ (b : Bool). b && true && true) (lt-ltb s n (below s refl))
 
 -- ---- the certificate is accepted

@@ -1,16 +1,16 @@
 -- What is due to `bounds` is never a term that is too wide, the best values lie between its values, and what is shown of its text.
 use Rattle.std.proofs.Common.{◌≡◌, ℕ, Bool, List, Option, Some, None, Ok, Err, IfOk, IsOk, refl, sym, ap, ap₂, subst, ◌∙◌}
-use Rattle.std.specs.Prelude.{option_map}
 use Rattle.mdp_spec.specs.{Between.{ReachMaxBetween, ReachMinBetween, RewardMaxBetween, RewardMinBetween}, Labels.{place_of, marks_of}, Mdp.{Mdp, states_of}}
-use Rattle.mdp_spec.specs.Row.{IsMdp}
+use Rattle.mdp_spec.specs.{Row.{IsMdp}, Until.{UntilMaxBetween, UntilMinBetween}}
 use Rattle.mdp_rows.specs.{declared.dir.Dir.{Dir}, declared.dir.Dir.TheVariants.{Max, Min}, declared.rule.RowRule.{RowRule}}
 use Rattle.mdp_cert.specs.{Cert.{PlainClaim}, BoundsCert.{PlainBounds, probabilities, rewards, gains, Certificate}, BoundsSpelling.{text_of}}
-use Rattle.mdp_check.specs.{Bounds.{between_by, IsBoundsTrue}, BoundsLaws.{AcceptedBoundsAreTrue}, Check.{reward_place, goal_marks}}
-use Rattle.mdp_job.specs.{Job.{PlainQuery, reach, reward, mean}, Refusal.{PlainRefusal}}
+use Rattle.mdp_check.specs.{Bounds.{between_by, IsBoundsTrue}, BoundsLaws.{AcceptedBoundsAreTrue}, Check.{reward_place, goal_marks, labelled_marks, marks_on_way, stays_at}}
+use Rattle.mdp_job.specs.{Job.{PlainQuery, reach, until, reward, mean}, Refusal.{PlainRefusal}}
 use Rattle.mdp_command.specs.{Kinds.{between}, Files.{model_due}, Said.{Said}}
 use Rattle.mdp_command.proofs.TrueClaims.{true_claim_of}
 use Rattle.mdp_command_bounds_search.specs.{Due.{claim_of, fault_of, IsDueBy, IsAcceptedText}, Laws.{IsNeverTooWide, LieBetween, IsAnswerTo, TextLiesBetween}}
 use Rattle.mdp_command_bounds_search.specs.Shown.{IsBoundsPrinted, IsBoundsSolved}
+use Rattle.mdp_command_bounds_search.proofs.Printing.{marked_at}
 
 -- ---- never too wide
 
@@ -24,15 +24,21 @@ never_too_wide dir query m said fitting due =
 
 -- ---- the best values lie between the values
 
--- goals that are those of a label are those of its place
-marked_at : (m : Mdp) (place : Option ℕ) (goals : List Bool) → option_map (marks_of m) place ≡ Some goals → (l : ℕ) × (place ≡ Some l) × (marks_of m l ≡ goals)
-marked_at m None goals e = absurd cc
-marked_at m (Some l) goals e = (l, refl, cc e)
+-- where there are goals on a way, the label of the states on it is there
+stays_there : (m : Mdp) (label : List ℕ) (stay : Option ℕ) (goals : List Bool) → marks_on_way m label stay ≡ Some goals → (a : ℕ) × (stay ≡ Some a) × (labelled_marks m label ≡ Some goals)
+stays_there m label None goals e = absurd cc
+stays_there m label (Some a) goals e = (a, refl, e)
 
 module _ (m : Mdp) (r : ℕ) (goals : List Bool) where
-  reach_between : (P : List Bool → Type 0) (label : List ℕ) → option_map (marks_of m) (place_of label m.labels) ≡ Some goals → P goals
-      → (l : ℕ) × (place_of label m.labels ≡ Some l) × P (marks_of m l)
+  reach_between : (P : List Bool → Type 0) (label : List ℕ) → labelled_marks m label ≡ Some goals → P goals → (l : ℕ) × (place_of label m.labels ≡ Some l) × P (marks_of m l)
   reach_between P label marked holds = let at = marked_at m (place_of label m.labels) goals marked in (at.0, at.1, subst P (sym at.2) holds)
+
+  until_between : (P : List Bool → List Bool → Type 0) (stay label : List ℕ) → marks_on_way m label (place_of stay m.labels) ≡ Some goals → P (stays_at m (place_of stay m.labels)) goals
+      → (a : ℕ) × (l : ℕ) × (place_of stay m.labels ≡ Some a) × (place_of label m.labels ≡ Some l) × P (marks_of m a) (marks_of m l)
+  until_between P stay label marked holds =
+      let way = stays_there m label (place_of stay m.labels) goals marked in
+      let at = reach_between (P (marks_of m way.0)) label way.2 (subst (λ (o : Option ℕ). P (stays_at m o) goals) way.1 holds) in
+      (way.0, at.0, way.1, at.1, at.2)
 
   lie_between : (dir : Dir) (query : PlainQuery) (body : PlainBounds) → reward_place m (claim_of dir query) ≡ Some r → goal_marks m (claim_of dir query) ≡ Some goals
       → between_by m r goals (claim_of dir query) body → LieBetween dir query m body
@@ -42,6 +48,12 @@ module _ (m : Mdp) (r : ℕ) (goals : List Bool) where
   lie_between Min (reach label) (rewards lower upper policy ranks) named marked h = absurd h
   lie_between Max (reach label) (gains lower upper bound bias policy spread) named marked h = absurd h
   lie_between Min (reach label) (gains lower upper bound bias policy spread) named marked h = absurd h
+  lie_between Max (until stay label) (probabilities lower upper policy ranks) named marked h = until_between (λ s g. UntilMaxBetween m s g lower upper policy) stay label marked h
+  lie_between Min (until stay label) (probabilities lower upper policy ranks) named marked h = until_between (λ s g. UntilMinBetween m s g lower upper policy) stay label marked h
+  lie_between Max (until stay label) (rewards lower upper policy ranks) named marked h = absurd h
+  lie_between Min (until stay label) (rewards lower upper policy ranks) named marked h = absurd h
+  lie_between Max (until stay label) (gains lower upper bound bias policy spread) named marked h = absurd h
+  lie_between Min (until stay label) (gains lower upper bound bias policy spread) named marked h = absurd h
   lie_between Max (reward name label) (probabilities lower upper policy ranks) named marked h = absurd h
   lie_between Min (reward name label) (probabilities lower upper policy ranks) named marked h = absurd h
   lie_between Max (reward name label) (rewards lower upper policy ranks) named marked h =

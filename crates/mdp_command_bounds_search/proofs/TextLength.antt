@@ -60,7 +60,7 @@ claim_short (mean dir name) n body e h =
     let d = quoted_length name in
     let l = name_short name h in
     omega (arith, a, d, l)
-claim_short (witness dir label threshold) n body e h = absurd cc
+claim_short (witness dir stay label threshold) n body e h = absurd cc
 
 reward_short : (v : Option ℚ) → IsValueNarrow v → length (reward_text v) ≤ 80
 reward_short None h = omega arith

@@ -5,7 +5,7 @@ use Rattle.mdp_rows.specs.{Negative.{has_negative}, declared.dir.Dir.{Dir}}
 use Rattle.mdp_cert.specs.Cert as certificate
 use Rattle.mdp_cert.specs.{Cert.{PlainClaim}, BoundsCert.{Certificate, Fits}, BoundsSpelling.{text_of}}
 use Rattle.mdp_check.specs.Bounds.{IsBoundsAccepted}
-use Rattle.mdp_job.specs.{Job.{PlainQuery, reach, reward, mean}, Refusal.{PlainRefusal, query_reward, query_label, query_negative}}
+use Rattle.mdp_job.specs.{Job.{PlainQuery, reach, until, reward, mean}, Refusal.{PlainRefusal, query_reward, query_label, query_negative}}
 use Rattle.mdp_command.specs.Said.{Said}
 
 -- ---- a query that doesn't fit the model
@@ -14,6 +14,11 @@ use Rattle.mdp_command.specs.Said.{Said}
 abbrev pub label_fault : Option ℕ → Option PlainRefusal
 label_fault None = Some query_label
 label_fault (Some l) = None
+
+-- the label of the states on the way is looked up first, then that of the goals
+abbrev pub until_fault : Option ℕ → Option ℕ → Option PlainRefusal
+until_fault None label = Some query_label
+until_fault (Some stay) label = label_fault label
 
 -- the reward's name is looked up first, then the label, then it is asked whether a reward of this name is below 0
 abbrev pub reward_fault : Mdp → Option ℕ → Option ℕ → Option PlainRefusal
@@ -29,6 +34,7 @@ mean_fault (Some r) = None
 -- why the query doesn't fit the model, where it doesn't
 abbrev pub fault_of : PlainQuery → Mdp → Option PlainRefusal
 fault_of (reach label) m = label_fault (place_of label m.labels)
+fault_of (until stay label) m = until_fault (place_of stay m.labels) (place_of label m.labels)
 fault_of (reward name label) m = reward_fault m (place_of name m.names) (place_of label m.labels)
 fault_of (mean name) m = mean_fault (place_of name m.names)
 
@@ -37,6 +43,7 @@ fault_of (mean name) m = mean_fault (place_of name m.names)
 -- the claim that bounds make of a query
 abbrev pub claim_of : Dir → PlainQuery → PlainClaim
 claim_of dir (reach label) = certificate.reach dir label
+claim_of dir (until stay label) = certificate.until dir stay label
 claim_of dir (reward name label) = certificate.reward dir name label
 claim_of dir (mean name) = certificate.mean dir name
 

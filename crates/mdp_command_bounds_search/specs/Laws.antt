@@ -1,10 +1,11 @@
 -- Laws of what is due to `bounds`, over the definitions alone.
 use Rattle.std.specs.Prelude.{◌≡◌, ℕ, List, Some, None, Ok, IsOk}
 use Rattle.mdp_spec.specs.Between.{ReachMaxBetween, ReachMinBetween, RewardMaxBetween, RewardMinBetween, MeanMaxBetween, MeanMinBetween}
+use Rattle.mdp_spec.specs.Until.{UntilMaxBetween, UntilMinBetween}
 use Rattle.mdp_spec.specs.{Labels.{place_of, marks_of}, Mdp.{Mdp, states_of}, Row.{IsMdp}}
 use Rattle.mdp_rows.specs.{declared.dir.Dir.{Dir}, declared.dir.Dir.TheVariants.{Max, Min}}
 use Rattle.mdp_cert.specs.{BoundsCert.{PlainBounds, probabilities, rewards, gains}, BoundsSpelling.{text_of}, declared.init.BoundsInit.{BoundsInit}}
-use Rattle.mdp_job.specs.Job.{PlainQuery, reach, reward, mean}
+use Rattle.mdp_job.specs.Job.{PlainQuery, reach, until, reward, mean}
 use Rattle.mdp_command.specs.Said.{Said}
 use Rattle.mdp_command_bounds_search.specs.Due.{claim_of, fault_of, IsBoundsDue}
 
@@ -12,13 +13,17 @@ use Rattle.mdp_command_bounds_search.specs.Due.{claim_of, fault_of, IsBoundsDue}
 abbrev pub IsNeverTooWide : Type 0
 IsNeverTooWide = (dir : Dir) (query : PlainQuery) (m : Mdp) (said : Said) → fault_of query m ≡ None → IsBoundsDue dir query m said → IsOk said
 
--- the query's names are those of the model, and the greatest, or the least, probabilities of reaching the label, rewards of the name until the label, or
--- mean payoffs of the name, lie between the lower and the upper values, and those of the policy do
+-- the query's names are those of the model, and the greatest, or the least, probabilities of reaching the label, also by way of states of another label
+-- alone, rewards of the name until the label, or mean payoffs of the name, lie between the lower and the upper values, and those of the policy do
 abbrev pub LieBetween : Dir → PlainQuery → Mdp → PlainBounds → Type 0
 LieBetween Max (reach label) m (probabilities lower upper policy ranks) =
     (l : ℕ) × (place_of label m.labels ≡ Some l) × ReachMaxBetween m (marks_of m l) lower upper policy
 LieBetween Min (reach label) m (probabilities lower upper policy ranks) =
     (l : ℕ) × (place_of label m.labels ≡ Some l) × ReachMinBetween m (marks_of m l) lower upper policy
+LieBetween Max (until stay label) m (probabilities lower upper policy ranks) =
+    (a : ℕ) × (l : ℕ) × (place_of stay m.labels ≡ Some a) × (place_of label m.labels ≡ Some l) × UntilMaxBetween m (marks_of m a) (marks_of m l) lower upper policy
+LieBetween Min (until stay label) m (probabilities lower upper policy ranks) =
+    (a : ℕ) × (l : ℕ) × (place_of stay m.labels ≡ Some a) × (place_of label m.labels ≡ Some l) × UntilMinBetween m (marks_of m a) (marks_of m l) lower upper policy
 LieBetween Max (reward name label) m (rewards lower upper policy ranks) =
     (r : ℕ) × (l : ℕ) × (place_of name m.names ≡ Some r) × (place_of label m.labels ≡ Some l) × RewardMaxBetween m r (marks_of m l) policy lower upper
 LieBetween Min (reward name label) m (rewards lower upper policy ranks) =

@@ -96,6 +96,11 @@ pub(crate) fn claim_of(alloc: Global, dir: Dir, query: Query<'_>) -> Result<Clai
             let label = label.to_vec(alloc)?;
             Ok(Claim::Reach { dir, label })
         }
+        Query::Until { stay, label } => {
+            let stay = stay.to_vec(alloc)?;
+            let label = label.to_vec(alloc)?;
+            Ok(Claim::Until { dir, stay, label })
+        }
         Query::Reward { name, label } => {
             let name = name.to_vec(alloc)?;
             let label = label.to_vec(alloc)?;

@@ -1,2 +1,4 @@
 pub mod Printing
 mod BoundsPrinting
+mod CurvePrinting
+mod CurveExamples

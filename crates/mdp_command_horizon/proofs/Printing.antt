@@ -11,8 +11,8 @@ use Rattle.mdp_horizon.proofs.Turns.{ok_same, ok_part}
 use Rattle.mdp_job.specs.Refusal.{query_steps}
 use Rattle.mdp_command.specs.{Files.{model_due}, Said.{Said}}
 use Rattle.mdp_command.proofs.Working.{read_of_due}
-use Rattle.mdp_command_horizon.specs.Due.{most_choices, said_of_end, said_within, marks_at, states_with, states_that_stay, stay_word, said_of_marks, IsHorizonDue, name_at, said_of_name, IsHorizonRewardDue}
-use Rattle.mdp_command_horizon.specs.Shown.{IsShownOf, IsBest, IsHorizonPrinted, IsHorizonShown, IsBestTotal, IsHorizonRewardPrinted, IsHorizonRewardShown}
+use Rattle.mdp_command_horizon.specs.Due.{most_choices, said_of_end, said_within, marks_at, states_with, states_that_stay, stay_word, said_of_marks, IsHorizonDue, name_at, said_of_name, IsTotalDue}
+use Rattle.mdp_command_horizon.specs.Shown.{IsShownOf, IsBest, IsHorizonPrinted, IsHorizonShown, IsBestTotal, IsTotalPrinted, IsTotalShown}
 
 -- ---- one mark for each state
 
@@ -62,14 +62,14 @@ module _ (greatest : TotalsAreGreatest) (least : TotalsAreLeast) (name : List �
   best_total_of Max r a named made = greatest m r steps a mdp named made
   best_total_of Min r a named made = least m r steps a mdp named made
 
-  printed_by : (dir : Dir) (place : Option ℕ) → place_of name m.names ≡ place → name_at place >>= said_of_name dir name steps m ≡ Ok text → IsHorizonRewardPrinted dir name steps m text
+  printed_by : (dir : Dir) (place : Option ℕ) → place_of name m.names ≡ place → name_at place >>= said_of_name dir name steps m ≡ Ok text → IsTotalPrinted dir name steps m text
   printed_by dir None e due = cc due
   printed_by dir (Some r) e due =
       let c = text_within steps m (total_text dir name m) (written_total dir m r steps) text due in
       record { place = r; place_is = e; answer = c.0; spelled = c.2; computed = c.1; best = best_total_of dir r c.0 (below_names name m.names r e) c.1 }
 
-  pub printed_of_reward_due : (dir : Dir) → IsHorizonRewardDue dir name steps m (Ok text) → IsHorizonRewardPrinted dir name steps m text
-  printed_of_reward_due dir due = printed_by dir (place_of name m.names) refl (sym due)
+  pub printed_of_total_due : (dir : Dir) → IsTotalDue dir name steps m (Ok text) → IsTotalPrinted dir name steps m text
+  printed_of_total_due dir due = printed_by dir (place_of name m.names) refl (sym due)
 
 -- ---- what is shown of the model's bytes
 
@@ -82,6 +82,6 @@ pub shown : (rule : RowRule) (dir : Dir) (stay : Option (List ℕ)) (label : Lis
     → model_due rule bytes ≡ Ok m → IfOk said (IsHorizonShown rule dir stay label steps bytes)
 shown rule dir stay label steps = shown_of (IsHorizonPrinted dir stay label steps) rule
 
-pub reward_shown : (rule : RowRule) (dir : Dir) (name : List ℕ) (steps : ℕ) (m : Mdp) (said : Said) → IfOk said (IsHorizonRewardPrinted dir name steps m) → (bytes : List ℕ)
-    → model_due rule bytes ≡ Ok m → IfOk said (IsHorizonRewardShown rule dir name steps bytes)
-reward_shown rule dir name steps = shown_of (IsHorizonRewardPrinted dir name steps) rule
+pub total_shown : (rule : RowRule) (dir : Dir) (name : List ℕ) (steps : ℕ) (m : Mdp) (said : Said) → IfOk said (IsTotalPrinted dir name steps m) → (bytes : List ℕ)
+    → model_due rule bytes ≡ Ok m → IfOk said (IsTotalShown rule dir name steps bytes)
+total_shown rule dir name steps = shown_of (IsTotalPrinted dir name steps) rule

@@ -1,4 +1,4 @@
--- What is due to the command `horizon` and to the model: of a bounded until, and of the total reward of a name.
+-- What is due to the commands `horizon` and `total`, and to the model: of a bounded until, and of the total reward of a name.
 use Rattle.std.specs.Prelude.{◌≡◌, ℕ, ◌*◌, ◌^◌, Bool, true, List, Option, Some, None, Result, Ok, Err, replicate, codes, nat_lt, if◌then◌else◌}
 use Rattle.mdp_math.specs.Result.{◌>>=◌}
 use Rattle.mdp_spec.specs.{Labels.{place_of, marks_of}, Mdp.{Mdp, states_of}}
@@ -66,8 +66,8 @@ abbrev pub said_of_name : Dir → List ℕ → ℕ → Mdp → ℕ → Said
 said_of_name dir name steps m r = said_within steps m (total_text dir name m) (written_total dir m r steps)
 
 -- the name first, then the number of steps
-abbrev pub horizon_reward_due : Dir → List ℕ → ℕ → Mdp → Said
-horizon_reward_due dir name steps m = name_at (place_of name m.names) >>= said_of_name dir name steps m
+abbrev pub total_due : Dir → List ℕ → ℕ → Mdp → Said
+total_due dir name steps m = name_at (place_of name m.names) >>= said_of_name dir name steps m
 
-abbrev pub IsHorizonRewardDue : Dir → List ℕ → ℕ → Mdp → Said → Type 0
-IsHorizonRewardDue dir name steps m said = said ≡ horizon_reward_due dir name steps m
+abbrev pub IsTotalDue : Dir → List ℕ → ℕ → Mdp → Said → Type 0
+IsTotalDue dir name steps m said = said ≡ total_due dir name steps m

@@ -5,3 +5,6 @@ pub mod Code
 pub mod BoundsDue
 pub mod BoundsShown
 pub mod BoundsLaws
+pub mod CurveDue
+pub mod CurveShown
+pub mod CurveLaws

@@ -6,7 +6,7 @@ use Rattle.mdp_drn.specs.Reading.{Reads}
 use Rattle.mdp_horizon.specs.{Bounds.{BoundedMax, BoundedMin, TotalMax, TotalMin}, Spelling.{until_text, total_text}}
 use Rattle.mdp_horizon.specs.Written.{Answer, written_until, written_total}
 use Rattle.mdp_command.specs.{Files.{most_bytes}, Read.{IsWorkOnModel}, Said.{Said}, Streams.{Input}}
-use Rattle.mdp_command_horizon.specs.Due.{states_with, states_that_stay, stay_word, IsHorizonDue, IsHorizonRewardDue}
+use Rattle.mdp_command_horizon.specs.Due.{states_with, states_that_stay, stay_word, IsHorizonDue, IsTotalDue}
 
 -- the model's bytes read as a model for which the text is printed
 pub record IsShownOf (IsPrinted : Mdp → List ℕ → Type 0) (rule : RowRule) (model_bytes text : List ℕ) : Type 0 where
@@ -49,7 +49,7 @@ IsBestTotal Max m r steps a = TotalMax m r steps a.values a.steps
 IsBestTotal Min m r steps a = TotalMin m r steps a.values a.steps
 
 -- the text of the computed values and table, which are best, for the reward name
-pub record IsHorizonRewardPrinted (dir : Dir) (name : List ℕ) (steps : ℕ) (m : Mdp) (text : List ℕ) : Type 0 where
+pub record IsTotalPrinted (dir : Dir) (name : List ℕ) (steps : ℕ) (m : Mdp) (text : List ℕ) : Type 0 where
   pub place : ℕ
   pub place_is : place_of name m.names ≡ Some place
   pub answer : Answer
@@ -57,9 +57,9 @@ pub record IsHorizonRewardPrinted (dir : Dir) (name : List ℕ) (steps : ℕ) (m
   pub computed : written_total dir m place steps ≡ Ok answer
   pub best : IsBestTotal dir m place steps answer
 
-abbrev pub IsHorizonRewardShown : RowRule → Dir → List ℕ → ℕ → List ℕ → List ℕ → Type 0
-IsHorizonRewardShown rule dir name steps = IsShownOf (IsHorizonRewardPrinted dir name steps) rule
+abbrev pub IsTotalShown : RowRule → Dir → List ℕ → ℕ → List ℕ → List ℕ → Type 0
+IsTotalShown rule dir name steps = IsShownOf (IsTotalPrinted dir name steps) rule
 
 -- the total reward of a name in the model of a source, as above
-abbrev pub IsHorizonRewardRead : RowRule → Dir → List ℕ → ℕ → Input → Said → Type 0
-IsHorizonRewardRead rule dir name steps = IsWorkOnModel rule (IsHorizonRewardDue dir name steps) (IsHorizonRewardShown rule dir name steps)
+abbrev pub IsTotalRead : RowRule → Dir → List ℕ → ℕ → Input → Said → Type 0
+IsTotalRead rule dir name steps = IsWorkOnModel rule (IsTotalDue dir name steps) (IsTotalShown rule dir name steps)

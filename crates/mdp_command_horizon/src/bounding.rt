@@ -15,12 +15,12 @@ use mdp_job::Refusal;
 use mdp_rows::{Dir, Marks, Model, RowRule};
 use std::alloc::Global;
 
-/// What the words of `bounds` ask for, beside the model and what its values are of.
+/// What the words of `bounds` or of `curve` ask for, beside the model and what its values are of.
 #[derive(Clone, Copy)]
-struct Wanted {
-    dir: Dir,
-    steps: u32,
-    digits: u32,
+pub(crate) struct Wanted {
+    pub dir: Dir,
+    pub steps: u32,
+    pub digits: u32,
     ghost few: { digits ≤ 30 },
 }
 

@@ -2,9 +2,9 @@ ghost use Rattle.std.specs.Prelude.{◌≡◌, ◌⊎◌, ◌<◌, length, Ok, E
 ghost use Rattle.mdp_command.specs.Prelude.{IsAtEnd, no_memory, said, input};
 ghost use Rattle.mdp_spec.specs.Mdp.{states_of};
 ghost use Rattle.mdp_horizon.specs.{Answer.{plain}, Spelling.{total_text}};
-ghost use Rattle.mdp_command_horizon.specs.{Due.{said_of_name, IsHorizonRewardDue}, Shown.{IsHorizonRewardPrinted, IsHorizonRewardRead}};
+ghost use Rattle.mdp_command_horizon.specs.{Due.{said_of_name, IsTotalDue}, Shown.{IsTotalPrinted, IsTotalRead}};
 
-use crate::laws::horizon_reward_law;
+use crate::laws::total_text_law;
 use crate::tables::{is_too_long, refusal_of};
 use mdp_command::read_model;
 use mdp_edge::Source;
@@ -50,11 +50,11 @@ impl Wanted<'_> {
 
     /// The text for a model, or its refusal: the name is looked up first.
     fn of_model(self, alloc: Global, model: &Model) -> Result<Vec<u8>, Refusal>
-        ensures due { (said result ≡ Err no_memory) ⊎ IsHorizonRewardDue self.entry.dir self.entry.name.now self.entry.steps model.now (said result) }
-        ensures printed { IfOk (said result) (IsHorizonRewardPrinted self.entry.dir self.entry.name.now self.entry.steps model.now) }
+        ensures due { (said result ≡ Err no_memory) ⊎ IsTotalDue self.entry.dir self.entry.name.now self.entry.steps model.now (said result) }
+        ensures printed { IfOk (said result) (IsTotalPrinted self.entry.dir self.entry.name.now self.entry.steps model.now) }
     {
         model.known();
-        horizon_reward_law();
+        total_text_law();
         match model.reward_named(self.name) {
             Some(place) => self.of_name(alloc, model, place),
             None => Err(Refusal::QueryReward),
@@ -63,7 +63,7 @@ impl Wanted<'_> {
 }
 
 /// Reads the model to its end and judges its text, then answers for the total reward of this name: the best within so many steps.
-pub fn horizon_reward_file<S: Source>(
+pub fn total_file<S: Source>(
     alloc: Global,
     rule: RowRule,
     dir: Dir,
@@ -71,7 +71,7 @@ pub fn horizon_reward_file<S: Source>(
     steps: u32,
     model: &mut S,
 ) -> Result<Vec<u8>, Refusal>
-    ensures read { IsHorizonRewardRead rule dir name.now steps (input S.left S.faults model.old model.new) (said result) }
+    ensures read { IsTotalRead rule dir name.now steps (input S.left S.faults model.old model.new) (said result) }
     ensures end { OnOk (said result) (IsAtEnd (S.left model.new)) }
 {
     let wanted = Wanted { dir, name, steps };

@@ -1,4 +1,4 @@
-ghost use Rattle.mdp_command_horizon.specs.{BoundsLaws.{UntilTextIsBetween, TotalTextIsBetween}, Laws.{TextIsAnswer, RewardTextIsAnswer}};
+ghost use Rattle.mdp_command_horizon.specs.{BoundsLaws.{UntilTextIsBetween, TotalTextIsBetween}, CurveLaws.{UntilTextIsCurve, TotalTextIsCurve}, Laws.{TextIsAnswer, TotalTextIsAnswer}};
 
 use mdp_horizon::{total_law, until_law};
 
@@ -9,9 +9,9 @@ pub fn horizon_law()
     until_law();
 }
 
-/// The same of `horizon` for a reward name: the values are the greatest, or the least, total rewards.
-pub fn horizon_reward_law()
-    ensures { RewardTextIsAnswer }
+/// The same of `total` for a reward name: the values are the greatest, or the least, total rewards.
+pub fn total_text_law()
+    ensures { TotalTextIsAnswer }
 {
     total_law();
 }
@@ -21,4 +21,11 @@ pub fn horizon_reward_law()
 pub fn horizon_bounds_law()
     ensures until { UntilTextIsBetween }
     ensures total { TotalTextIsBetween }
+{}
+
+/// The same of `curve`: a text that is due spells for each number of steps a lower and an upper value of the one initial state, between which the best
+/// one lies.
+pub fn horizon_curve_law()
+    ensures until { UntilTextIsCurve }
+    ensures total { TotalTextIsCurve }
 {}

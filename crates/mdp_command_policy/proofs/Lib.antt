@@ -3,4 +3,5 @@ pub mod Due
 pub mod Printing
 pub mod ChainDue
 pub mod ChainPrinting
+mod Examples
 mod ChainExamples

@@ -2,7 +2,8 @@
 use Rattle.std.proofs.Common.{◌≡◌, ℕ, ◌≤◌, inl, inr, Bool, true, false, nat_lt, List, length, Option, Some, None, Result, Ok, Err, IfOk, refl, ◌∙◌}
 use Rattle.std.proofs.lemmas.Bool.{ltb-false}
 use Rattle.std.specs.Prelude.{◌==◌}
-use Rattle.mdp_spec.specs.{Labels.{place_of, marks_of}, Mdp.{Mdp, states_of}, Row.{IsMdp}, Tree.{is_marked, IsPolicy}}
+use Rattle.mdp_spec.specs.{Mdp.{Mdp, states_of}, Row.{IsMdp}, Sub.{sub_of, policy_on}, Tree.{is_marked, IsPolicy}}
+use Rattle.mdp_spec.proofs.Subsystem.{sub_is_mdp, policy_on_sub}
 use Rattle.mdp_rows.specs.declared.rule.RowRule.{RowRule}
 use Rattle.mdp_elim.specs.Laws.{GivesSolutions}
 use Rattle.mdp_graph.specs.{Laws.{RowsFall, RowsStay}, Reach.{row_step}}
@@ -10,12 +11,13 @@ use Rattle.mdp_policy_iteration.specs.Places.{Place}
 use Rattle.mdp_policy_iteration.proofs.Results.{ok_part}
 use Rattle.mdp_reach.specs.Query.{policy_rows, AreMaxRanks}
 use Rattle.mdp_text.specs.declared.error.Refusal as text
-use Rattle.mdp_policy.specs.{Answer.{IsValueOf}, Text.{policy_outcome, IsReadFromText}, Written.{Answer}}
-use Rattle.mdp_policy.proofs.Facts.{IsValued, written_valued}
+use Rattle.mdp_policy.specs.{Answer.{IsValueOf, IsAnswerOn}, Way.{way_policy}, Text.{policy_outcome, IsReadFromText}, Written.{Answer}}
+use Rattle.mdp_policy.proofs.{Facts.{IsValued, written_valued}, Ways.{valued_there}}
 use Rattle.mdp_job.specs.Refusal.{PlainRefusal}
 use Rattle.mdp_command.specs.{Files.{most_bytes, model_due, second_due}, Said.{Said}}
 use Rattle.mdp_command.proofs.Working.{read_of_due}
-use Rattle.mdp_command_policy.specs.Due.{choices_or_refusal, choices_due, said_of_end, IsChoiceDue, IsLabelDue, IsSizeDue, IsTextDue, IsPolicyDue}
+use Rattle.mdp_command_policy.specs.declared.marking.Marked.{Marked}
+use Rattle.mdp_command_policy.specs.Due.{choices_or_refusal, choices_due, marks_due, said_of_end, IsChoiceDue, IsMarksDue, IsSizeDue, IsTextDue, IsPolicyDue}
 use Rattle.mdp_command_policy.specs.{Laws.{TextIsValue}, Shown.{IsValuePrinted, IsPolicyPrinted, IsPolicyShown}}
 use Rattle.mdp_command_policy.proofs.Ranks.{ranks_of, least_ranks}
 
@@ -29,67 +31,72 @@ outcome_part : (read : Result (List ℕ) text.Refusal) (policy : List ℕ) → c
 outcome_part (Ok choices) policy e = cc e
 outcome_part (Err r) policy e = cc e
 
-module _ (falls : RowsFall) (stays : RowsStay) (gives : GivesSolutions) (label : List ℕ) (m : Mdp) (mdp : IsMdp m) (text : List ℕ) where
+module _ (falls : RowsFall) (stays : RowsStay) (gives : GivesSolutions) where
   -- ---- the value
 
-  module _ (policy : List ℕ) (l : ℕ) (is : IsPolicy m policy) (a : Answer) (end : IsValueOf m (marks_of m l) policy (Ok a)) where
-    pub ranked : AreMaxRanks m (marks_of m l) policy (ranks_of (row_step (policy_rows m policy)) (is_marked (marks_of m l)) (states_of m) end.marks end.reached)
-    ranked = record {
-      marks = end.marks;
-      reached = end.reached;
-      least = least_ranks (row_step (policy_rows m policy)) (is_marked (marks_of m l)) (states_of m) end.marks end.reached;
-    }
+  module _ (m : Mdp) (mdp : IsMdp m) (goals : List Bool) (policy : List ℕ) (is : IsPolicy m policy) (a : Answer) (end : IsValueOf m goals policy (Ok a)) where
+    pub ranked : AreMaxRanks m goals policy (ranks_of (row_step (policy_rows m policy)) (is_marked goals) (states_of m) end.marks end.reached)
+    ranked = record { marks = end.marks; reached = end.reached; least = least_ranks (row_step (policy_rows m policy)) (is_marked goals) (states_of m) end.marks end.reached }
 
-    pub valued : IsValued m (marks_of m l) policy a
+    pub valued : IsValued m None goals policy a
     unfolding ranked
-    valued = written_valued m (marks_of m l) policy _ mdp is ranked falls stays gives a end.is
+    valued = written_valued m goals policy _ mdp is ranked falls stays gives a end.is
 
-  printed_by : (policy : List ℕ) (l : ℕ) → place_of label m.labels ≡ Some l → IsPolicy m policy → (end : Result Answer Place) → IsValueOf m (marks_of m l) policy end
-      → Ok text ≡ said_of_end label m policy end → IsValuePrinted label m policy text
-  printed_by policy l found is (Err p) value e = cc e
-  printed_by policy l found is (Ok a) value e =
-      let v = valued policy l is a value in
-      record {
-        place = l;
-        found = found;
-        answer = a;
-        spelled = cc e;
-        computed = value;
-        bound = v.bound;
-        greatest = v.none_up;
-        raises = v.up;
-        lowers = v.down;
-      }
+  valued_on : (m : Mdp) (mdp : IsMdp m) (way : Option (List Bool)) (goals : List Bool) (policy : List ℕ) (a : Answer) → IsPolicy m policy → IsAnswerOn m way goals policy (Ok a)
+      → IsValued m way goals policy a
+  valued_on m mdp None goals policy a is end = valued m mdp goals policy is a end
+  valued_on m mdp (Some stay) goals policy a is end =
+      valued_there m stay goals policy mdp is a
+      (valued (sub_of m goals stay) (sub_is_mdp m goals stay mdp) goals (policy_on goals stay policy) (policy_on_sub m goals stay policy is) a end)
 
-  of_choices : (policy : List ℕ) (l : ℕ) → place_of label m.labels ≡ Some l → IsChoiceDue label m policy l (Ok text) → IsValuePrinted label m policy text
-  of_choices policy l found (inl d) = printed_by policy l found d.0 d.1.0 d.1.1 d.1.2
-  of_choices policy l found (inr d) = let e = d.1 in cc e
+  module _ (stay : Option (List ℕ)) (label : List ℕ) (m : Mdp) (mdp : IsMdp m) (text : List ℕ) where
+    printed_by : (policy : List ℕ) (marks : Marked) → marks_due stay label m ≡ Ok marks → IsPolicy m policy → (end : Result Answer Place)
+        → IsAnswerOn m marks.stays marks.goals policy end
+        → Ok text ≡ said_of_end stay label m (way_policy marks.stays marks.goals policy) end → IsValuePrinted stay label m policy text
+    printed_by policy marks found is (Err p) value e = cc e
+    printed_by policy marks found is (Ok a) value e =
+        let v = valued_on m mdp marks.stays marks.goals policy a is value in
+        record {
+          marks = marks;
+          found = found;
+          answer = a;
+          spelled = cc e;
+          computed = value;
+          bound = v.bound;
+          greatest = v.none_up;
+          raises = v.up;
+          lowers = v.down;
+        }
 
-  of_label : (policy : List ℕ) (found : Option ℕ) → place_of label m.labels ≡ found → IsLabelDue label m policy found (Ok text) → IsValuePrinted label m policy text
-  of_label policy None is d = cc d
-  of_label policy (Some l) is d = of_choices policy l is d
+    of_choices : (policy : List ℕ) (marks : Marked) → marks_due stay label m ≡ Ok marks → IsChoiceDue stay label m policy marks (Ok text) → IsValuePrinted stay label m policy text
+    of_choices policy marks found (inl d) = printed_by policy marks found d.0 d.1.0 d.1.1 d.1.2
+    of_choices policy marks found (inr d) = let e = d.1 in cc e
 
-  of_size : (policy : List ℕ) (fits : Bool) → IsSizeDue label m policy fits (Ok text) → IsValuePrinted label m policy text
-  of_size policy false d = cc d
-  of_size policy true d = of_label policy (place_of label m.labels) refl d
+    of_marks : (policy : List ℕ) (marks : Result Marked PlainRefusal) → marks_due stay label m ≡ marks → IsMarksDue stay label m policy marks (Ok text) → IsValuePrinted stay label m policy text
+    of_marks policy (Err r) is d = cc d
+    of_marks policy (Ok marks) is d = of_choices policy marks is d
 
-  of_text : (bytes : List ℕ) (read : Result (List ℕ) PlainRefusal) → choices_due bytes ≡ read → IsTextDue label m read (Ok text)
-      → (policy : List ℕ) × (choices_due bytes ≡ Ok policy) × IsValuePrinted label m policy text
-  of_text bytes (Ok policy) is d = (policy, is, of_size policy (length policy == states_of m) d)
-  of_text bytes (Err r) is d = cc d
+    of_size : (policy : List ℕ) (fits : Bool) → IsSizeDue stay label m policy fits (Ok text) → IsValuePrinted stay label m policy text
+    of_size policy false d = cc d
+    of_size policy true d = of_marks policy (marks_due stay label m) refl d
 
-  pub printed_of_due : IsReadFromText → (bytes : List ℕ) → IsPolicyDue label m bytes (Ok text) → IsPolicyPrinted label m bytes text
-  printed_of_due from bytes d =
-      let p = of_text bytes (choices_due bytes) refl d in
-      let b = ok_part (second_due bytes) (λ t. choices_or_refusal (policy_outcome t)) p.0 p.1 in
-      let s = short_second bytes b.0 (nat_lt most_bytes (length bytes)) refl b.1 in
-      let o = (from b.0 p.0).0 (outcome_part (policy_outcome b.0) p.0 b.2) in
-      record { short = s.0; policy = p.0; fits = o.0; text_of = s.1 ∙ o.1; printed = p.2 }
+    of_text : (bytes : List ℕ) (read : Result (List ℕ) PlainRefusal) → choices_due bytes ≡ read → IsTextDue stay label m read (Ok text)
+        → (policy : List ℕ) × (choices_due bytes ≡ Ok policy) × IsValuePrinted stay label m policy text
+    of_text bytes (Ok policy) is d = (policy, is, of_size policy (length policy == states_of m) d)
+    of_text bytes (Err r) is d = cc d
+
+    pub printed_of_due : IsReadFromText → (bytes : List ℕ) → IsPolicyDue stay label m bytes (Ok text) → IsPolicyPrinted stay label m bytes text
+    printed_of_due from bytes d =
+        let p = of_text bytes (choices_due bytes) refl d in
+        let b = ok_part (second_due bytes) (λ t. choices_or_refusal (policy_outcome t)) p.0 p.1 in
+        let s = short_second bytes b.0 (nat_lt most_bytes (length bytes)) refl b.1 in
+        let o = (from b.0 p.0).0 (outcome_part (policy_outcome b.0) p.0 b.2) in
+        record { short = s.0; policy = p.0; fits = o.0; text_of = s.1 ∙ o.1; printed = p.2 }
 
 -- ---- what is shown of the bytes
 
-pub shown : TextIsValue → (rule : RowRule) (label : List ℕ) (m : Mdp) (said : Said) → IsMdp m → (bytes other : List ℕ) → model_due rule bytes ≡ Ok m → IsPolicyDue label m other said
-    → IfOk said (IsPolicyShown rule label bytes other)
-shown law rule label m (Ok text) mdp bytes other is due =
-    let read = read_of_due rule bytes m is in record { short = read.0; model = m; reads = read.1; value = law label m other text mdp due }
-shown law rule label m (Err r) mdp bytes other is due = tt
+pub shown : TextIsValue → (rule : RowRule) (stay : Option (List ℕ)) (label : List ℕ) (m : Mdp) (said : Said) → IsMdp m → (bytes other : List ℕ) → model_due rule bytes ≡ Ok m
+    → IsPolicyDue stay label m other said → IfOk said (IsPolicyShown rule stay label bytes other)
+shown law rule stay label m (Ok text) mdp bytes other is due =
+    let read = read_of_due rule bytes m is in record { short = read.0; model = m; reads = read.1; value = law stay label m other text mdp due }
+shown law rule stay label m (Err r) mdp bytes other is due = tt

@@ -1,10 +1,11 @@
-ghost use Rattle.std.specs.Prelude.{◌≡◌, ◌⊎◌, ◌==◌, length, true, false, Err, OnOk, IfOk, IsTrue};
+ghost use Rattle.std.specs.Prelude.{◌≡◌, ◌⊎◌, ◌==◌, length, option_copied, true, false, Ok, Err, OnOk, IfOk, IfSome, IsTrue};
 ghost use Rattle.mdp_command.specs.{Prelude.{IsAtEnd, no_memory, read_certificate, said, input}, Read.{IsReadAs, is_of_model}};
 ghost use Rattle.mdp_spec.specs.{Mdp.{states_of}, Tree.{IsPolicy}};
 ghost use Rattle.mdp_policy.specs.{Answer.{plain}, Spelling.{value_text}, Text.{policy_outcome}};
 ghost use Rattle.mdp_command_policy.specs.{Due.{choices_or_refusal, TakesNoChoice, IsValueDue, IsSizeDue, IsTextDue, IsPolicyDue}, Shown.{IsPolicyRead}};
 
 use crate::laws::policy_law;
+use crate::marking::{Marked, marks_of};
 use mdp_cert::CertError;
 use mdp_command::{read_model, read_second};
 use mdp_edge::Source;
@@ -32,66 +33,79 @@ fn takes_choices(model: &Model, policy: &[u32]) -> bool
 fn text_of(
     alloc: Global,
     model: &Model,
+    stay: Option<&[u8]>,
     label: &[u8],
     value: &PolicyValue,
 ) -> Result<Vec<u8>, Refusal>
     requires { length value.now.values.items ≡ states_of model.now }
-    ensures { (said result ≡ Err no_memory) ⊎ (said result ≡ Ok (value_text label.now model.now (plain value.now))) }
+    ensures { (said result ≡ Err no_memory) ⊎ (said result ≡ Ok (value_text (option_copied stay.entry) label.now model.now (plain value.now))) }
 {
     let mut text = Vec::new(alloc);
-    match write_value(model, label, value, &mut text) {
+    match write_value(model, stay, label, value, &mut text) {
         Ok(()) => Ok(text),
         Err(_) => Err(Refusal::Memory),
     }
 }
 
-/// The text of the value of a policy whose goals are the states with the label of this place.
+/// The text of the value of a policy with the states that the labels name.
 fn value_at(
     alloc: Global,
     model: &Model,
+    stay: Option<&[u8]>,
     label: &[u8],
-    place: u32,
+    marks: &Marked,
     policy: &[u32],
 ) -> Result<Vec<u8>, Refusal>
+    requires stays { IfSome marks.now.stays (λ stays. length stays ≡ states_of model.now) }
+    requires goals { length marks.now.goals ≡ states_of model.now }
     requires policy { IsPolicy model.now policy.now }
-    ensures due { (said result ≡ Err no_memory) ⊎ IsValueDue label.now model.now policy.now place (said result) }
+    ensures due { (said result ≡ Err no_memory) ⊎ IsValueDue (option_copied stay.entry) label.now model.now policy.now marks.now (said result) }
     ensures not_of_model { is_of_model (said result) ≡ false }
 {
-    let goals = match model.marks_of(alloc, place) {
-        Ok(goals) => goals,
-        Err(_) => return Err(Refusal::Memory),
-    };
-    match value_of(alloc, model, &goals, policy) {
-        Ok(value) => text_of(alloc, model, label, &value),
+    match value_of(alloc, model, marks.stays.as_ref(), &marks.goals, policy) {
+        Ok(value) => text_of(alloc, model, stay, label, &value),
         Err(SolveError::TooWide(wide)) => Err(Refusal::TooWide(wide)),
         Err(SolveError::Memory) => Err(Refusal::Memory),
     }
 }
 
-/// The text of the value of a policy, or its refusal: the number of states first, then the label, then the choices.
-fn of_policy(alloc: Global, model: &Model, label: &[u8], policy: &[u32]) -> Result<Vec<u8>, Refusal>
-    ensures due { (said result ≡ Err no_memory) ⊎ IsSizeDue label.now model.now policy.now (length policy.now == states_of model.now) (said result) }
+/// The text of the value of a policy, or its refusal: the number of states first, then the labels, then the choices.
+fn of_policy(
+    alloc: Global,
+    model: &Model,
+    stay: Option<&[u8]>,
+    label: &[u8],
+    policy: &[u32],
+) -> Result<Vec<u8>, Refusal>
+    ensures due { (said result ≡ Err no_memory) ⊎ IsSizeDue (option_copied stay.entry) label.now model.now policy.now (length policy.now == states_of model.now) (said result) }
     ensures not_of_model { is_of_model (said result) ≡ false }
 {
     if policy.len() != model.states() as usize {
         return Err(Refusal::QuerySize);
     }
-    let Some(place) = model.label(label) else {
-        return Err(Refusal::QueryLabel);
+    let marks = match marks_of(alloc, model, stay, label) {
+        Ok(marks) => marks,
+        Err(refusal) => return Err(refusal),
     };
     if !takes_choices(model, policy) {
         return Err(Refusal::QueryChoice);
     }
-    value_at(alloc, model, label, place, policy)
+    value_at(alloc, model, stay, label, &marks, policy)
 }
 
 /// The same of bytes that are a policy's text.
-fn of_text(alloc: Global, model: &Model, label: &[u8], bytes: &[u8]) -> Result<Vec<u8>, Refusal>
-    ensures due { (said result ≡ Err no_memory) ⊎ IsTextDue label.now model.now (choices_or_refusal (policy_outcome bytes.now)) (said result) }
+fn of_text(
+    alloc: Global,
+    model: &Model,
+    stay: Option<&[u8]>,
+    label: &[u8],
+    bytes: &[u8],
+) -> Result<Vec<u8>, Refusal>
+    ensures due { (said result ≡ Err no_memory) ⊎ IsTextDue (option_copied stay.entry) label.now model.now (choices_or_refusal (policy_outcome bytes.now)) (said result) }
     ensures not_of_model { is_of_model (said result) ≡ false }
 {
     match read_policy(alloc, bytes) {
-        Ok(policy) => of_policy(alloc, model, label, &policy),
+        Ok(policy) => of_policy(alloc, model, stay, label, &policy),
         Err(CertError::At { line, kind }) => Err(Refusal::PolicyText { line, kind }),
         Err(CertError::Memory) => Err(Refusal::Memory),
     }
@@ -101,36 +115,39 @@ fn of_text(alloc: Global, model: &Model, label: &[u8], bytes: &[u8]) -> Result<V
 fn of_source<C: Source>(
     alloc: Global,
     model: &Model,
+    stay: Option<&[u8]>,
     label: &[u8],
     second: &mut C,
 ) -> Result<Vec<u8>, Refusal>
-    ensures read { IsReadAs (input C.left C.faults second.old second.new) (IsPolicyDue label.now model.now) read_certificate (said result) }
+    ensures read { IsReadAs (input C.left C.faults second.old second.new) (IsPolicyDue (option_copied stay.entry) label.now model.now) read_certificate (said result) }
     ensures not_of_model { is_of_model (said result) ≡ false }
     ensures end { OnOk (said result) (IsAtEnd (C.left second.new)) }
 {
     match read_second(alloc, second) {
-        Ok(bytes) => of_text(alloc, model, label, &bytes),
+        Ok(bytes) => of_text(alloc, model, stay, label, &bytes),
         Err(refusal) => Err(refusal),
     }
 }
 
-/// Reads the model to its end and judges its text, then the policy's, and gives the probabilities with which the policy reaches a state with the
-/// label, and the first changes that raise and that lower one. The second source isn't read where the model is refused.
+/// Reads the model to its end and judges its text, then the policy's, and gives the probabilities with which the policy comes to a state with the
+/// label, by way of states with the label `stay` alone where it is given, and the first changes that raise and that lower one. The second source
+/// isn't read where the model is refused.
 pub fn policy_file<S: Source, C: Source>(
     alloc: Global,
     rule: RowRule,
+    stay: Option<&[u8]>,
     label: &[u8],
     model: &mut S,
     second: &mut C,
 ) -> Result<Vec<u8>, Refusal>
-    ensures read { IsPolicyRead rule label.now (input S.left S.faults model.old model.new) (input C.left C.faults second.old second.new) (said result) }
+    ensures read { IsPolicyRead rule (option_copied stay.entry) label.now (input S.left S.faults model.old model.new) (input C.left C.faults second.old second.new) (said result) }
     ensures unread { IsTrue (is_of_model (said result)) → second.new ≡ second.old }
     ensures model_end { OnOk (said result) (IsAtEnd (S.left model.new)) }
     ensures second_end { OnOk (said result) (IsAtEnd (C.left second.new)) }
 {
     policy_law();
     match read_model(alloc, model, rule) {
-        Ok(model) => of_source(alloc, &model, label, second),
+        Ok(model) => of_source(alloc, &model, stay, label, second),
         Err(refusal) => Err(refusal),
     }
 }

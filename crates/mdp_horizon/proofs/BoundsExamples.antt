@@ -10,16 +10,16 @@ use Rattle.mdp_horizon.specs.{Objective.Objective.{until, total}, Whole.{rounded
 use Rattle.mdp_horizon.specs.{Exact.{HasRoom}, Finite.{AreProbabilities}, Gap.{IsNear, MeetWithin}, BoundsSpelling.{bounds_text}}
 use Rattle.mdp_horizon.specs.BoundsSpelling.PlainClaim.{until as until_claim, total as total_claim}
 
-abbrev by : ℚ → List Entry → Choice
+abbrev pub by : ℚ → List Entry → Choice
 by reward row = record { row = row; rewards = reward ∷ [] }
 
-abbrev model_of : List State → Mdp
+abbrev pub model_of : List State → Mdp
 model_of states = record { names = codes "pay" ∷ []; labels = codes "init" ∷ codes "goal" ∷ []; states = states }
 
-abbrev all : List Bool
+abbrev pub all : List Bool
 all = true ∷ true ∷ []
 
-abbrev goal : List Bool
+abbrev pub goal : List Bool
 goal = false ∷ true ∷ []
 
 abbrev answer : List (Option ℚ) → List (Option ℚ) → List (List ℕ) → Bounds
@@ -32,7 +32,7 @@ rounds : (rounded Min (pos 16) (pos 3) ≡ pos 5) × (rounded Max (pos 16) (pos 
 rounds = (refl, refl, refl, refl)
 
 -- state 0 comes to the goal with 1/3, and earns 1/3; the goal goes back, and earns -1/2
-abbrev thirds : Mdp
+abbrev pub thirds : Mdp
 thirds =
     model_of
     (labelled (0 ∷ []) (by (ratio (pos 1) 3) (entry 0 (ratio (pos 2) 3) ∷ entry 1 (ratio (pos 1) 3) ∷ []) ∷ [])
@@ -58,7 +58,7 @@ both_signs = refl
 
 -- ---- a row without room
 
-abbrev long : List Entry
+abbrev pub long : List Entry
 long = entry 0 (ratio (pos 1) 85070591730234615865843651857942052864) ∷ entry 1 (ratio (pos 85070591730234615865843651857942052863) 85070591730234615865843651857942052864) ∷ []
 
 abbrev column : List (Option ℤ)
@@ -71,7 +71,7 @@ unfolding rounded_sum narrow ratio of_int gcd gcd_with_fuel
 without_room = (refl, refl, refl)
 
 -- so its values are the least and the greatest probability, and they are there
-abbrev wide : Mdp
+abbrev pub wide : Mdp
 wide = model_of (labelled (0 ∷ []) (by (of_int (pos 0)) long ∷ []) ∷ labelled (1 ∷ []) (by (of_int (pos 0)) (entry 1 (of_int (pos 1)) ∷ []) ∷ []) ∷ [])
 
 wide_values : bounds_of Max (pos 10) wide (until all goal) 1

@@ -179,7 +179,7 @@ shown_inside one column s (pos k) above small h e i =
           (subst (λ (x : ℚ). x ≤ℚ in_units (pos one) (pos one)) (sym (in_units-is one (pos k) above)) (no_better_in_units Max one (of_int (pos k)) (pos one) above (of_int-le (pos k) (pos one) top))),
     )
 
-finite_is : (dir : Dir) (one : ℕ) (m : Mdp) (stay goals : List Bool) (n : ℕ) → 0 < one → one < 2 ^ 127 → IsMdp m
+pub finite_is : (dir : Dir) (one : ℕ) (m : Mdp) (stay goals : List Bool) (n : ℕ) → 0 < one → one < 2 ^ 127 → IsMdp m
     → AreProbabilities (states_of m) (Bounds.lower (bounds_of dir (pos one) m (until stay goals) n)) × AreProbabilities (states_of m) (Bounds.upper (bounds_of dir (pos one) m (until stay goals) n))
 unfolding bounds_of
 finite_is Max one m stay goals n above small known_ = (

@@ -194,7 +194,7 @@ units_near one u a b h l =
     (subst (λ (x : ℚ). x ≤ℚ in_units (pos one) (a +ℤ pos u)) (sym (in_units-is one b h)) (no_better_in_units Max one (of_int b) (a +ℤ pos u) h (of_int-le b (a +ℤ pos u) l)))
 
 -- a lower and an upper column
-shown_near : (one u : ℕ) (low high : List (Option ℤ)) (s : ℕ) (a b : ℤ) (x y : ℚ) → 0 < one → s < length low → s < length high
+pub shown_near : (one u : ℕ) (low high : List (Option ℤ)) (s : ℕ) (a b : ℤ) (x y : ℚ) → 0 < one → s < length low → s < length high
     → whole_at low s ≡ Some a → whole_at high s ≡ Some b → IsNear u a b
     → reward_at (map (shown (pos one)) low) s ≡ Some x → reward_at (map (shown (pos one)) high) s ≡ Some y → y ≤ℚ x +ℚ ratio (pos u) one
 shown_near one u low high s a b x y above inside within e f near p q =

@@ -27,3 +27,6 @@ pub mod Gap
 pub mod Finite
 pub mod StepsLemmas
 mod BoundsExamples
+mod CurveExamples
+pub mod Fineness
+pub mod Curves

@@ -20,3 +20,6 @@ pub mod BoundsCode
 pub mod BoundsAnswer
 pub mod BoundsSpelling
 pub mod BoundsLaws
+pub mod Finer
+pub mod Curve
+pub mod CurveSpelling

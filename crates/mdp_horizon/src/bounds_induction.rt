@@ -14,7 +14,7 @@ use mdp_rows::{Dir, Marks, Model};
 use std::alloc::{AllocError, Global};
 
 /// A value in units as a fraction; none where it is missing, or too wide as a fraction.
-fn shown(value: Option<i128>, one: i128) -> Option<Frac>
+pub(crate) fn shown(value: Option<i128>, one: i128) -> Option<Frac>
     requires { pos 0 <ℤ one }
     ensures { result ≡ shown one value }
 {

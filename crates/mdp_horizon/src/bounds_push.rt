@@ -61,7 +61,7 @@ pub(crate) fn push_claim(
 }
 
 /// A lower value, `-inf` where it is missing.
-fn lower_part(value: &Option<Frac>) -> Part<'static>
+pub(crate) fn lower_part(value: &Option<Frac>) -> Part<'static>
     ensures { part_text result ≡ lower_text value.now }
 {
     match value {
@@ -71,7 +71,7 @@ fn lower_part(value: &Option<Frac>) -> Part<'static>
 }
 
 /// An upper value, `inf` where it is missing.
-fn upper_part(value: &Option<Frac>) -> Part<'static>
+pub(crate) fn upper_part(value: &Option<Frac>) -> Part<'static>
     ensures { part_text result ≡ upper_text value.now }
 {
     match value {

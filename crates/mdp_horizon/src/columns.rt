@@ -66,7 +66,7 @@ impl Query<'_> {
     }
 
     /// What choice `c` of state `s` earns at once.
-    fn earns(self, s: u32, c: u32) -> Frac
+    pub(crate) fn earns(self, s: u32, c: u32) -> Frac
         requires asked { IsAsked self.model.now (plain_objective self.objective) }
         requires state { s < states_of self.model.now }
         requires choice { c < length (choices_at self.model.now s) }
@@ -183,6 +183,49 @@ impl Query<'_> {
             made.cover.push(self.cover_at(choices, cover, s))?;
             made.follow.push(leader.value)?;
             made.choices.push(leader.choice)?;
+        }
+        Ok(made)
+    }
+
+    /// The covering column with one step more.
+    pub(crate) fn cover_next(
+        self,
+        alloc: Global,
+        rows: &[Vec<ScaledChoice>],
+        column: &[Option<i128>],
+    ) -> Result<Vec<Option<i128>>, AllocError>
+        requires one { pos 0 <ℤ self.one }
+        requires asked { IsAsked self.model.now (plain_objective self.objective) }
+        requires rows { AreOf self.one self.model.now (plain_objective self.objective) rows.now }
+        requires column { length column.now ≡ states_of self.model.now }
+        ensures { IfOk result (λ made. made.items ≡ cover_next self.entry.dir self.entry.one self.entry.model.now (plain_objective self.entry.objective) column.now) }
+    {
+        let mut made = Vec::with_capacity(alloc, column.len())?;
+        for s in 0..self.model.states() {
+            let choices = rows[s as usize].as_slice();
+            made.push(self.cover_at(choices, column, s))?;
+        }
+        Ok(made)
+    }
+
+    /// The following column with one step more, without its choices.
+    pub(crate) fn follow_next(
+        self,
+        alloc: Global,
+        rows: &[Vec<ScaledChoice>],
+        column: &[Option<i128>],
+    ) -> Result<Vec<Option<i128>>, AllocError>
+        requires one { pos 0 <ℤ self.one }
+        requires asked { IsAsked self.model.now (plain_objective self.objective) }
+        requires rows { AreOf self.one self.model.now (plain_objective self.objective) rows.now }
+        requires column { length column.now ≡ states_of self.model.now }
+        ensures { IfOk result (λ made. made.items ≡ follow_next self.entry.dir self.entry.one self.entry.model.now (plain_objective self.entry.objective) column.now) }
+    {
+        let mut made = Vec::with_capacity(alloc, column.len())?;
+        for s in 0..self.model.states() {
+            let choices = rows[s as usize].as_slice();
+            let leader = self.follow_at(choices, column, s);
+            made.push(leader.value)?;
         }
         Ok(made)
     }

@@ -1,5 +1,6 @@
 //! The best values within a number of steps, with a choice for each state and each step: the greatest and the least probability of coming to a goal
-//! by way of given states, and the greatest and the least total reward; and lower and upper values of both, in units of a decimal place.
+//! by way of given states, and the greatest and the least total reward; and lower and upper values of both, in units of a decimal place, with
+//! the best choices or as a curve of one state for each number of steps.
 #![tactic(auto)]
 
 mod backup;
@@ -14,11 +15,16 @@ mod bounds_write;
 mod choice;
 mod claim;
 mod columns;
+mod curve;
+mod curve_push;
+mod curve_write;
 mod error;
+mod finer;
 mod induction;
 mod laws;
 mod leader;
 mod objective;
+mod point;
 mod push;
 mod scaling;
 mod steps;
@@ -34,10 +40,13 @@ pub use bounds_objective::Objective;
 pub use bounds_write::write_horizon_bounds;
 pub use choice::{Scale, ScaledChoice, Term};
 pub use claim::Claim;
+pub use curve::{total_curve, until_curve};
+pub use curve_write::write_curve;
 pub use error::{HorizonError, HorizonPlace};
 pub use induction::{total, until};
 pub use laws::{between_law, total_law, until_law};
 pub use leader::Leader;
+pub use point::Point;
 pub use push::push_steps;
 pub use scaling::scaled;
 pub use write::{write_total, write_until};

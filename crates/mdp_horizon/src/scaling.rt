@@ -32,7 +32,7 @@ fn common_with(common: i128, fraction: &Frac) -> Option<i128>
 }
 
 /// The least common multiple of `first` and the row's denominators.
-fn common_in(first: i128, row: Row<'_>) -> Option<i128>
+pub(crate) fn common_in(first: i128, row: Row<'_>) -> Option<i128>
     requires { unsigned_abs first < 2 ^ 127 }
     ensures value { result ≡ common_in first (entries row.entry.targets.now row.entry.probs.now) }
     ensures narrow { IfSome result (λ common. unsigned_abs common < 2 ^ 127) }

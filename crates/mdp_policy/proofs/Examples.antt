@@ -5,13 +5,13 @@ use Rattle.mdp_math.specs.{Gcd.{gcd, gcd_with_fuel}, Rational.{ℚ, of_int, rati
 use Rattle.mdp_math.specs.Written.{written_add, written_mul, written_compare, narrow, narrow_ℚ}
 use Rattle.mdp_math.proofs.Tables.{AreEqual}
 use Rattle.mdp_num.specs.{Value.{spelling}, Canonical.{canonical_of}}
-use Rattle.mdp_spec.specs.Mdp.{State, Mdp}
+use Rattle.mdp_spec.specs.{Mdp.{State, Mdp}, Unit.{unit_of}, Tree.{unfolded}, Hit.{hit}, Until.{until}, Sub.{sub_of}}
 use Rattle.mdp_spec.proofs.Small.{choice, entry, labelled, number}
 use Rattle.mdp_elim.specs.{Elimination.{divided_rest, plus_equation, eliminated, evaluated}, System.{equation_of}}
 use Rattle.mdp_wide.specs.declared.too_wide.Kind.TheVariants.{Evaluate, Compare}
 use Rattle.mdp_text.specs.{declared.error.CertKind.TheVariants.{Version, Shape, Number, Count, End}, Lines.{refused, next_line, nothing_behind}}
 use Rattle.mdp_text.specs.{Words.{words_behind, whole_of, whole_at}, Heads.{states_at}}
-use Rattle.mdp_policy.specs.{Written.{Answer, written_value}, Spelling.{changes_text, value_text}, Text.{policy_text, choose_at, choices_from, policy_outcome}}
+use Rattle.mdp_policy.specs.{Way.{way_model, way_policy}, Bounds.{comes}, Written.{Answer, written_value}, Spelling.{changes_text, value_text}, Text.{policy_text, choose_at, choices_from, policy_outcome}}
 use Rattle.mdp_policy.specs.declared.value.Change.{Change}
 
 abbrev model_of : List State → Mdp
@@ -79,15 +79,70 @@ wide_comparison : written_value past_width goals (true ∷ true ∷ true ∷ [])
 unfolding equation_of eliminated divided_rest plus_equation evaluated written_add written_mul written_compare narrow narrow_ℚ ◌+ℚ◌ ◌*ℚ◌ neg_ℚ inv_ℚ ratio of_int gcd gcd_with_fuel
 wide_comparison = refl
 
+-- ---- by way of some states alone
+
+-- state 0 goes to state 1, or to state 1 or the goal 2 with 1/2 each; state 1 loops, or goes to the goal
+abbrev detour : Mdp
+detour = model_of
+    (labelled (0 ∷ []) (choice (entry 1 (number 1) ∷ []) ∷ choice (entry 1 (ratio (pos 1) 2) ∷ entry 2 (ratio (pos 1) 2) ∷ []) ∷ [])
+    ∷ labelled [] (choice (entry 1 (number 1) ∷ []) ∷ choice (entry 2 (number 1) ∷ []) ∷ [])
+    ∷ stays 2 (1 ∷ [])
+    ∷ [])
+
+abbrev last : List Bool
+last = false ∷ false ∷ true ∷ []
+
+-- state 0 stays, and state 1 doesn't: it is left in a loop, and there the policy has choice 0
+abbrev safe : Option (List Bool)
+safe = Some (true ∷ false ∷ false ∷ [])
+
+abbrev way : Mdp
+way = way_model detour safe last
+
+read_there : AreEqual ((way_policy safe last (0 ∷ 1 ∷ 0 ∷ []), 0 ∷ 0 ∷ 0 ∷ []) ∷ (way_policy safe last (1 ∷ 1 ∷ 0 ∷ []), 1 ∷ 0 ∷ 0 ∷ []) ∷ (way_policy None last (1 ∷ 1 ∷ 0 ∷ []), 1 ∷ 1 ∷ 0 ∷ []) ∷ [])
+read_there = refl
+
+-- to go by state 1 reaches the goal for certain; of coming there by way of state 0 alone it has no chance, and the other choice is better
+by_any : written_value (way_model detour None last) last (true ∷ true ∷ true ∷ []) (0 ∷ 1 ∷ 0 ∷ []) ≡ Ok (answer (number 1 ∷ number 1 ∷ number 1 ∷ []) None None)
+unfolding equation_of eliminated divided_rest plus_equation evaluated written_add written_mul written_compare narrow narrow_ℚ ◌+ℚ◌ ◌*ℚ◌ neg_ℚ inv_ℚ ratio of_int gcd gcd_with_fuel
+by_any = refl
+
+by_safe : written_value way last (false ∷ false ∷ true ∷ []) (way_policy safe last (0 ∷ 1 ∷ 0 ∷ [])) ≡ Ok (answer (number 0 ∷ number 0 ∷ number 1 ∷ []) (change 0 1) None)
+unfolding equation_of eliminated divided_rest plus_equation evaluated written_add written_mul written_compare narrow narrow_ℚ ◌+ℚ◌ ◌*ℚ◌ neg_ℚ inv_ℚ ratio of_int gcd gcd_with_fuel sub_of
+by_safe = refl
+
+-- to toss has 1/2, and nothing is better; at state 1 no change is named, though the goal is next
+abbrev of_tossing : Answer
+of_tossing = answer (ratio (pos 1) 2 ∷ number 0 ∷ number 1 ∷ []) None (change 0 0)
+
+tossing : written_value way last (true ∷ false ∷ true ∷ []) (way_policy safe last (1 ∷ 0 ∷ 0 ∷ [])) ≡ Ok of_tossing
+unfolding equation_of eliminated divided_rest plus_equation evaluated written_add written_mul written_compare narrow narrow_ℚ ◌+ℚ◌ ◌*ℚ◌ neg_ℚ inv_ℚ ratio of_int gcd gcd_with_fuel sub_of
+tossing = refl
+
+-- so the policy's own tree comes to the goal, of three steps from state 0
+comes_there : AreEqual (
+    (comes detour None last 1 3 (unfolded detour (1 ∷ 1 ∷ 0 ∷ []) 3 0) 0, number 1) ∷
+    (comes detour safe last 1 3 (unfolded detour (1 ∷ 1 ∷ 0 ∷ []) 3 0) 0, ratio (pos 1) 2) ∷
+    (comes detour safe last 1 3 (unfolded detour (0 ∷ 1 ∷ 0 ∷ []) 3 0) 0, number 0) ∷
+    []
+    )
+unfolding gcd gcd_with_fuel ratio of_int unit_of hit until
+comes_there = refl
+
 -- ---- the texts
 
-printed : value_text (codes "goal") goes of_going ≡ codes "mdp-value 1\npolicy reach \"goal\"\nstates 3\ninit 0 1/3\nimprove max none\nimprove min none\nstate 0 1/3\nstate 1 1\nstate 2 0\nend\n"
+printed : value_text None (codes "goal") goes of_going ≡ codes "mdp-value 1\npolicy reach \"goal\"\nstates 3\ninit 0 1/3\nimprove max none\nimprove min none\nstate 0 1/3\nstate 1 1\nstate 2 0\nend\n"
 unfolding value_text changes_text spelling ratio of_int gcd gcd_with_fuel digits
 printed = refl
 
-printed_change : value_text (codes "goal") goes of_looping ≡ codes "mdp-value 1\npolicy reach \"goal\"\nstates 3\ninit 0 0\nimprove max 0 1\nimprove min none\nstate 0 0\nstate 1 1\nstate 2 0\nend\n"
+printed_change : value_text None (codes "goal") goes of_looping ≡ codes "mdp-value 1\npolicy reach \"goal\"\nstates 3\ninit 0 0\nimprove max 0 1\nimprove min none\nstate 0 0\nstate 1 1\nstate 2 0\nend\n"
 unfolding value_text changes_text spelling ratio of_int gcd gcd_with_fuel digits
 printed_change = refl
+
+printed_until : value_text (Some (codes "safe")) (codes "goal") detour of_tossing
+    ≡ codes "mdp-value 1\npolicy until \"safe\" \"goal\"\nstates 3\ninit 0 1/2\nimprove max none\nimprove min 0 0\nstate 0 1/2\nstate 1 0\nstate 2 1\nend\n"
+unfolding value_text changes_text spelling ratio of_int gcd gcd_with_fuel digits
+printed_until = refl
 
 abbrev front : List ℕ
 front = codes "mdp-policy 1\nstates 3\nchoose 0 1\nchoose 1 0\n"

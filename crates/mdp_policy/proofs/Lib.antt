@@ -4,6 +4,7 @@ pub mod Turns
 pub mod Solving
 pub mod Choosing
 pub mod Facts
+pub mod Ways
 pub mod Reading
 mod Examples
 pub mod Chains

@@ -1,5 +1,5 @@
 -- What rules for a policy's values say of trees, and what follows from a choice that is better and from none.
-use Rattle.std.proofs.Common.{◌≡◌, ℕ, zero, suc, ◌<◌, ◌≤◌, ⊎_elim, Bool, true, false, cond, ltb, lt-ltb, ltb-true, List, [], ◌∷◌, length, get_or, refl, sym, ◌∙◌, ap, subst, arith, pos}
+use Rattle.std.proofs.Common.{◌≡◌, ℕ, zero, suc, ◌<◌, ◌≤◌, ⊎_elim, Bool, true, false, cond, ltb, lt-ltb, ltb-true, List, [], ◌∷◌, length, get_or, Option, None, refl, sym, ◌∙◌, ap, subst, arith, pos}
 use Rattle.std.proofs.{lemmas.Bool.{cases_Bool, cases_lt}, lemmas.List.{get_or_past}}
 use Rattle.std.specs.List.{All, Any}
 use Rattle.mdp_math.specs.Rational.{ℚ, ratio, of_int, ◌+ℚ◌, ◌*ℚ◌, ◌-ℚ◌, ◌≤ℚ◌, ◌<ℚ◌}
@@ -13,7 +13,7 @@ use Rattle.mdp_spec.proofs.{Rows.{probs_nonneg, row_weigh, row_weigh-const, row_
 use Rattle.mdp_spec.proofs.{Above.{hit-le_by}, Close.{RowsShrink, deficit-le, deficit-fades}, Ranks.{shrinks_of_ranks}}
 use Rattle.mdp_spec.proofs.Reach.{above_of_rules, all_three, third}
 use Rattle.mdp_rows.specs.{Better.{IsBetter, IsAsGood}, declared.dir.Dir.{Dir}, declared.dir.Dir.TheVariants.{Max, Min}}
-use Rattle.mdp_policy.specs.{Bounds.{PolicyBound, SomeTreePasses, DeepTreesStayBelow}, Laws.{HasOneValue}}
+use Rattle.mdp_policy.specs.{Bounds.{comes, PolicyBound, SomeTreePasses, DeepTreesStayBelow}, Laws.{HasOneValue}}
 use Rattle.mdp_policy.proofs.Deviations.{first_choice, first_choice_fits, first_choice-is}
 
 -- ---- rules for the values
@@ -152,7 +152,7 @@ module _ (m : Mdp) (goals : List Bool) (z : List ℚ) (policy : List ℕ) (reach
             fades.0 (unfolded m policy fades.0 s) s h (keeps_unfolded m policy fades.0 s known_ rules.choices h)),
       )
 
-  pub policy_bound_of_rules : PolicyBound m goals z policy
+  pub policy_bound_of_rules : PolicyBound m None goals z policy
   policy_bound_of_rules = record {
     takes = rules.choices;
     below = below_;
@@ -170,7 +170,7 @@ module _ (m : Mdp) (goals : List Bool) (z : List ℚ) (policy : List ℕ) (reach
   -- ---- better choices
 
   -- a greater choice at s: this choice first and the policy after it, at a depth from which the policy is near enough
-  pub passes_of_better : (s c : ℕ) → IsBetterChoice Max m goals z s c → SomeTreePasses m goals z s
+  pub passes_of_better : (s c : ℕ) → IsBetterChoice Max m goals z s c → SomeTreePasses m None goals z s
   passes_of_better s c b =
       let z_ : ℚ = value_at z s in
       let w : ℚ = row_weigh (value_at z) (row_at m s c) in
@@ -200,7 +200,7 @@ module _ (m : Mdp) (goals : List Bool) (z : List ℚ) (policy : List ℕ) (reach
       )
 
   -- a smaller choice at s: this choice first and the policy after it, at each depth
-  pub stays_below_of_better : (s c : ℕ) → IsBetterChoice Min m goals z s c → DeepTreesStayBelow m goals z s
+  pub stays_below_of_better : (s c : ℕ) → IsBetterChoice Min m goals z s c → DeepTreesStayBelow m None goals z s
   stays_below_of_better s c b =
       let z_ : ℚ = value_at z s in
       let w : ℚ = row_weigh (value_at z) (row_at m s c) in
@@ -232,15 +232,15 @@ module _ (m : Mdp) (goals : List Bool) (z : List ℚ) (policy : List ℕ) (reach
 
 -- ---- there are no other values
 
-module _ (m : Mdp) (goals : List Bool) (policy : List ℕ) where
-  policy_at_most : (z w : List ℚ) (s : ℕ) → PolicyBound m goals z policy → PolicyBound m goals w policy → s < states_of m → value_at z s ≤ℚ value_at w s
+module _ (m : Mdp) (stay : Option (List Bool)) (goals : List Bool) (policy : List ℕ) where
+  policy_at_most : (z w : List ℚ) (s : ℕ) → PolicyBound m stay goals z policy → PolicyBound m stay goals w policy → s < states_of m → value_at z s ≤ℚ value_at w s
   policy_at_most z w s p q h =
       le_of_bounds (value_at z s) (value_at w s)
       (λ e he.
       let c = p.close s e.den h (den-pos e) in
-      linear 5 (λ z w x q e. z) (λ z w x q e. w ⊕ e) (λ z w x q e. known z (x ⊕ q) ∷ known x w ∷ known q e ∷ []) refl (value_at z s) (value_at w s) (hit m goals 1 c.0 (unfolded m policy c.0 s) s)
+      linear 5 (λ z w x q e. z) (λ z w x q e. w ⊕ e) (λ z w x q e. known z (x ⊕ q) ∷ known x w ∷ known q e ∷ []) refl (value_at z s) (value_at w s) (comes m stay goals 1 c.0 (unfolded m policy c.0 s) s)
       (part e.den) e c.1 (q.below c.0 s h) (unit_fraction-le e he))
 
 -- the values of a policy are unique
 pub policy_value_unique : HasOneValue
-policy_value_unique m goals policy z w s p q h = ≤ℚ_antisymm _ _ (policy_at_most m goals policy z w s p q h) (policy_at_most m goals policy w z s q p h)
+policy_value_unique m stay goals policy z w s p q h = ≤ℚ_antisymm _ _ (policy_at_most m stay goals policy z w s p q h) (policy_at_most m stay goals policy w z s q p h)

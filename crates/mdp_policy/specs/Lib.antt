@@ -1,3 +1,4 @@
+pub mod Way
 pub mod Bounds
 pub mod Choices
 pub mod Written

@@ -1,11 +1,12 @@
-ghost use Rattle.std.specs.Prelude.{◌≡◌, ◌<◌, ◌++◌, codes, OnOk};
-ghost use Rattle.mdp_text.specs.{Answer.{Keeps}, Spelling.{line, dir_text}};
+ghost use Rattle.std.specs.Prelude.{◌≡◌, ◌<◌, ◌++◌, codes, option_copied, OnOk, Some, None};
+ghost use Rattle.mdp_text.specs.{Answer.{Keeps}, Parts.{parts_text}, Spelling.{line, dir_text}};
 ghost use Rattle.mdp_policy.specs.Spelling.{version_text, query_text, change_text, improve_text};
 
 use crate::value::Change;
 use mdp_num::Memory;
 use mdp_rows::Dir;
-use mdp_text::{push_whole, push_word};
+use mdp_text::Part::Bytes;
+use mdp_text::{Part, push_parts, push_whole, push_word};
 
 /// The word of a direction, with the blanks around it.
 fn front_of(dir: Dir) -> &'static [u8]
@@ -26,15 +27,47 @@ pub(crate) fn push_version(out: &mut Vec<u8>) -> Result<(), Memory>
     Ok(())
 }
 
-/// Appends the line of what was asked.
-pub(crate) fn push_query(out: &mut Vec<u8>, label: &[u8]) -> Result<(), Memory>
-    ensures text { OnOk result (out.new.items ≡ out.old.items ++ line (query_text label.now)) }
+/// Appends the line of the query `reach`.
+fn push_reach(out: &mut Vec<u8>, label: &[u8]) -> Result<(), Memory>
+    ensures text { OnOk result (out.new.items ≡ out.old.items ++ line (query_text None label.now)) }
     ensures front { Keeps out.old.items out.new.items }
 {
-    out.extend_from_slice(b"policy reach \"")?;
-    out.extend_from_slice(label)?;
-    out.extend_from_slice(b"\"\n")?;
-    Ok(())
+    push_parts(
+        out,
+        &[Bytes(b"policy reach \""), Bytes(label), Bytes(b"\"\n")],
+    )
+}
+
+/// The line of the query `until`.
+fn until_line<'a>(stay: &'a [u8], label: &'a [u8]) -> [Part<'a>; 5]
+    ensures { parts_text result ≡ line (query_text (Some stay.now) label.now) }
+{
+    [
+        Bytes(b"policy until \""),
+        Bytes(stay),
+        Bytes(b"\" \""),
+        Bytes(label),
+        Bytes(b"\"\n"),
+    ]
+}
+
+/// Appends the line of the query `until`.
+fn push_until(out: &mut Vec<u8>, stay: &[u8], label: &[u8]) -> Result<(), Memory>
+    ensures text { OnOk result (out.new.items ≡ out.old.items ++ line (query_text (Some stay.now) label.now)) }
+    ensures front { Keeps out.old.items out.new.items }
+{
+    push_parts(out, &until_line(stay, label))
+}
+
+/// Appends the line of what was asked.
+pub(crate) fn push_query(out: &mut Vec<u8>, stay: Option<&[u8]>, label: &[u8]) -> Result<(), Memory>
+    ensures text { OnOk result (out.new.items ≡ out.old.items ++ line (query_text (option_copied stay.entry) label.now)) }
+    ensures front { Keeps out.old.items out.new.items }
+{
+    match stay {
+        None => push_reach(out, label),
+        Some(stay) => push_until(out, stay, label),
+    }
 }
 
 /// Appends a change, or that there is none.

@@ -1,8 +1,8 @@
-ghost use Rattle.std.specs.Prelude.{◌≡◌, ℕ, List, length, IfOk, Some, None};
-ghost use Rattle.mdp_spec.specs.{Mdp.{states_of}, Tree.{IsPolicy}, Bounds.{ReachMax}};
+ghost use Rattle.std.specs.Prelude.{◌≡◌, ◌<◌, ℕ, List, length, IfOk, Some, None};
+ghost use Rattle.mdp_spec.specs.{Mdp.{states_of}, Tree.{IsPolicy}};
 ghost use Rattle.mdp_elim.specs.System.{Leaves};
 ghost use Rattle.mdp_reach.specs.Query.{policy_rows};
-ghost use Rattle.mdp_policy.specs.{Bounds.{PolicyBound, SomeTreePasses, DeepTreesStayBelow}, Written.{under_way, written_value}, Answer.{Gives, plain, Named}};
+ghost use Rattle.mdp_policy.specs.{Bounds.{PolicyBound, AreGreatest, SomeTreePasses, DeepTreesStayBelow}, Written.{under_way, written_value}, Answer.{Gives, plain, Named}};
 ghost use Rattle.mdp_policy_iteration.specs.Faults.{Answers};
 
 use crate::compare::Comparison;
@@ -22,7 +22,7 @@ pub struct Change {
     pub choice: u32,
 }
 
-/// The probabilities with which a policy reaches a goal, one for each state; the first change that raises one, and the first that lowers one.
+/// The probabilities with which a policy comes to a goal, one for each state; the first change that raises one, and the first that lowers one.
 #[derive(Drop)]
 pub struct PolicyValue {
     pub values: Vec<Frac>,
@@ -73,10 +73,9 @@ fn evaluated(alloc: Global, evaluation: Evaluation<'_, '_>) -> Result<PolicyValu
     Ok(PolicyValue { values, up, down })
 }
 
-/// The value of a memoryless policy, one choice for each state, for reaching a goal: by state elimination, and then the first states at which
-/// a choice is strictly better than the value (policy evaluation and policy improvement: Puterman 1994, section 7.2). `TooWide` is the first
-/// written term past width.
-pub fn value_of(
+/// The value of a policy for reaching a goal: by state elimination, and then the first states at which a choice is strictly better than the
+/// value (policy evaluation and policy improvement: Puterman 1994, section 7.2).
+pub(crate) fn reach_value(
     alloc: Global,
     model: &Model,
     goals: &Marks,
@@ -86,10 +85,12 @@ pub fn value_of(
     requires policy { IsPolicy model.now policy.now }
     ensures written { Gives model.now goals.now policy.now result }
     ensures each { IfOk result (λ v. length v.values.items ≡ states_of model.now) }
-    ensures bound { IfOk result (λ v. PolicyBound model.now goals.now v.values.items policy.now) }
-    ensures none_up { IfOk result (λ v. v.up ≡ None → ReachMax model.now goals.now v.values.items policy.now) }
-    ensures up { IfOk result (λ v. (change : Change) → v.up ≡ Some change → SomeTreePasses model.now goals.now v.values.items change.state) }
-    ensures down { IfOk result (λ v. (change : Change) → v.down ≡ Some change → DeepTreesStayBelow model.now goals.now v.values.items change.state) }
+    ensures bound { IfOk result (λ v. PolicyBound model.now None goals.now v.values.items policy.now) }
+    ensures none_up { IfOk result (λ v. v.up ≡ None → AreGreatest model.now None goals.now v.values.items policy.now) }
+    ensures up { IfOk result (λ v. (change : Change) → v.up ≡ Some change → SomeTreePasses model.now None goals.now v.values.items change.state) }
+    ensures down { IfOk result (λ v. (change : Change) → v.down ≡ Some change → DeepTreesStayBelow model.now None goals.now v.values.items change.state) }
+    ensures up_in { IfOk result (λ v. (change : Change) → v.up ≡ Some change → change.state < states_of model.now) }
+    ensures down_in { IfOk result (λ v. (change : Change) → v.down ≡ Some change → change.state < states_of model.now) }
 {
     model.known();
     along_law();

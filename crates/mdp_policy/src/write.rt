@@ -1,4 +1,4 @@
-ghost use Rattle.std.specs.Prelude.{◌≡◌, ◌++◌, length, OnOk, OnErr};
+ghost use Rattle.std.specs.Prelude.{◌≡◌, ◌++◌, length, option_copied, OnOk, OnErr};
 ghost use Rattle.mdp_spec.specs.Mdp.{states_of};
 ghost use Rattle.mdp_text.specs.Answer.{Keeps};
 ghost use Rattle.mdp_policy.specs.{Spelling.{head_text, changes_text, value_text}, Answer.{plain}};
@@ -23,15 +23,16 @@ fn push_changes(out: &mut Vec<u8>, value: &PolicyValue) -> Result<(), Memory>
 fn push_head(
     out: &mut Vec<u8>,
     model: &Model,
+    stay: Option<&[u8]>,
     label: &[u8],
     value: &PolicyValue,
 ) -> Result<(), Memory>
     requires { length value.now.values.items ≡ states_of model.now }
-    ensures text { OnOk result (out.new.items ≡ out.old.items ++ head_text label.now model.now (plain value.now)) }
+    ensures text { OnOk result (out.new.items ≡ out.old.items ++ head_text (option_copied stay.entry) label.now model.now (plain value.now)) }
     ensures front { Keeps out.old.items out.new.items }
 {
     push_version(out)?;
-    push_query(out, label)?;
+    push_query(out, stay, label)?;
     push_number(out, u64::from(model.states()))?;
     push_init(out, &init_with(model, &value.values))
 }
@@ -41,14 +42,15 @@ fn push_head(
 fn push_lines(
     out: &mut Vec<u8>,
     model: &Model,
+    stay: Option<&[u8]>,
     label: &[u8],
     value: &PolicyValue,
 ) -> Result<(), Memory>
     requires { length value.now.values.items ≡ states_of model.now }
-    ensures text { OnOk result (out.new.items ≡ out.old.items ++ value_text label.now model.now (plain value.now)) }
+    ensures text { OnOk result (out.new.items ≡ out.old.items ++ value_text (option_copied stay.entry) label.now model.now (plain value.now)) }
     ensures front { Keeps out.old.items out.new.items }
 {
-    push_head(out, model, label, value)?;
+    push_head(out, model, stay, label, value)?;
     push_changes(out, value)?;
     push_values(out, &value.values)?;
     push_end(out)?;
@@ -56,19 +58,21 @@ fn push_lines(
 }
 
 /// Appends the text of a policy's value: what was asked, the number of states, the initial state, the first changes that raise and that lower a
-/// value, and a line for each state. `label` is the name of the goals. After `Memory` the text is as before.
+/// value, and a line for each state. `stay` is the name of the states on the way, where it was asked, and `label` that of the goals. After `Memory` the
+/// text is as before.
 pub fn write_value(
     model: &Model,
+    stay: Option<&[u8]>,
     label: &[u8],
     value: &PolicyValue,
     out: &mut Vec<u8>,
 ) -> Result<(), Memory>
     requires { length value.now.values.items ≡ states_of model.now }
-    ensures text { OnOk result (out.new.items ≡ out.old.items ++ value_text label.now model.now (plain value.now)) }
+    ensures text { OnOk result (out.new.items ≡ out.old.items ++ value_text (option_copied stay.entry) label.now model.now (plain value.now)) }
     ensures unchanged { OnErr result (out.new.items ≡ out.old.items) }
 {
     let start = out.len();
-    let answer = push_lines(out, model, label, value);
+    let answer = push_lines(out, model, stay, label, value);
     if answer.is_err() {
         out.truncate(start);
     }

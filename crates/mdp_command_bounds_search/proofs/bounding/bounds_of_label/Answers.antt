@@ -1,10 +1,18 @@
 use Rattle.std.proofs.Common.{sym}
-use Rattle.mdp_command_bounds_search.proofs.Printing.{reach_bounds}
+use Rattle.mdp_spec.specs.Labels.{place_of}
+use Rattle.mdp_command_bounds_search.proofs.Printing.{marked_at, label_there, reach_bounds}
 use Rattle.mdp_command_bounds_search.proofs.bounding.bounds_of_label.Goals as goal
 
-pub returns-in-Ok-bounds_reach-clause-found : goal.returns-in-Ok-bounds_reach-clause-found
-returns-in-Ok-bounds_reach-clause-found c =
-    let b = c.in-Ok-bounds_reach.bounds in
-    let e = c.in-Ok-bounds_reach.ensures in
-    reach_bounds c.args.dir c.args.label.now c.args.model.now c.in-Some.place c.known.ensures.model.labels (sym c.in-Some.ensures) c.in-Ok.goals b.lower.items b.upper.items
-    b.choices.items b.ranks.items c.in-Ok.ensures e.rules e.lower e.upper e.choices e.ranks
+pub returns-in-Ok-clause-fits : goal.returns-in-Ok-clause-fits
+returns-in-Ok-clause-fits c =
+    let m = c.args.model.now in
+    label_there m (place_of c.args.label.now m.labels) c.in_ok-goals.goals c.in_ok-goals.ensures.marks
+
+pub returns-in-Ok-clause-found : goal.returns-in-Ok-clause-found
+returns-in-Ok-clause-found c =
+    let m = c.args.model.now in
+    let b = c.in-Ok.bounds in
+    let e = c.in-Ok.ensures in
+    let at = marked_at m (place_of c.args.label.now m.labels) c.in_ok-goals.goals c.in_ok-goals.ensures.marks in
+    reach_bounds c.args.dir c.args.label.now m at.0 c.known.ensures.model.labels at.1 c.in_ok-goals.goals b.lower.items b.upper.items b.choices.items b.ranks.items (sym at.2) e.rules
+    e.lower e.upper e.choices e.ranks

@@ -4,6 +4,6 @@ use Rattle.mdp_command_policy.proofs.laws.policy_law.Goals as goal
 pub returns : goal.returns
 returns c = record {
   once = policy_once;
-  value = λ label m bytes text mdp due.
-      printed_of_due c.along_law.ensures.falls c.along_law.ensures.rest c.solution_law.ensures.solves label m mdp text c.policy_text_law.ensures.read bytes due;
+  value = λ stay label m bytes text mdp due.
+      printed_of_due c.along_law.ensures.falls c.along_law.ensures.rest c.solution_law.ensures.solves stay label m mdp text c.policy_text_law.ensures.read bytes due;
 }

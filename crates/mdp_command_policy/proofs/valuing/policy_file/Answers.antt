@@ -9,4 +9,4 @@ returns-in-Err-clause-read g c = pair_refused _ _ _ _ _ _ refl c.in-Err.ensures.
 pub returns-in-Ok-clause-read : goal.returns-in-Ok-clause-read
 returns-in-Ok-clause-read g c =
     pair_worked_as _ _ _ _ _ _ _ c.in-Ok.ensures.read c.of_source.ensures.read
-    (λ bytes other is due. shown c.policy_law.ensures.value _ _ _ _ c.in-Ok.ensures.mdp bytes other is due)
+    (λ bytes other is due. shown c.policy_law.ensures.value _ _ _ _ _ c.in-Ok.ensures.mdp bytes other is due)

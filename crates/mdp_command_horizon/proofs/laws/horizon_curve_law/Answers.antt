@@ -1,0 +1,8 @@
+use Rattle.mdp_command_horizon.proofs.CurvePrinting.{printed_of_until, printed_of_total}
+use Rattle.mdp_command_horizon.proofs.laws.horizon_curve_law.Goals as goal
+
+pub returns : goal.returns
+returns c = record {
+  until = λ dir stay label steps digits m text mdp few due. printed_of_until dir stay label steps digits m text mdp few due;
+  total = λ dir name steps digits m text mdp due. printed_of_total dir name steps digits m text mdp due;
+}

@@ -1,0 +1,147 @@
+ghost use Rattle.std.specs.Prelude.{◌≡◌, ◌+◌, ◌*◌, ◌<◌, ◌≤◌, ◌^◌, ◌<ℤ◌, length, pos, IfOk};
+ghost use Rattle.mdp_spec.specs.Mdp.{states_of};
+ghost use Rattle.mdp_rows.specs.declared.dir.Dir.TheVariants.{Max, Min};
+ghost use Rattle.mdp_horizon.specs.{Objective.Objective.{until, total}, Whole.{whole_at}, Gap.{NoneIsWide}, Finer.{unit_of}};
+ghost use Rattle.mdp_horizon.specs.Curve.{point_by, curve_of, IsMaxCurve, IsMinCurve, IsFiniteCurve, IsNearCurve, IsCurveOfBounds};
+ghost use Rattle.mdp_horizon.specs.BoundsCode.{plain_objective, IsAsked};
+
+use crate::bounds_induction::shown;
+use crate::bounds_objective::Objective;
+use crate::columns::Query;
+use crate::point::Point;
+use mdp_num::{Frac, Memory};
+use mdp_rows::{Dir, Marks, Model};
+use std::alloc::{AllocError, Global};
+
+impl Query<'_> {
+    /// The lower and the upper value of state `s` in the two columns.
+    fn values_at(
+        self,
+        cover: &[Option<i128>],
+        follow: &[Option<i128>],
+        s: u32,
+    ) -> (Option<Frac>, Option<Frac>)
+        requires one { pos 0 <ℤ self.one }
+        requires cover { s < length cover.now }
+        requires follow { s < length follow.now }
+        ensures { record { lower = result.0; upper = result.1 } ≡ point_by self.entry.dir self.entry.one (whole_at cover.now s) (whole_at follow.now s) }
+    {
+        let covering = shown(cover[s as usize], self.one);
+        let following = shown(follow[s as usize], self.one);
+        match self.dir {
+            Dir::Max => (following, covering),
+            Dir::Min => (covering, following),
+        }
+    }
+
+    /// The values of state `s` with each number of steps up to `steps`. It keeps two columns, and no choices.
+    fn curve(self, alloc: Global, s: u32, steps: u32) -> Result<Vec<Point>, AllocError>
+        requires one { pos 0 <ℤ self.one }
+        requires asked { IsAsked self.model.now (plain_objective self.objective) }
+        requires state { s < states_of self.model.now }
+        ensures { IfOk result (λ curve. curve.items ≡ curve_of self.entry.dir self.entry.one self.entry.model.now (plain_objective self.entry.objective) s steps) }
+    {
+        let rows = self.scaled_states(alloc)?;
+        let mut cover = self.end_column(alloc)?;
+        let mut follow = self.end_column(alloc)?;
+        let mut curve = Vec::new(alloc);
+        let (lower, upper) = self.values_at(&cover, &follow, s);
+        curve.push(Point { lower, upper })?;
+        for done in 0..steps {
+            cover = self.cover_next(alloc, &rows, &cover)?;
+            follow = self.follow_next(alloc, &rows, &follow)?;
+            let (lower, upper) = self.values_at(&cover, &follow, s);
+            curve.push(Point { lower, upper })?;
+        }
+        Ok(curve)
+    }
+
+    /// The same with a unit that is as fine as so many steps need.
+    fn finer_curve(
+        self,
+        alloc: Global,
+        s: u32,
+        digits: u32,
+        steps: u32,
+    ) -> Result<Vec<Point>, Memory>
+        requires digits { digits ≤ 30 }
+        requires asked { IsAsked self.model.now (plain_objective self.objective) }
+        requires state { s < states_of self.model.now }
+        ensures { let o = plain_objective self.entry.objective in
+            IfOk result (λ curve. curve.items ≡ curve_of self.entry.dir (pos (unit_of self.entry.model.now o digits steps)) self.entry.model.now o s steps) }
+    {
+        let one = self.unit_of(digits, steps);
+        let finer = Query { one, ..self };
+        Ok(finer.curve(alloc, s, steps)?)
+    }
+}
+
+/// For each number of steps from 0 to `steps` a lower and an upper value of the greatest or the least probability of coming from state `start` to a goal
+/// by way of states that stay, by backward induction in whole numbers that are rounded outward. No choices are kept. The unit is finer than 10^-digits
+/// by the least power of ten that isn't below `steps`, or by less where a row has no room for that: so where no row is wide, the two values of each
+/// number of steps are at most 10^-digits apart. Each value is there, from 0 to 1.
+pub fn until_curve(
+    alloc: Global,
+    model: &Model,
+    dir: Dir,
+    stay: &Marks,
+    goals: &Marks,
+    start: u32,
+    steps: u32,
+    digits: u32,
+) -> Result<Vec<Point>, Memory>
+    requires stay_each { length stay.now ≡ states_of model.now }
+    requires goals_each { length goals.now ≡ states_of model.now }
+    requires start { start < states_of model.now }
+    requires digits { digits ≤ 30 }
+    ensures written { let o = until stay.now goals.now in IfOk result (λ curve. curve.items ≡ curve_of dir (pos (unit_of model.now o digits steps)) model.now o start steps) }
+    ensures length { IfOk result (λ curve. length curve.items ≡ steps + 1) }
+    ensures bounds { let o = until stay.now goals.now in IfOk result (λ curve. IsCurveOfBounds dir (pos (unit_of model.now o digits steps)) model.now o start steps curve.items) }
+    ensures max { dir ≡ Max → IfOk result (λ curve. IsMaxCurve model.now (until stay.now goals.now) start steps curve.items) }
+    ensures min { dir ≡ Min → IfOk result (λ curve. IsMinCurve model.now (until stay.now goals.now) start steps curve.items) }
+    ensures finite { IfOk result (λ curve. IsFiniteCurve steps curve.items) }
+    ensures near { let o = until stay.now goals.now in
+        IfOk result (λ curve. NoneIsWide dir (pos (unit_of model.now o digits steps)) model.now o steps
+        → steps * 10 ^ digits ≤ unit_of model.now o digits steps → IsNearCurve (10 ^ digits) steps curve.items) }
+{
+    model.known();
+    let query = Query {
+        dir,
+        model,
+        objective: Objective::Until(stay, goals),
+        one: 1,
+    };
+    query.finer_curve(alloc, start, digits, steps)
+}
+
+/// The same of the greatest or the least total reward of the name of place `name`. A value that is too wide is missing.
+pub fn total_curve(
+    alloc: Global,
+    model: &Model,
+    dir: Dir,
+    name: u32,
+    start: u32,
+    steps: u32,
+    digits: u32,
+) -> Result<Vec<Point>, Memory>
+    requires name { name < length model.now.names }
+    requires start { start < states_of model.now }
+    requires digits { digits ≤ 30 }
+    ensures written { let o = total name in IfOk result (λ curve. curve.items ≡ curve_of dir (pos (unit_of model.now o digits steps)) model.now o start steps) }
+    ensures length { IfOk result (λ curve. length curve.items ≡ steps + 1) }
+    ensures bounds { let o = total name in IfOk result (λ curve. IsCurveOfBounds dir (pos (unit_of model.now o digits steps)) model.now o start steps curve.items) }
+    ensures max { dir ≡ Max → IfOk result (λ curve. IsMaxCurve model.now (total name) start steps curve.items) }
+    ensures min { dir ≡ Min → IfOk result (λ curve. IsMinCurve model.now (total name) start steps curve.items) }
+    ensures near { let o = total name in
+        IfOk result (λ curve. NoneIsWide dir (pos (unit_of model.now o digits steps)) model.now o steps
+        → steps * 10 ^ digits ≤ unit_of model.now o digits steps → IsNearCurve (10 ^ digits) steps curve.items) }
+{
+    model.known();
+    let query = Query {
+        dir,
+        model,
+        objective: Objective::Total(name),
+        one: 1,
+    };
+    query.finer_curve(alloc, start, digits, steps)
+}
