@@ -4,7 +4,7 @@ use Rattle.mdp_spec.specs.Mdp.{Mdp, states_of}
 use Rattle.mdp_cert.specs.Cert as certificate
 use Rattle.mdp_cert.specs.{Cert.{are_names, Fits}, Spelling.{text_of}}
 use Rattle.mdp_cert.specs.Plain as cert
-use Rattle.mdp_witness.specs.{Code.{plain}, Query.{EndsSo}, Shown.{kept_in, HasShape, Holds, PolicyReaches, IsNeededMax, IsNeededMin, AreNeeded, MarksAreExactMax, MarksAreExactMin}}
+use Rattle.mdp_witness.specs.{Code.{plain}, Query.{EndsSo}, Shown.{HasShape}}
 use Rattle.mdp_command_solve.specs.{Ways.{name_of, owned_name}, WitnessCertificate.{dir_of, certificate_of}, WitnessShown.{IsWitness, IsWitnessPrinted}}
 use Rattle.mdp_text.proofs.InitialState.{initial_below}
 use Rattle.mdp_command_solve.proofs.{OnWay.{marks_each, witness_names, way_states}, WitnessPrinting.{dir_is, is_witness, own_shape, shape_of_way, printed, text_printed, text_due}}
