@@ -96,12 +96,19 @@ fn solves_until(alloc: Global) -> bool {
     let most = "mdp-certificate 2\nclaim max until \"init\" \"goal\"\nstates 3\ninit 0 1/3\n";
     let between = "mdp-bounds 1\nclaim max until \"init\" \"goal\"\nstates 3\ninit 0 ";
     writes(alloc, "solve M exact max until init goal", COIN, "", most)
-        && writes(alloc, "bounds M exact max until init goal 6", COIN, "", between)
+        && writes(
+            alloc,
+            "bounds M exact max until init goal 6",
+            COIN,
+            "",
+            between,
+        )
 }
 
 /// The same for a subsystem and for a policy.
 fn works_until(alloc: Global) -> bool {
-    let part = "mdp-certificate 2\nclaim max witness until \"init\" \"goal\" 1/3\nstates 3\ninit 0\nkeep 0 kept\n";
+    let part =
+        "mdp-certificate 2\nclaim max witness until \"init\" \"goal\" 1/3\nstates 3\ninit 0\nkeep 0 kept\n";
     let value = "mdp-value 1\npolicy until \"init\" \"goal\"\nstates 3\ninit 0 1/3\n";
     let command = "witness M exact max until init goal 1/3";
     writes(alloc, command, COIN, "", part)
@@ -152,7 +159,8 @@ fn solves_means(alloc: Global) -> bool {
 fn earns_within_steps(alloc: Global) -> bool {
     let most = "mdp-horizon 1\nclaim max reward \"cost\" 2\nstates 2\ninit 0 5\n";
     let total = "mdp-horizon-bounds 1\nclaim min total \"cost\" 2\nstates 2\ninit 0 2 2\n";
-    let curve = "mdp-curve 1\nclaim max total \"cost\"\ninit 0\nsteps 2\nstep 0 0 0\nstep 1 2 2\nstep 2 5 5\nend\n";
+    let curve =
+        "mdp-curve 1\nclaim max total \"cost\"\ninit 0\nsteps 2\nstep 0 0 0\nstep 1 2 2\nstep 2 5 5\nend\n";
     pays(alloc, "total M exact max cost 2", most)
         && pays(alloc, "bounds M exact min total cost 2 6", total)
         && pays(alloc, "curve M exact max total cost 2 6", curve)

@@ -216,7 +216,15 @@ fn opens_files(rt: HostRuntime) -> Result<(), Fail> {
     let open = |path: &str| StdSource::new(File::open(&rt, path).ok());
     assert!(rt; files_end(rt.alloc(), open, open, Status::Done, b"yes\n"));
     fs::remove_file(&rt, "MODEL")?;
-    assert!(rt; files_end(rt.alloc(), open, open, Status::ReadFault, b"read-fault model\n"));
+    assert!(rt;
+        files_end(
+            rt.alloc(),
+            open,
+            open,
+            Status::ReadFault,
+            b"read-fault model\n"
+        )
+    );
     fs::remove_file(&rt, "CERT")?;
     Ok(())
 }

@@ -8,7 +8,8 @@ use Rattle.mdp_spec.specs.{Mdp.{Entry, Choice, Mdp}, Sub.{sub_of}}
 use Rattle.mdp_spec.proofs.Small.{entry, labelled, number, half, quarter}
 use Rattle.mdp_rows.specs.declared.dir.Dir.TheVariants.{Max, Min}
 use Rattle.mdp_claims.specs.declared.rule.Rule.TheVariants.{ChoiceExists, ValueOnEachChoice}
-use Rattle.mdp_cert.specs.{Cert as claim, Cert.{PlainClaim}}
+use Rattle.mdp_cert.specs.Cert as claim
+use Rattle.mdp_cert.specs.Cert.{PlainClaim}
 use Rattle.mdp_cert.specs.{BoundsCert.{probabilities, rewards, gains, Certificate}, declared.init.BoundsInit.TheVariants.{Missing, Between}}
 use Rattle.mdp_check.specs.{Bounds.{bounds_answer_to}, declared.answer.Answer.TheVariants.{Yes, No}}
 use Rattle.mdp_job.specs.{Job.{reach, until, reward, mean}, Refusal.{PlainRefusal, query_label, query_reward, query_negative, query_size}}

@@ -42,18 +42,6 @@ pub labels_there : (m : Mdp) (stay label : Option ℕ) (stays goals : List Bool)
 labels_there m None label stays goals e f = absurd cc
 labels_there m (Some a) label stays goals e f = label_there m label goals f
 
--- the first label's fault comes first, and where that label is there, the other's
-pub stay_refused : (stay label : Option ℕ) (r : PlainRefusal) → (r ≡ no_memory) ⊎ (label_fault stay ≡ Some r) → (r ≡ no_memory) ⊎ (until_fault stay label ≡ Some r)
-stay_refused stay label r (inl memory) = inl memory
-stay_refused None label r (inr e) = inr e
-stay_refused (Some a) label r (inr e) = absurd cc
-
-pub label_refused : (m : Mdp) (stay label : Option ℕ) (stays : List Bool) (r : PlainRefusal) → option_map (marks_of m) stay ≡ Some stays → (r ≡ no_memory) ⊎ (label_fault label ≡ Some r)
-    → (r ≡ no_memory) ⊎ (until_fault stay label ≡ Some r)
-label_refused m stay label stays r there (inl memory) = inl memory
-label_refused m None label stays r there (inr e) = absurd cc
-label_refused m (Some a) label stays r there (inr e) = inr e
-
 -- ---- a body has an entry per state
 
 pub values_of_body : (claim : PlainClaim) (n : ℕ) (body : PlainBounds) → is_body_of claim n body ≡ true → HasValues n body
@@ -98,6 +86,10 @@ module _ (dir : Dir) (label : List ℕ) (m : Mdp) (l : ℕ) (known : All IsName 
 way_is : (m : Mdp) (stay : List ℕ) (stays goals : List Bool) → labelled_marks m stay ≡ Some stays → sub_of m goals stays ≡ way_of m goals stay
 way_is m stay stays goals e = let at = marked_at m (place_of stay m.labels) stays e in ap (sub_of m goals) (sym at.2 ∙ ap (stays_at m) (sym at.1))
 
+-- and it has as many states
+pub way_states : (m : Mdp) (stays goals : List Bool) (way : Mdp) → way ≡ sub_of m goals stays → states_of way ≡ states_of m
+way_states m stays goals way is = ap states_of is ∙ sub-states m goals stays
+
 -- bounds of the probabilities of reaching this label by way of states of that one alone
 pub until_bounds : (dir : Dir) (stay label : List ℕ) (m : Mdp) → All IsName m.labels → (stays goals : List Bool) → labelled_marks m stay ≡ Some stays → labelled_marks m label ≡ Some goals
     → (way : Mdp) → way ≡ sub_of m goals stays → (lower upper : List ℚ) (choices ranks : List ℕ) → IsReachBounds dir way goals lower upper choices ranks → length lower ≡ states_of way
@@ -105,7 +97,7 @@ pub until_bounds : (dir : Dir) (stay label : List ℕ) (m : Mdp) → All IsName 
 until_bounds dir stay label m known stays goals stayed marked way is lower upper choices ranks rules x y z w =
     let a = marked_at m (place_of stay m.labels) stays stayed in
     let l = marked_at m (place_of label m.labels) goals marked in
-    let size : states_of way ≡ states_of m = ap states_of is ∙ sub-states m goals stays in
+    let size = way_states m stays goals way is in
     record {
       names = ap₂ (λ (p q : Bool). p && q) (found_among IsName stay m.labels a.0 a.1 known) (found_among IsName label m.labels l.0 l.1 known);
       entries = four (states_of m) (length lower) (length upper) (length choices) (length ranks) (x ∙ size) (y ∙ size) (z ∙ size) (w ∙ size);

@@ -1,7 +1,12 @@
+use Rattle.std.proofs.Common.{sym, ◌∙◌}
 use Rattle.mdp_spec.specs.Labels.{place_of}
-use Rattle.mdp_job.specs.Refusal.{plain_refusal}
-use Rattle.mdp_command_bounds_search.proofs.Printing.{labels_there, stay_refused, label_refused, until_bounds}
+use Rattle.mdp_command_bounds_search.proofs.Printing.{labels_there, way_states, until_bounds}
 use Rattle.mdp_command_bounds_search.proofs.bounding.bounds_of_until.Goals as goal
+
+pub bounds_reach-requires : goal.bounds_reach-requires
+bounds_reach-requires c = record {
+  goals = c.in_ok-goals.ensures.each ∙ sym (way_states c.args.model.now c.in_ok-stays.stays c.in_ok-goals.goals c.in-Ok.way c.in-Ok.ensures);
+}
 
 pub returns-in-Ok-bounds_reach-clause-fits : goal.returns-in-Ok-bounds_reach-clause-fits
 returns-in-Ok-bounds_reach-clause-fits c =
