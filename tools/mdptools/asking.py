@@ -304,7 +304,10 @@ class Session:
         ended = self.call("curve", question, objective, output)
         if ended.status != 0:
             self.refuse(ended)
-        pairs = certificates.read(output).curve
+        text = certificates.read(output)
+        pairs, due = text.curve, [claim.rpartition(" ")[0] for claim in replace(question, steps=steps).claims()]
+        if text.claim not in due or len(pairs) != steps + 1 or text.start != self.starts[0]:
+            raise Refused(70, f"{self.solver.name} answers another question: {text.claim[:200]}", f"asked was {due[0][:200]} with {steps} steps")
         if question.is_complement:
             pairs = [(1 - high, 1 - low) for low, high in pairs]
         return pairs, self.vouched(Evidence(f"curve, {digits} digits", self.kept(output), question.model, self.rows, self.solver, is_bounds=True))
@@ -316,7 +319,8 @@ class Session:
     def answer(self, question, command, output, digits=0):
         """What a text says, once it is checked where it is a certificate."""
         text = certificates.read(output)
-        if text.claim not in question.claims() or len(text.lower) != self.size:
+        start = self.starts[0] if len(self.starts) == 1 else None
+        if text.claim not in question.claims() or len(text.lower) != self.size or text.start != start:
             raise Refused(70, f"{self.solver.name} answers another question: {text.claim[:200]}", f"asked was {question.claims()[0][:200]}")
         evidence = Evidence(command, output, question.model, self.rows, self.solver, is_bounds=text.is_bounds)
         if question.steps is None:
