@@ -3,7 +3,12 @@
 import math
 import pathlib
 import subprocess
+import sys
 from fractions import Fraction
+
+sys.dont_write_bytecode = True
+
+from mdptools.drn import Choice, Model, State, text_of  # noqa: E402
 
 TOP = pathlib.Path(__file__).resolve().parent.parent
 INFINITE = {"inf": math.inf, "-inf": -math.inf}
@@ -32,9 +37,5 @@ def columns(text, count):
 
 def drn(states):
     """A model in DRN with the reward name `cost`: for each state its labels, and its choices as a reward and entries."""
-    lines = ["@type: MDP", "@parameters", "", "@reward_models", "cost", "@nr_states", len(states), "@nr_choices", sum(len(choices) for _, choices in states), "@model"]
-    for number, (labels, choices) in enumerate(states):
-        lines.append(f"state {number} {labels}".strip())
-        for reward, entries in choices:
-            lines += [f"action [{reward}]", *(f"{target} : {value}" for target, value in sorted(entries.items()))]
-    return "\n".join(map(str, lines)) + "\n"
+    choice = lambda reward, entries: Choice([Fraction(reward)], "", [(target, Fraction(value)) for target, value in entries.items()])
+    return text_of(Model(["cost"], [State([], labels.split(), [choice(*each) for each in choices]) for labels, choices in states]))

@@ -131,10 +131,9 @@ def value_text(result):
         return str(result.count[0]) if result.count[0] == result.count[1] else f"from {result.count[0]} to {result.count[1]}"
     if result.least is not None:
         return "no number of steps" if result.truth is False else f"{result.least} steps, value {value}"
-    is_bound = hasattr(result.asked.tree, "relation") and result.asked.tree.relation or result.truth is not None
     if result.curve:
         return f"{len(result.curve)} numbers of steps"
-    if not is_bound:
+    if not result.is_bound:
         return value
     word = {True: "true", False: "false", None: "not decided"}[result.truth]
     return f"{word}, the value is {value}" if value else word
@@ -197,7 +196,7 @@ def json_of(session, words, result):
     found = {"property": result.asked.words(), "name": result.asked.name or None}
     if result.low is not None:
         found |= {"lower": shown.exact(result.low), "upper": shown.exact(result.high)}
-    if result.truth is not None or getattr(result.asked.tree, "relation", ""):
+    if result.is_bound:
         found["holds"] = result.truth
     if result.count is not None:
         found["count"] = list(result.count)
@@ -277,17 +276,13 @@ def write_files(words, results):
             raise Ends(WORDS, "bin/ask: the answer has no policy without a deadline; of a deadline --certificate FILE keeps the table of choices")
         pathlib.Path(words.policy).write_text(certificates.policy_of(answer.choices))
     if words.plot:
-        try:
-            curves.plot(words.plot, results[0])
-        except curves.CannotPlot as why:
-            raise Ends(WORDS, f"bin/ask: {why}") from None
+        curves.plot(words.plot, results[0])
 
 
 def status_of(results):
     if any(result.truth is False for result in results):
         return FALSE
-    undecided = [result for result in results if result.truth is None and getattr(result.asked.tree, "relation", "") and not result.curve and result.count is None]
-    return asking.UNDECIDED if undecided else DONE
+    return asking.UNDECIDED if any(result.is_bound and result.truth is None for result in results) else DONE
 
 
 # ---- the run
@@ -349,6 +344,8 @@ def run(words):
         return DONE
     if len(found) != 1 and (words.certificate or words.policy or words.plot):
         raise Ends(WORDS, "bin/ask: --certificate, --policy and --plot belong to one property")
+    if words.plot:
+        curves.ready(words.plot)
     session = session_of(words, model, options)
     try:
         where_bits(session, words)
@@ -369,6 +366,9 @@ def main(arguments):
             sys.stdout.flush()
         print(*ends.lines, sep="\n", file=sys.stderr)
         status = ends.status
+    except curves.CannotPlot as why:
+        print(f"bin/ask: {why}", file=sys.stderr)
+        status = WORDS
     except KeyboardInterrupt:
         print("\nbin/ask: broken off", file=sys.stderr)
         status = BROKEN_OFF

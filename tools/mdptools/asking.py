@@ -121,6 +121,7 @@ class Result:
     evidence: list = field(default_factory=list)
     notes: list = field(default_factory=list)
     is_range: bool = False
+    is_bound: bool = False
 
 
 def decided(low, high, relation, threshold):
@@ -252,7 +253,6 @@ class Session:
             if not (self.rows == "exact" and not self.options.rows and re.fullmatch(r"model line \d+ row-sum", ended.first)):
                 return ended
             self.rows = "scaled"
-            self.note("the rows don't add to 1 exactly: they are read by the rule `scaled`, each divided by its sum")
 
     def refuse(self, ended):
         """Ends where the program refuses."""
@@ -440,6 +440,7 @@ def of_query(session, query, result, states=None, pick=""):
         result.truth = all_true([decided(answer.lower[s], answer.upper[s], query.relation, query.threshold) for s in states])
     elif query.relation:
         result.truth = decided(result.low, result.high, query.relation, query.threshold)
+    result.is_bound = bool(query.relation)
     if not answer.is_exact and not (query.relation and result.truth is not None):
         digits_note(session, answer, is_enough(answer))
 
@@ -469,6 +470,7 @@ def of_experiment(session, query, result):
 
 def of_least(session, query, result):
     """The least number of steps with which a bound is met."""
+    result.is_bound = True
     if not query.relation:
         raise Unsupported("<=? asks for the least number of steps with which a bound is met: write a bound, as Pmax>=0.99", query.start, query.path.end)
     question, digits, steps = session.question(query, result.asked.source), session.options.digits, 64
@@ -528,6 +530,7 @@ def of_filter(session, tree, result):
 
 def count_truth(session, pick, truth, states, result):
     """What a filter says of whether something holds at states, where nothing stands for what isn't known."""
+    result.is_bound = pick != "count"
     if pick == "count":
         result.count = (truth.count(True), truth.count(True) + truth.count(None))
     elif pick == "exists":
@@ -553,6 +556,8 @@ def of_property(session, asked):
         of_filter(session, tree, result)
     else:
         holds = session.labels.states(tree)
-        result.truth = all(holds >> s & 1 for s in session.starts)
+        result.is_bound, result.truth = True, all(holds >> s & 1 for s in session.starts)
+    if session.rows != (session.options.rows or "exact"):
+        session.note("the rows don't add to 1 exactly: they are read by the rule `scaled`, each divided by its sum")
     result.evidence, result.notes = session.evidence, session.notes
     return result

@@ -11,28 +11,31 @@ class CannotPlot(Exception):
 
 
 def axes_of(result):
-    """What stands at the axes: the number of steps, and the value with its unit."""
+    """What stands at the axes: the number of steps, and the value by the name of the reward where it is one."""
     query = result.asked.tree
-    value = "probability" if query.operator == "P" else f"reward {result.evidence[-1].command}" if not query.reward else f"reward {getattr(query.reward, 'name', '')}"
-    return f"steps {query.path.steps.name}", value
+    return f"{query.path.steps.name}, steps", "probability" if query.operator == "P" else f"reward {getattr(query.reward, 'name', '')}".strip()
+
+
+def ready(path):
+    """Whether a plot can be drawn, before anything is computed for it."""
+    if os.path.splitext(path)[1] not in ENDINGS:
+        raise CannotPlot(f"a plot is {', '.join(ENDINGS)}: {path} ends with none of these")
+    try:
+        import matplotlib
+    except ImportError:
+        raise CannotPlot("--plot needs matplotlib: python3 -m pip install matplotlib; all else works without it, and --csv has the numbers") from None
+    matplotlib.use("Agg")
 
 
 def plot(path, result):
     """Draws lower and upper value by the number of steps."""
-    if os.path.splitext(path)[1] not in ENDINGS:
-        raise CannotPlot(f"a plot is {', '.join(ENDINGS)}: {path} ends with none of these")
     if not result.curve:
         raise CannotPlot('there is nothing to plot but an experiment, as Pmax=? [ F<=k "goal" ] with --const k=1:100')
-    try:
-        import matplotlib
+    from matplotlib import pyplot
 
-        matplotlib.use("Agg")
-        from matplotlib import pyplot
-    except ImportError:
-        raise CannotPlot("--plot needs matplotlib: python3 -m pip install matplotlib; all else works without it, and --csv has the numbers") from None
     steps = [k for k, _, _ in result.curve]
-    figure, axes = pyplot.subplots(figsize=(7, 4.2))
     lower, upper = ([float(value) if abs(value) < math.inf else math.nan for value in column] for column in list(zip(*result.curve))[1:])
+    figure, axes = pyplot.subplots(figsize=(7, 4.2))
     axes.plot(steps, upper, color="tab:red", label="upper", linewidth=1)
     axes.plot(steps, lower, color="tab:blue", label="lower", linewidth=1)
     axes.fill_between(steps, lower, upper, color="tab:gray", alpha=0.3)

@@ -43,6 +43,9 @@ class Model:
     states: list
     is_chain: bool = False
 
+    def labels(self):
+        return sorted({label for state in self.states for label in state.labels})
+
     def states_with(self, label):
         return [s for s, state in enumerate(self.states) if label in state.labels]
 
@@ -80,7 +83,7 @@ class Reader:
         elif self.waits == "nr_states":
             self.announced = int(text)
             if self.announced > self.most:
-                raise Unclear(self.path, self.number, f"{self.announced} states are too many here, the most are {self.most}")
+                raise Unclear(self.path, self.number, f"{self.announced} states are too many, the most are {self.most}")
         elif self.waits is None or text.startswith("@"):
             return self.entry(text)
         self.waits = None
@@ -130,7 +133,7 @@ class Reader:
         text = text.strip(" \t\r\n")
         if text.startswith("//"):
             if self.is_behind_state and text.startswith("//["):
-                self.states[-1].name = text[2:].strip()
+                self.states[-1].name = " ".join(text[2:].split())
             return
         if self.states is None:
             if text or self.waits in ("parameters", "reward_models"):

@@ -1,9 +1,9 @@
 -- What is due to `curve`, on small models.
-use Rattle.std.proofs.Common.{◌≡◌, ℕ, List, [], ◌∷◌, Option, Some, None, Ok, Err, refl, pos}
+use Rattle.std.proofs.Common.{ℕ, List, [], ◌∷◌, Some, None, Ok, Err, refl, pos}
 use Rattle.std.specs.{Prelude.{codes}, Fmt.{digits}}
 use Rattle.mdp_math.specs.{Gcd.{gcd, gcd_with_fuel}, Rational.{of_int, ratio}, Written.{narrow, narrow_ℚ}}
 use Rattle.mdp_num.specs.Value.{spelling}
-use Rattle.mdp_spec.specs.Mdp.{Choice, State, Mdp}
+use Rattle.mdp_spec.specs.Mdp.{Choice, Mdp}
 use Rattle.mdp_spec.proofs.Small.{entry, labelled}
 use Rattle.mdp_rows.specs.declared.dir.Dir.TheVariants.{Max, Min}
 use Rattle.mdp_horizon.specs.{Scaled.{rounded_sum}, Finer.{unit_of}, Curve.{curve_of}, CurveSpelling.{curve_text}}

@@ -4,7 +4,7 @@ use Rattle.mdp_math.specs.Result.{◌>>=◌}
 use Rattle.mdp_spec.specs.{Labels.{place_of, initial_of}, Mdp.{Mdp}, Row.{IsMdp}}
 use Rattle.mdp_rows.specs.{declared.dir.Dir.{Dir}, declared.dir.Dir.TheVariants.{Max, Min}}
 use Rattle.mdp_text.proofs.InitialState.{initial_below}
-use Rattle.mdp_horizon.specs.{declared.point.Point.{Point}, Objective.{Objective}, Objective.Objective.{until as until_objective, total as total_objective}}
+use Rattle.mdp_horizon.specs.{Objective.{Objective}, Objective.Objective.{until as until_objective, total as total_objective}}
 use Rattle.mdp_horizon.specs.{Finer.{unit_of}, Curve.{curve_of, IsFiniteCurve}, CurveSpelling.{curve_text}}
 use Rattle.mdp_horizon.specs.{BoundsSpelling.{PlainClaim}, BoundsSpelling.PlainClaim.{until as until_claim, total as total_claim}}
 use Rattle.mdp_horizon.proofs.{Turns.{ok_same, ok_part}, Curves.{length_by, bounds_by, max_by, min_by, near_by, finite_by}, Fineness.{unit-positive, unit-narrow}}
@@ -41,6 +41,7 @@ module _ (steps digits : ℕ) (m : Mdp) (mdp : IsMdp m) where
   finite_at : (dir : Dir) (asked : PlainClaim) (stays goals : List Bool) (text : List ℕ) (start : Option ℕ) (is : initial_of m ≡ start)
       (due : said_of_curve dir asked (until_objective stays goals) steps digits m start ≡ Ok text) → digits ≤ 30
       → IsFiniteCurve steps (IsCurvePrinted.curve (printed_at dir asked (until_objective stays goals) text start is due))
+  unfolding printed_at curve_of
   finite_at dir asked stays goals text None is due few = cc due
   finite_at dir asked stays goals text (Some s) is due few =
       let o : Objective = until_objective stays goals in

@@ -1,13 +1,14 @@
 -- Small models, computed.
-use Rattle.std.proofs.{Common.{◌≡◌, ℕ, ◌*◌, Bool, true, false, List, [], ◌∷◌, Option, Some, None, refl, arith, ℤ, pos, negsuc, ◌<ℤ◌}, lemmas.Int.{ints}}
+use Rattle.std.proofs.{Common.{◌≡◌, ℕ, zero, suc, ◌*◌, Bool, true, false, List, [], ◌∷◌, Option, Some, None, refl, arith, ℤ, pos, negsuc, ◌<ℤ◌}, lemmas.Int.{ints}}
 use Rattle.std.specs.{Prelude.{codes}, Fmt.{digits}}
 use Rattle.mdp_math.specs.{Gcd.{gcd, gcd_with_fuel}, Rational.{ℚ, of_int, ratio}, Written.{narrow, narrow_ℚ}}
+use Rattle.mdp_math.proofs.Options.{Some_same}
 use Rattle.mdp_num.specs.Value.{spelling}
 use Rattle.mdp_spec.specs.Mdp.{Entry, Choice, State, Mdp}
 use Rattle.mdp_spec.proofs.Small.{entry, labelled}
 use Rattle.mdp_rows.specs.declared.dir.Dir.TheVariants.{Max, Min}
 use Rattle.mdp_horizon.specs.{Objective.Objective.{until, total}, Whole.{rounded}, Scaled.{scaled, divided, rounded_sum}, Columns.{Bounds, bounds_of}}
-use Rattle.mdp_horizon.specs.{Exact.{HasRoom}, Finite.{AreProbabilities}, Gap.{IsNear, MeetWithin}, BoundsSpelling.{bounds_text}}
+use Rattle.mdp_horizon.specs.{Exact.{HasRoom}, Finite.{AreProbabilities}, Gap.{IsNear, MeetWithin, RowsHaveRoom}, BoundsSpelling.{bounds_text}}
 use Rattle.mdp_horizon.specs.BoundsSpelling.PlainClaim.{until as until_claim, total as total_claim}
 
 abbrev pub by : ℚ → List Entry → Choice
@@ -103,6 +104,23 @@ roomy = (omega (arith, ints), (pos 20, refl))
 no_room : HasRoom column (scaled (pos 10) (ratio (pos 1) 3) long) → ⊥
 unfolding narrow ratio of_int gcd gcd_with_fuel
 no_room h = let p : pos 0 <ℤ pos 0 = h.0 in omega (arith, ints)
+
+-- the rows of `thirds` have room for hundredths
+rows_have : RowsHaveRoom 100 thirds (until all goal)
+unfolding narrow ratio of_int gcd gcd_with_fuel
+rows_have zero zero h l = (3, refl, omega arith)
+rows_have (suc zero) zero h l = (1, refl, omega arith)
+rows_have zero (suc c) h l = absurd (omega (arith, l))
+rows_have (suc zero) (suc c) h l = absurd (omega (arith, l))
+rows_have (suc (suc s)) c h l = absurd (omega (arith, h))
+
+-- the long one of `wide` has a common denominator of 127 bits, and no room for tenths
+rows_lack : RowsHaveRoom 10 wide (until all goal) → ⊥
+unfolding narrow ratio of_int gcd gcd_with_fuel
+rows_lack rows =
+    let r = rows 0 0 (omega arith) (omega arith) in
+    let b = Some_same (pos 85070591730234615865843651857942052864) (pos r.0) r.1 in
+    omega (arith, ints, b, r.2)
 
 -- ---- the text
 

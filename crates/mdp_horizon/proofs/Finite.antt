@@ -20,11 +20,11 @@ use Rattle.mdp_horizon.proofs.Units.{units-one, in_units-is, no_better_in_units}
 abbrev pub IsInside : ℕ → ℤ → Type 0
 IsInside one k = (pos 0 ≤ℤ k) × (k ≤ℤ pos one)
 
-abbrev BothInside : ℕ → ℤ → ℤ → Type 0
+abbrev pub BothInside : ℕ → ℤ → ℤ → Type 0
 BothInside one k j = IsInside one k × IsInside one j
 
 -- a value that is there and inside
-abbrev IsThere : ℕ → Option ℤ → Type 0
+abbrev pub IsThere : ℕ → Option ℤ → Type 0
 IsThere one o = (k : ℤ) × (o ≡ Some k) × IsInside one k
 
 one_of : (one : ℕ) (b : Bool) (x y : ℤ) → IsInside one x → IsInside one y → IsInside one (if b then y else x)
@@ -152,7 +152,7 @@ stopped_inside one false true k e = cc
 stopped_inside one false false k e = subst (IsInside one) (Some_same (pos 0) k e) (ended_inside one false)
 
 module _ (dir : Dir) (one : ℕ) (m : Mdp) (stay goals : List Bool) (known_ : IsMdp m) (small : one < 2 ^ 127) where
-  inside_each : (n s : ℕ) → s < states_of m → AreBoth (BothInside one) (whole_at (cover dir (pos one) m (until stay goals) n) s) (whole_at (follow dir (pos one) m (until stay goals) n) s)
+  pub inside_each : (n s : ℕ) → s < states_of m → AreBoth (BothInside one) (whole_at (cover dir (pos one) m (until stay goals) n) s) (whole_at (follow dir (pos one) m (until stay goals) n) s)
   inside_each zero s h =
       ended_both dir (BothInside one) (pos one) m (until stay goals) s h (ended_inside one (is_marked goals s), ended_inside one (is_marked goals s))
   inside_each (suc n) s h =

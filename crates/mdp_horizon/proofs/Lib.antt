@@ -30,3 +30,4 @@ mod BoundsExamples
 mod CurveExamples
 pub mod Fineness
 pub mod Curves
+pub mod Room

@@ -1,8 +1,8 @@
 -- What rounded sums say of exact ones.
-use Rattle.std.specs.Prelude.{◌≡◌, ℕ, ◌*◌, ◌<◌, List, Option, Some, ℤ, pos}
+use Rattle.std.specs.Prelude.{◌≡◌, ℕ, ◌*◌, ◌<◌, ◌^◌, Bool, List, Option, Some, ℤ, pos}
 use Rattle.mdp_spec.specs.{Mdp.{Mdp, states_of}, Row.{IsMdp}}
 use Rattle.mdp_rows.specs.declared.dir.Dir.{Dir}
-use Rattle.mdp_horizon.specs.{Objective.{Objective}, Exact.{SumLiesBeyond, HasRoom, SumIsWithin}, Gap.{NoneIsWide, MeetWithin}, Scaled.{Scaled, rounded_sum}}
+use Rattle.mdp_horizon.specs.{Objective.{Objective}, Objective.Objective.{until}, Exact.{SumLiesBeyond, HasRoom, SumIsWithin}, Gap.{NoneIsWide, RowsHaveRoom, MeetWithin}, Scaled.{Scaled, rounded_sum}}
 
 -- a rounded sum lies on its side of the exact sum
 abbrev pub SumsLieBeyond : Type 0
@@ -15,3 +15,8 @@ SumsAreWithin = (side : Dir) (column : List (Option ℤ)) (x : Scaled) (k : ℤ)
 -- where no row is wide, the two columns come at most 2 units a step apart
 abbrev pub ColumnsAreNear : Type 0
 ColumnsAreNear = (dir : Dir) (one : ℕ) (m : Mdp) (o : Objective) (n s : ℕ) → 0 < one → IsMdp m → NoneIsWide dir (pos one) m o n → s < states_of m → MeetWithin dir (pos one) m o n (2 * n) s
+
+-- where the rows have room, none is wide for a bounded until, whatever the columns are
+abbrev pub RoomIsEnough : Type 0
+RoomIsEnough =
+    (dir : Dir) (one : ℕ) (m : Mdp) (stay goals : List Bool) (n : ℕ) → one < 2 ^ 127 → IsMdp m → RowsHaveRoom one m (until stay goals) → NoneIsWide dir (pos one) m (until stay goals) n

@@ -1,5 +1,5 @@
 -- The unit of a curve: as much finer than what was asked for as its steps cost, as far as the rows have room for it.
-use Rattle.std.specs.Prelude.{ℕ, zero, suc, ◌+◌, ◌*◌, ◌-◌, ◌/◌, ◌^◌, ◌&&◌, not, List, [], ◌∷◌, pos, unsigned_abs, unwrap_or, nat_lt, if◌then◌else◌}
+use Rattle.std.specs.Prelude.{ℕ, zero, suc, ◌+◌, ◌*◌, ◌-◌, ◌/◌, ◌≤◌, ◌^◌, ◌&&◌, not, List, [], ◌∷◌, pos, unsigned_abs, unwrap_or, nat_lt, if◌then◌else◌}
 use Rattle.mdp_spec.specs.Mdp.{Choice, State, Mdp}
 use Rattle.mdp_horizon.specs.{declared.finer.Widest.{Widest}, Objective.{Objective, gain_of}, Objective.Objective.{until, total}, Scaled.{common_in}}
 
@@ -57,3 +57,9 @@ factor_of steps room = finer_by steps room 7
 -- how many units make 1
 unfoldable pub unit_of : Mdp → Objective → ℕ → ℕ → ℕ
 unit_of m o digits steps = 10 ^ digits * factor_of steps (room (widest m o) (span o steps) (10 ^ digits))
+
+-- where there is room for ten times the number of steps, the unit is as fine as these cost
+abbrev pub UnitIsFine : Type 0
+UnitIsFine =
+    (m : Mdp) (o : Objective) (digits steps : ℕ) → steps ≤ 10 ^ 7 → steps * 10 ≤ room (widest m o) (span o steps) (10 ^ digits)
+    → steps * 10 ^ digits ≤ unit_of m o digits steps

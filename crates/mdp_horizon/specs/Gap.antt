@@ -1,15 +1,21 @@
 -- How near the two columns come.
-use Rattle.std.specs.Prelude.{◌≡◌, ℕ, ◌<◌, length, Some, ℤ, pos, ◌+ℤ◌, ◌≤ℤ◌}
+use Rattle.std.specs.Prelude.{◌≡◌, ℕ, ◌*◌, ◌<◌, ◌^◌, length, Some, ℤ, pos, ◌+ℤ◌, ◌≤ℤ◌}
 use Rattle.mdp_math.specs.Rational.{ℚ, ratio, ◌+ℚ◌, ◌≤ℚ◌}
-use Rattle.mdp_spec.specs.{Mdp.{Mdp, states_of, choices_at, choice_at}, Bounds.{reward_at}}
+use Rattle.mdp_spec.specs.{Mdp.{Mdp, states_of, choices_at, choice_at, row_at}, Bounds.{reward_at}}
 use Rattle.mdp_rows.specs.{declared.dir.Dir.{Dir}, declared.dir.Dir.TheVariants.{Max, Min}}
-use Rattle.mdp_horizon.specs.{Objective.{Objective}, Whole.{whole_at}, Columns.{scaled_choice, cover, follow, Bounds}, Exact.{HasRoom}}
+use Rattle.mdp_horizon.specs.{Objective.{Objective, gain_of}, Scaled.{common_in}, Whole.{whole_at}, Columns.{scaled_choice, cover, follow, Bounds}, Exact.{HasRoom}}
 
 -- with fewer than n steps left, each choice of each state has room over both columns
 abbrev pub NoneIsWide : Dir → ℤ → Mdp → Objective → ℕ → Type 0
 NoneIsWide dir one m o n =
     (left s c : ℕ) → left < n → s < states_of m → c < length (choices_at m s)
     → HasRoom (cover dir one m o left) (scaled_choice one o (choice_at m s c)) × HasRoom (follow dir one m o left) (scaled_choice one o (choice_at m s c))
+
+-- each row has a common denominator, with that of what is earned at once; and times the units that make 1 it stays within 127 bits
+abbrev pub RowsHaveRoom : ℕ → Mdp → Objective → Type 0
+RowsHaveRoom one m o =
+    (s c : ℕ) → s < states_of m → c < length (choices_at m s)
+    → (b : ℕ) × (common_in (pos (gain_of o (choice_at m s c)).den) (row_at m s c) ≡ Some (pos b)) × (b * one < 2 ^ 127)
 
 -- low is at most high, and high at most u more
 abbrev pub IsNear : ℕ → ℤ → ℤ → Type 0

@@ -76,10 +76,10 @@ impl Query<'_> {
     }
 }
 
-/// For each number of steps from 0 to `steps` a lower and an upper value of the greatest or the least probability of coming from state `start` to a goal
-/// by way of states that stay, by backward induction in whole numbers that are rounded outward. No choices are kept. The unit is finer than 10^-digits
-/// by the least power of ten that isn't below `steps`, or by less where a row has no room for that: so where no row is wide, the two values of each
-/// number of steps are at most 10^-digits apart. Each value is there, from 0 to 1.
+/// For each number of steps from 0 to `steps` a lower and an upper value of the greatest or the least probability of coming from state `start` to a
+/// goal by way of states that stay, by backward induction in whole numbers that are rounded outward. No choices are kept. The unit is finer than
+/// 10^-digits by the least power of ten that isn't below `steps`, or by less where a row has no room for that: so where no row is wide, the two values
+/// of each number of steps are at most 10^-digits apart. Each value is there, from 0 to 1.
 pub fn until_curve(
     alloc: Global,
     model: &Model,
@@ -94,9 +94,11 @@ pub fn until_curve(
     requires goals_each { length goals.now ≡ states_of model.now }
     requires start { start < states_of model.now }
     requires digits { digits ≤ 30 }
-    ensures written { let o = until stay.now goals.now in IfOk result (λ curve. curve.items ≡ curve_of dir (pos (unit_of model.now o digits steps)) model.now o start steps) }
+    ensures written { let o = until stay.now goals.now in
+        IfOk result (λ curve. curve.items ≡ curve_of dir (pos (unit_of model.now o digits steps)) model.now o start steps) }
     ensures length { IfOk result (λ curve. length curve.items ≡ steps + 1) }
-    ensures bounds { let o = until stay.now goals.now in IfOk result (λ curve. IsCurveOfBounds dir (pos (unit_of model.now o digits steps)) model.now o start steps curve.items) }
+    ensures bounds { let o = until stay.now goals.now in
+        IfOk result (λ curve. IsCurveOfBounds dir (pos (unit_of model.now o digits steps)) model.now o start steps curve.items) }
     ensures max { dir ≡ Max → IfOk result (λ curve. IsMaxCurve model.now (until stay.now goals.now) start steps curve.items) }
     ensures min { dir ≡ Min → IfOk result (λ curve. IsMinCurve model.now (until stay.now goals.now) start steps curve.items) }
     ensures finite { IfOk result (λ curve. IsFiniteCurve steps curve.items) }
@@ -127,9 +129,11 @@ pub fn total_curve(
     requires name { name < length model.now.names }
     requires start { start < states_of model.now }
     requires digits { digits ≤ 30 }
-    ensures written { let o = total name in IfOk result (λ curve. curve.items ≡ curve_of dir (pos (unit_of model.now o digits steps)) model.now o start steps) }
+    ensures written { let o = total name in
+        IfOk result (λ curve. curve.items ≡ curve_of dir (pos (unit_of model.now o digits steps)) model.now o start steps) }
     ensures length { IfOk result (λ curve. length curve.items ≡ steps + 1) }
-    ensures bounds { let o = total name in IfOk result (λ curve. IsCurveOfBounds dir (pos (unit_of model.now o digits steps)) model.now o start steps curve.items) }
+    ensures bounds { let o = total name in
+        IfOk result (λ curve. IsCurveOfBounds dir (pos (unit_of model.now o digits steps)) model.now o start steps curve.items) }
     ensures max { dir ≡ Max → IfOk result (λ curve. IsMaxCurve model.now (total name) start steps curve.items) }
     ensures min { dir ≡ Min → IfOk result (λ curve. IsMinCurve model.now (total name) start steps curve.items) }
     ensures near { let o = total name in

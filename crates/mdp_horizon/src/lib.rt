@@ -35,7 +35,7 @@ mod write;
 pub use bounded::Bounded;
 pub use bounds::HorizonBounds;
 pub use bounds_induction::{total_bounds, until_bounds};
-pub use bounds_laws::{gap_law, rounding_law};
+pub use bounds_laws::{gap_law, room_law, rounding_law, unit_law};
 pub use bounds_objective::Objective;
 pub use bounds_write::write_horizon_bounds;
 pub use choice::{Scale, ScaledChoice, Term};

@@ -4,26 +4,46 @@ use Rattle.mdp_horizon.proofs.{Curves.{length_by, bounds_by, max_by, min_by, nea
 use Rattle.mdp_horizon.proofs.curve.total_curve.Goals as goal
 
 pub returns-clause-length : goal.returns-clause-length
-returns-clause-length c = IfOk-weaker c.finer_curve.result _ _
-    (λ curve h. length_by (unit_of c.args.model.now (total c.args.name) c.args.digits c.args.steps)
-    (unit-positive c.args.model.now (total c.args.name) c.args.digits c.args.steps) c.args.model.now (total c.args.name) c.known.ensures.mdp c.args.start c.args.steps c.requires.start _ c.args.dir h) c.finer_curve.ensures
+returns-clause-length c =
+    let m = c.args.model.now in
+    let o = total c.args.name in
+    let d = c.args.digits in
+    let n = c.args.steps in
+    IfOk-weaker c.finer_curve.result _ _ (λ curve h. length_by (unit_of m o d n) (unit-positive m o d n) m o c.known.ensures.mdp c.args.start n c.requires.start _ c.args.dir h)
+    c.finer_curve.ensures
 
 pub returns-clause-bounds : goal.returns-clause-bounds
-returns-clause-bounds c = IfOk-weaker c.finer_curve.result _ _
-    (λ curve h. bounds_by (unit_of c.args.model.now (total c.args.name) c.args.digits c.args.steps)
-    (unit-positive c.args.model.now (total c.args.name) c.args.digits c.args.steps) c.args.model.now (total c.args.name) c.known.ensures.mdp c.args.start c.args.steps c.requires.start _ c.args.dir h) c.finer_curve.ensures
+returns-clause-bounds c =
+    let m = c.args.model.now in
+    let o = total c.args.name in
+    let d = c.args.digits in
+    let n = c.args.steps in
+    IfOk-weaker c.finer_curve.result _ _ (λ curve h. bounds_by (unit_of m o d n) (unit-positive m o d n) m o c.known.ensures.mdp c.args.start n c.requires.start _ c.args.dir h)
+    c.finer_curve.ensures
 
 pub returns-clause-max : goal.returns-clause-max
-returns-clause-max c = λ is. IfOk-weaker c.finer_curve.result _ _
-    (λ curve h. max_by (unit_of c.args.model.now (total c.args.name) c.args.digits c.args.steps)
-    (unit-positive c.args.model.now (total c.args.name) c.args.digits c.args.steps) c.args.model.now (total c.args.name) c.known.ensures.mdp c.args.start c.args.steps c.requires.start _ c.args.dir h is) c.finer_curve.ensures
+returns-clause-max c =
+    let m = c.args.model.now in
+    let o = total c.args.name in
+    let d = c.args.digits in
+    let n = c.args.steps in
+    λ is. IfOk-weaker c.finer_curve.result _ _ (λ curve h. max_by (unit_of m o d n) (unit-positive m o d n) m o c.known.ensures.mdp c.args.start n c.requires.start _ c.args.dir h is)
+    c.finer_curve.ensures
 
 pub returns-clause-min : goal.returns-clause-min
-returns-clause-min c = λ is. IfOk-weaker c.finer_curve.result _ _
-    (λ curve h. min_by (unit_of c.args.model.now (total c.args.name) c.args.digits c.args.steps)
-    (unit-positive c.args.model.now (total c.args.name) c.args.digits c.args.steps) c.args.model.now (total c.args.name) c.known.ensures.mdp c.args.start c.args.steps c.requires.start _ c.args.dir h is) c.finer_curve.ensures
+returns-clause-min c =
+    let m = c.args.model.now in
+    let o = total c.args.name in
+    let d = c.args.digits in
+    let n = c.args.steps in
+    λ is. IfOk-weaker c.finer_curve.result _ _ (λ curve h. min_by (unit_of m o d n) (unit-positive m o d n) m o c.known.ensures.mdp c.args.start n c.requires.start _ c.args.dir h is)
+    c.finer_curve.ensures
 
 pub returns-clause-near : goal.returns-clause-near
-returns-clause-near c = IfOk-weaker c.finer_curve.result _ _
-    (λ curve h. near_by (unit_of c.args.model.now (total c.args.name) c.args.digits c.args.steps)
-    (unit-positive c.args.model.now (total c.args.name) c.args.digits c.args.steps) c.args.model.now (total c.args.name) c.known.ensures.mdp c.args.start c.args.steps c.requires.start _ c.args.dir c.args.digits h) c.finer_curve.ensures
+returns-clause-near c =
+    let m = c.args.model.now in
+    let o = total c.args.name in
+    let d = c.args.digits in
+    let n = c.args.steps in
+    IfOk-weaker c.finer_curve.result _ _ (λ curve h. near_by (unit_of m o d n) (unit-positive m o d n) m o c.known.ensures.mdp c.args.start n c.requires.start _ c.args.dir d h)
+    c.finer_curve.ensures
