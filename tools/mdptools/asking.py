@@ -266,12 +266,13 @@ class Session:
         objective = objective[1:] if command in ("horizon", "discount", "total") else objective
         output = self.file((command, objective, question.direction, str(question.model)), ".cert" if question.steps is None else ".table")
         ended = self.call(command, question, objective, output, self.options.seconds)
+        so_bounds = ", so bounds were asked for" if "bounds" in self.options.ways else ""
         if ended.status == 0:
             return self.answer(question, command, output)
         if ended.status is None:
-            self.note(f"{command} took longer than {self.options.seconds:g} seconds, so bounds were asked for")
+            self.note(f"{command} took longer than {self.options.seconds:g} seconds{so_bounds}")
         elif ended.first.startswith("too-wide"):
-            self.note(f"{command} is too wide: its fractions need more than 127 bits, so bounds were asked for")
+            self.note(f"{command} is too wide: its fractions need more than 127 bits{so_bounds}")
         elif ended.first != "query steps":
             self.refuse(ended)
         return None
@@ -440,6 +441,7 @@ def of_query(session, query, result, states=None, pick=""):
         result.low, result.high = picked(answer, states, pick)
     elif len(states) > 1 and result.low != result.high:
         result.is_range = answer.is_exact
+        session.note(f"over {len(states)} states, from the least value to the greatest")
     if query.relation and not pick:
         result.truth = all_true([decided(answer.lower[s], answer.upper[s], query.relation, query.threshold) for s in states])
     elif query.relation:
