@@ -11,6 +11,8 @@ sys.dont_write_bytecode = True
 from mdptools.drn import Choice, Model, State, text_of  # noqa: E402
 
 TOP = pathlib.Path(__file__).resolve().parent.parent
+# The program that is run, where the command line names one.
+PROGRAM = []
 INFINITE = {"inf": math.inf, "-inf": -math.inf}
 
 
@@ -20,9 +22,21 @@ def built_program():
     return max((path for path in places if path.exists()), key=lambda path: path.stat().st_mtime, default=TOP / "bin" / "mdp")
 
 
+def take_words(doc):
+    """Prints the help where it is asked for, and ends; a word may name the program that is run in place of bin/mdp."""
+    words = sys.argv[1:]
+    if words[:1] in (["--help"], ["-h"]):
+        print(doc)
+        sys.exit(0)
+    if len(words) > 1:
+        sys.exit(f"usage: tools/{pathlib.Path(sys.argv[0]).name} [PROGRAM]")
+    PROGRAM.extend(pathlib.Path(word).resolve() for word in words)
+
+
 def run(*words):
     """What the program writes on these words, and its status."""
-    ended = subprocess.run([TOP / "bin" / "mdp", *words], cwd=TOP, stdout=subprocess.PIPE, stderr=subprocess.DEVNULL, check=False)
+    program = PROGRAM[0] if PROGRAM else TOP / "bin" / "mdp"
+    ended = subprocess.run([program, *words], cwd=TOP, stdout=subprocess.PIPE, stderr=subprocess.DEVNULL, check=False)
     return ended.stdout, ended.returncode
 
 

@@ -266,12 +266,13 @@ class Session:
         objective = objective[1:] if command in ("horizon", "discount", "total") else objective
         output = self.file((command, objective, question.direction, str(question.model)), ".cert" if question.steps is None else ".table")
         ended = self.call(command, question, objective, output, self.options.seconds)
+        so_bounds = ", so bounds were asked for" if "bounds" in self.options.ways else ""
         if ended.status == 0:
             return self.answer(question, command, output)
         if ended.status is None:
-            self.note(f"{command} took longer than {self.options.seconds:g} seconds, so bounds were asked for")
+            self.note(f"{command} took longer than {self.options.seconds:g} seconds{so_bounds}")
         elif ended.first.startswith("too-wide"):
-            self.note(f"{command} is too wide: its fractions need more than 127 bits, so bounds were asked for")
+            self.note(f"{command} is too wide: its fractions need more than 127 bits{so_bounds}")
         elif ended.first != "query steps":
             self.refuse(ended)
         return None
@@ -304,7 +305,10 @@ class Session:
         ended = self.call("curve", question, objective, output)
         if ended.status != 0:
             self.refuse(ended)
-        pairs = certificates.read(output).curve
+        text = certificates.read(output)
+        pairs, due = text.curve, [claim.rpartition(" ")[0] for claim in replace(question, steps=steps).claims()]
+        if text.claim not in due or len(pairs) != steps + 1 or text.start != self.starts[0]:
+            raise Refused(70, f"{self.solver.name} answers another question: {text.claim[:200]}", f"asked was {due[0][:200]} with {steps} steps")
         if question.is_complement:
             pairs = [(1 - high, 1 - low) for low, high in pairs]
         return pairs, self.vouched(Evidence(f"curve, {digits} digits", self.kept(output), question.model, self.rows, self.solver, is_bounds=True))
@@ -316,7 +320,8 @@ class Session:
     def answer(self, question, command, output, digits=0):
         """What a text says, once it is checked where it is a certificate."""
         text = certificates.read(output)
-        if text.claim not in question.claims() or len(text.lower) != self.size:
+        start = self.starts[0] if len(self.starts) == 1 else None
+        if text.claim not in question.claims() or len(text.lower) != self.size or text.start != start:
             raise Refused(70, f"{self.solver.name} answers another question: {text.claim[:200]}", f"asked was {question.claims()[0][:200]}")
         evidence = Evidence(command, output, question.model, self.rows, self.solver, is_bounds=text.is_bounds)
         if question.steps is None:
@@ -436,6 +441,7 @@ def of_query(session, query, result, states=None, pick=""):
         result.low, result.high = picked(answer, states, pick)
     elif len(states) > 1 and result.low != result.high:
         result.is_range = answer.is_exact
+        session.note(f"over {len(states)} states, from the least value to the greatest")
     if query.relation and not pick:
         result.truth = all_true([decided(answer.lower[s], answer.upper[s], query.relation, query.threshold) for s in states])
     elif query.relation:

@@ -1,5 +1,5 @@
-//! The commands of a given policy: `policy`, the probabilities with which it reaches a label, by way of any states or of those of another label alone,
-//! and where another choice is better; and `chain`, the model in which each state keeps only the choice that the policy names.
+//! The commands of a given policy: `policy`, the probabilities with which it reaches a label, by way of any states or of those of another label
+//! alone, and where another choice is better; and `chain`, the model in which each state keeps only the choice that the policy names.
 #![tactic(auto)]
 
 mod chain_laws;

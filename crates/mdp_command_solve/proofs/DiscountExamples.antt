@@ -1,5 +1,5 @@
 -- What is due to `discount` of a model, computed.
-use Rattle.std.proofs.Common.{◌≡◌, [], ◌∷◌, None, Err, refl, pos}
+use Rattle.std.proofs.Common.{[], ◌∷◌, None, Err, refl, pos}
 use Rattle.std.specs.Prelude.{codes}
 use Rattle.mdp_math.specs.Rational.{ratio}
 use Rattle.mdp_spec.specs.Mdp.{Mdp}

@@ -86,7 +86,8 @@ module _ (reads : TextReads) (short : TextIsShort) (rows : HasRows) (states : Ha
   on-layered a text f e =
       let m = layered_model number layers width in
       let cert = certificate_of Max None goal m a in
-      let p = printed_by m cert refl (rows number layers width shape) back (accepted Max None goal m (goals m) a refl f.rules (record { values = f.values; choices = f.rules.rules.choices.one_each; ranks = f.ranks })) f.fits (text_of cert) refl in
+      let each : HasOneEach m a = record { values = f.values; choices = f.rules.rules.choices.one_each; ranks = f.ranks } in
+      let p = printed_by m cert refl (rows number layers width shape) back (accepted Max None goal m (goals m) a refl f.rules each) f.fits (text_of cert) refl in
       record {
         given = record { answer = a; spelled = e ∙ line-is states choices number layers width shape a; ends = f.ends; labelled = refl; greatest = f.greatest };
         solved = record {

@@ -13,7 +13,7 @@ use Rattle.mdp_reach.specs.Query.{Answer}
 use Rattle.mdp_mean.specs.Query as averaged
 use Rattle.mdp_cert.specs.{Runs.{longest_runs}, Spelling.{run_text, run_lines, text_in}}
 use Rattle.mdp_text.specs.{Spelling.{line}, declared.init.Init.TheVariants.{Missing}}
-use Rattle.mdp_job.specs.{Job.{reach, until, mean}, Refusal.{query_reward, query_label, too_wide}}
+use Rattle.mdp_job.specs.{Job.{until, mean}, Refusal.{query_reward, query_label, too_wide}}
 use Rattle.mdp_command.specs.Said.{Said}
 use Rattle.mdp_command_solve.specs.{Ways.{place_on_way}, Due.{said_of_end, mean_certificate_of, said_of_mean_end, IsQueryDue}}
 

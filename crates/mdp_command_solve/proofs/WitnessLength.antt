@@ -1,5 +1,6 @@
 -- The text of a witness has at most 2^30 bytes: a line for each kept state, and at most one flow for each state.
-use Rattle.std.proofs.Common.{◌≡◌, ℕ, zero, suc, ◌+◌, ◌*◌, ◌<◌, ◌≤◌, ◌^◌, Bool, true, false, List, [], ◌∷◌, ◌++◌, length, get_or, codes, decimal, Option, Some, None, refl, arith, lit<}
+use Rattle.std.proofs.Common.{◌≡◌, ℕ, zero, suc, ◌+◌, ◌*◌, ◌<◌, ◌≤◌, ◌^◌, Bool, true, false, List, [], ◌∷◌, ◌++◌, length, get_or, arith, lit<}
+use Rattle.std.proofs.Common.{codes, decimal, Option, Some, None, refl}
 use Rattle.std.proofs.{lemmas.Bool.{and_parts}, lemmas.List.{length-append}, lemmas.List.Elements.{recursion_from_All}}
 use Rattle.std.specs.List.{All, AllByRecursion as Each, join_with_byte}
 use Rattle.mdp_math.specs.Rational.{ℚ}

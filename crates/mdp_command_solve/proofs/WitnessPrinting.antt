@@ -33,11 +33,8 @@ pub own_shape : (dir : Dir) (m : Mdp) (found : PlainSubsystem) → HasShape dir 
 own_shape dir m found shape = subst (λ (d : Dir). HasShape d m found) (sym (dir_is dir m found shape)) shape
 
 module _ (m : Mdp) (goals : List Bool) (stay : Option (List ℕ)) where
-  abbrev way : Mdp
-  way = way_by m goals stay
-
   -- what is left of the model has its states
-  pub shape_of_way : (dir : Dir) (found : PlainSubsystem) → HasShape dir way found → HasShape dir m found
+  pub shape_of_way : (dir : Dir) (found : PlainSubsystem) → HasShape dir (way_by m goals stay) found → HasShape dir m found
   shape_of_way Max (flow kept wide flows) shape =
       let e = way_states m goals stay in
       record {
@@ -58,11 +55,11 @@ module _ (m : Mdp) (goals : List Bool) (stay : Option (List ℕ)) where
         one_rank_each = shape.one_rank_each;
       }
 
-  few_of_way : (found : PlainSubsystem) → HasFewFlows way found → HasFewFlows m found
+  few_of_way : (found : PlainSubsystem) → HasFewFlows (way_by m goals stay) found → HasFewFlows m found
   few_of_way (flow kept wide flows) few = subst (λ (n : ℕ). length flows ≤ n) (way_states m goals stay) few
   few_of_way (floor kept wide values ranks) few = tt
 
-  kept_of_way : (found : PlainSubsystem) → kept_in way found ≡ kept_in m found
+  kept_of_way : (found : PlainSubsystem) → kept_in (way_by m goals stay) found ≡ kept_in m found
   kept_of_way found = ap (λ (n : ℕ). kept_marks n (kept_of found)) (way_states m goals stay)
 
 module _ (m : Mdp) (mdp : IsMdp m) (goals : List Bool) (start : ℕ) (threshold : ℚ) (kept : List Bool) where

@@ -1,9 +1,10 @@
-//! The commands that search and certify what they find: `solve`, the best values of a model, with a policy and a certificate; `discount`, the same of
-//! discounted rewards; `witness`, a subsystem on which the best probability of reaching a label is still at least a threshold; and `drill`: a generated
-//! model, read and solved, and a line of its numbers.
+//! The commands that search and certify what they find: `solve`, the best values of a model, with a policy and a certificate; `discount`, the same
+//! of discounted rewards; `witness`, a subsystem on which the best probability of reaching a label is still at least a threshold; and `drill`: a
+//! generated model, read and solved, and a line of its numbers.
 //!
-//! A query of `solve` is a case of `solve_query`: what it asks for is looked up in the model, its solver answers, and the answer's certificate is written
-//! by `certificate_text`. To add one, give its certificate in `certificate`, its steps in a module beside `reaching`, and its cases in specs/Due.
+//! A query of `solve` is a case of `solve_query`: what it asks for is looked up in the model, its solver answers, and the answer's certificate is
+//! written by `certificate_text`. To add one, give its certificate in `certificate`, its steps in a module beside `reaching`, and its cases in
+//! specs/Due. Reaching a label by way of some states alone is asked of what is left of the model for that way (`ways`), by `solve` and `witness`.
 #![tactic(auto)]
 
 mod averaging;

@@ -53,7 +53,8 @@ pub(crate) fn solve_label(
     stay: Option<&[u8]>,
     label: &[u8],
 ) -> Result<Vec<u8>, Refusal>
-    ensures due { (said result ≡ Err no_memory) ⊎ IsReachDue dir (name_of stay.entry) label.now model.now (place_on_way model.now (name_of stay.entry) label.now) (said result) }
+    ensures due { (said result ≡ Err no_memory) ⊎
+        IsReachDue dir (name_of stay.entry) label.now model.now (place_on_way model.now (name_of stay.entry) label.now) (said result) }
     ensures printed { IfOk (said result) (IsReachPrinted dir (name_of stay.entry) label.now model.now) }
 {
     let Some(place) = place_on_way(model, stay, label) else {

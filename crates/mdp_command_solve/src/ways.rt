@@ -27,8 +27,8 @@ pub(crate) fn owned(alloc: Global, stay: Option<&[u8]>) -> Result<Option<Vec<u8>
     }
 }
 
-/// What is left of the model for a way that keeps to states with this label: each state that is neither on it nor a goal is left with a loop. The label
-/// is one of the model.
+/// What is left of the model for a way that keeps to states with this label, those that the model has: each state that is neither on it nor a goal is
+/// left with a loop.
 fn left_of(alloc: Global, model: &Model, goals: &Marks, stay: &[u8]) -> Result<Model, Memory>
     requires goals { length goals.now ≡ states_of model.now }
     ensures { IfOk result (λ way. way ≡ way_of model.now goals.now stay.now) }

@@ -93,7 +93,8 @@ pub fn certificate_of(
     requires threshold { of_int (pos 0) ≤ℚ threshold }
     requires start { start < states_of model.now }
     requires shape { HasShape (dir_of (witness.plain found)) model.now (witness.plain found) }
-    ensures certificate { plain result ≡ certificate_of (dir_of (witness.plain found)) (owned_name stay) label.items threshold start model.now (witness.plain found) }
+    ensures certificate { plain result ≡
+        certificate_of (dir_of (witness.plain found)) (owned_name stay) label.items threshold start model.now (witness.plain found) }
     ensures fits { Fits (plain result) }
 {
     match found {

@@ -3,7 +3,8 @@ ghost use Rattle.mdp_command.specs.Prelude.{IsAtEnd, no_memory, plain_refusal, s
 ghost use Rattle.mdp_math.specs.Rational.{◌≤ℚ◌, of_int};
 ghost use Rattle.mdp_spec.specs.Labels.{marks_of, initial_of};
 ghost use Rattle.mdp_check.specs.Check.{way_by};
-ghost use Rattle.mdp_command_solve.specs.{Ways.{name_of, place_on_way, goals_by}, WitnessCode.{refusal_of}, WitnessDue.{IsEndDue, IsWitnessDue}, WitnessShown.{IsWitnessPrinted, IsWitnessRead}};
+ghost use Rattle.mdp_command_solve.specs.{Ways.{name_of, place_on_way, goals_by}, WitnessCode.{refusal_of}};
+ghost use Rattle.mdp_command_solve.specs.{WitnessDue.{IsEndDue, IsWitnessDue}, WitnessShown.{IsWitnessPrinted, IsWitnessRead}};
 
 use crate::ways::{cut_of, owned, place_on_way, way_in};
 use crate::witness_certificate::certificate_of;
@@ -50,7 +51,8 @@ impl Asked<'_> {
         requires goals { goals_by model.now (name_of self.now.stay) self.now.label.now ≡ Some goals.now }
         requires initial { initial_of model.now ≡ Some start }
         requires threshold { of_int (pos 0) ≤ℚ self.now.threshold }
-        ensures due { (said result ≡ Err no_memory) ⊎ IsEndDue self.now.dir (name_of self.now.stay) self.now.label.now self.now.threshold model.now goals.now start (said result) }
+        ensures due { (said result ≡ Err no_memory) ⊎
+            IsEndDue self.now.dir (name_of self.now.stay) self.now.label.now self.now.threshold model.now goals.now start (said result) }
         ensures printed { IfOk (said result) (IsWitnessPrinted self.now.dir (name_of self.now.stay) self.now.label.now self.now.threshold model.now) }
     {
         model.known();
@@ -80,7 +82,8 @@ impl Asked<'_> {
         requires named { place_on_way model.now (name_of self.now.stay) self.now.label.now ≡ Some place }
         requires initial { initial_of model.now ≡ Some start }
         requires threshold { of_int (pos 0) ≤ℚ self.now.threshold }
-        ensures due { (said result ≡ Err no_memory) ⊎ IsEndDue self.now.dir (name_of self.now.stay) self.now.label.now self.now.threshold model.now (marks_of model.now place) start (said result) }
+        ensures due { (said result ≡ Err no_memory) ⊎
+            IsEndDue self.now.dir (name_of self.now.stay) self.now.label.now self.now.threshold model.now (marks_of model.now place) start (said result) }
         ensures printed { IfOk (said result) (IsWitnessPrinted self.now.dir (name_of self.now.stay) self.now.label.now self.now.threshold model.now) }
     {
         let goals = match model.marks_of(alloc, place) {
@@ -97,7 +100,8 @@ impl Asked<'_> {
     /// The text for a model, or its refusal: the label is looked up first, and that of the states on the way, then the one initial state.
     fn of_model(&self, alloc: Global, model: &Model) -> Result<Vec<u8>, Refusal>
         requires { of_int (pos 0) ≤ℚ self.now.threshold }
-        ensures due { (said result ≡ Err no_memory) ⊎ IsWitnessDue self.now.dir (name_of self.now.stay) self.now.label.now self.now.threshold model.now (said result) }
+        ensures due { (said result ≡ Err no_memory) ⊎
+            IsWitnessDue self.now.dir (name_of self.now.stay) self.now.label.now self.now.threshold model.now (said result) }
         ensures printed { IfOk (said result) (IsWitnessPrinted self.now.dir (name_of self.now.stay) self.now.label.now self.now.threshold model.now) }
     {
         let Some(place) = place_on_way(model, self.stay, self.label) else {

@@ -99,7 +99,12 @@ safe = Some (true ∷ false ∷ false ∷ [])
 abbrev way : Mdp
 way = way_model detour safe last
 
-read_there : AreEqual ((way_policy safe last (0 ∷ 1 ∷ 0 ∷ []), 0 ∷ 0 ∷ 0 ∷ []) ∷ (way_policy safe last (1 ∷ 1 ∷ 0 ∷ []), 1 ∷ 0 ∷ 0 ∷ []) ∷ (way_policy None last (1 ∷ 1 ∷ 0 ∷ []), 1 ∷ 1 ∷ 0 ∷ []) ∷ [])
+read_there : AreEqual (
+    (way_policy safe last (0 ∷ 1 ∷ 0 ∷ []), 0 ∷ 0 ∷ 0 ∷ []) ∷
+    (way_policy safe last (1 ∷ 1 ∷ 0 ∷ []), 1 ∷ 0 ∷ 0 ∷ []) ∷
+    (way_policy None last (1 ∷ 1 ∷ 0 ∷ []), 1 ∷ 1 ∷ 0 ∷ []) ∷
+    []
+    )
 read_there = refl
 
 -- to go by state 1 reaches the goal for certain; of coming there by way of state 0 alone it has no chance, and the other choice is better

@@ -1,5 +1,6 @@
 -- What rules for a policy's values say of trees, and what follows from a choice that is better and from none.
-use Rattle.std.proofs.Common.{◌≡◌, ℕ, zero, suc, ◌<◌, ◌≤◌, ⊎_elim, Bool, true, false, cond, ltb, lt-ltb, ltb-true, List, [], ◌∷◌, length, get_or, Option, None, refl, sym, ◌∙◌, ap, subst, arith, pos}
+use Rattle.std.proofs.Common.{◌≡◌, ℕ, zero, suc, ◌<◌, ◌≤◌, ⊎_elim, Bool, true, false, cond, ltb, lt-ltb, ltb-true, List, [], ◌∷◌, length, get_or, Option, None}
+use Rattle.std.proofs.Common.{refl, sym, ◌∙◌, ap, subst, arith, pos}
 use Rattle.std.proofs.{lemmas.Bool.{cases_Bool, cases_lt}, lemmas.List.{get_or_past}}
 use Rattle.std.specs.List.{All, Any}
 use Rattle.mdp_math.specs.Rational.{ℚ, ratio, of_int, ◌+ℚ◌, ◌*ℚ◌, ◌-ℚ◌, ◌≤ℚ◌, ◌<ℚ◌}

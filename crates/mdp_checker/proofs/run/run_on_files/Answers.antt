@@ -6,7 +6,7 @@ returns g c = record {
   model_after = c.run.new.model;
   second = c.open_cert-cert.result;
   second_after = c.run.new.cert;
-  opened_model = record { shown = _; shows = c.paths_of-paths.ensures.model; says = record { met = c.open_model-model.ensures } };
-  opened_second = record { shown = _; shows = c.paths_of-paths.ensures.cert; says = record { met = c.open_cert-cert.ensures } };
+  opened_model = (_, c.open_model-model.ensures, c.paths_of-paths.ensures.model);
+  opened_second = (_, c.open_cert-cert.ensures, c.paths_of-paths.ensures.cert);
   run = record { answer = c.run.ensures.answer; done = c.run.ensures.done; complete = c.run.ensures.complete };
 }

@@ -18,5 +18,6 @@ invariant_of-cert c =
       threshold = ap has_threshold is ∙ no_threshold dir stay label;
       inside = init_inside (plain_claim c.claim_of.result) (ap is_witness is ∙ no_witness dir stay label) c.args.model.now (λ s. Some (value_at c.deref.result.now s)) c.states.result
           c.init_with-init.result c.states.ensures (λ s. refl) c.init_with-init.ensures;
-      entries = ap (λ (k : PlainClaim). is_body_of k _ _) is ∙ body_entries dir stay label _ _ _ _ _ c.states.ensures c.requires.values c.requires.choices c.requires.ranks;
+      entries = ap (λ (k : PlainClaim). is_body_of k c.states.result (policy c.args.answer.values.items c.args.answer.choices.items c.args.answer.ranks.items)) is
+          ∙ body_entries dir stay label _ _ _ _ _ c.states.ensures c.requires.values c.requires.choices c.requires.ranks;
     }

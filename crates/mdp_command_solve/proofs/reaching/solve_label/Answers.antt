@@ -1,9 +1,9 @@
 use Rattle.std.proofs.Common.{◌≡◌, ◌⊎◌, ℕ, Bool, List, Option, Some, Err, sym, ap, subst, ◌∙◌}
 use Rattle.std.specs.Prelude.{option_map}
-use Rattle.mdp_spec.specs.{Labels.{marks_of}, Mdp.{Mdp}}
+use Rattle.mdp_spec.specs.{Labels.{marks_of}}
 use Rattle.mdp_command.specs.Said.{said}
 use Rattle.mdp_job.specs.Refusal.{no_memory}
-use Rattle.mdp_command_solve.specs.{Ways.{name_of, goals_by}, Due.{IsReachEnd, IsReachDue}}
+use Rattle.mdp_command_solve.specs.{Ways.{name_of}, Due.{IsReachEnd, IsReachDue}}
 use Rattle.mdp_command_solve.proofs.reaching.solve_label.Goals as goal
 
 pub solve_on_way-requires-clause-way : goal.solve_on_way-requires-clause-way

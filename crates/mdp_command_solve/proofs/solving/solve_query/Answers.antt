@@ -10,7 +10,7 @@ returns-in-Reach-clause-printed c =
 
 pub returns-in-Until-clause-printed : goal.returns-in-Until-clause-printed
 returns-in-Until-clause-printed c =
-    subst (λ (q : Query). IfOk (said c.solve_label-2.result) (IsPrinted c.args.dir (plain_query q) c.args.model.now)) (sym c.in-Until.is) c.solve_label-2.ensures.printed
+    subst (λ (q : Query). IfOk (said c.solve_label-in-Until.result) (IsPrinted c.args.dir (plain_query q) c.args.model.now)) (sym c.in-Until.is) c.solve_label-in-Until.ensures.printed
 
 pub returns-in-Reward-clause-printed : goal.returns-in-Reward-clause-printed
 returns-in-Reward-clause-printed c =

@@ -1,9 +1,9 @@
-use Rattle.std.proofs.Common.{◌≡◌, ◌⊎◌, ℕ, Bool, List, Option, Some, Err, sym, ap, subst, ◌∙◌}
+use Rattle.std.proofs.Common.{◌≡◌, ◌⊎◌, Bool, List, Option, Some, Err, sym, ap, subst, ◌∙◌}
 use Rattle.std.specs.Prelude.{option_map}
-use Rattle.mdp_spec.specs.{Labels.{marks_of}, Mdp.{Mdp}}
+use Rattle.mdp_spec.specs.{Labels.{marks_of}}
 use Rattle.mdp_command.specs.Said.{said}
 use Rattle.mdp_job.specs.Refusal.{no_memory}
-use Rattle.mdp_command_solve.specs.{Ways.{name_of, goals_by}, WitnessDue.{IsEndDue}}
+use Rattle.mdp_command_solve.specs.{Ways.{name_of}, WitnessDue.{IsEndDue}}
 use Rattle.mdp_command_solve.proofs.witness_search.Asked.from_start.Goals as goal
 
 pub on_way-requires-clause-way : goal.on_way-requires-clause-way

@@ -4,8 +4,8 @@ use Rattle.mdp_spec.specs.Mdp.{Mdp, states_of}
 use Rattle.mdp_cert.specs.Cert as certificate
 use Rattle.mdp_cert.specs.{Cert.{are_names, Fits}, Spelling.{text_of}}
 use Rattle.mdp_cert.specs.Plain as cert
-use Rattle.mdp_witness.specs.{Code.{plain}, Query.{EndsSo}, Shown.{kept_in, HasShape, Holds, PolicyReaches, IsNeededMax, IsNeededMin, AreNeeded, MarksAreExactMax, MarksAreExactMin}}
-use Rattle.mdp_command_solve.specs.{Ways.{name_of}, WitnessCertificate.{dir_of, certificate_of}, WitnessShown.{IsWitness, IsWitnessPrinted}}
+use Rattle.mdp_witness.specs.{Code.{plain}, Query.{EndsSo}, Shown.{HasShape}}
+use Rattle.mdp_command_solve.specs.{Ways.{name_of, owned_name}, WitnessCertificate.{dir_of, certificate_of}, WitnessShown.{IsWitness, IsWitnessPrinted}}
 use Rattle.mdp_text.proofs.InitialState.{initial_below}
 use Rattle.mdp_command_solve.proofs.{OnWay.{marks_each, witness_names, way_states}, WitnessPrinting.{dir_is, is_witness, own_shape, shape_of_way, printed, text_printed, text_due}}
 use Rattle.mdp_command_solve.proofs.witness_search.Asked.on_way.Goals as goal
@@ -55,7 +55,7 @@ returns-clause-due c =
     let same : c.in-Ok-to_vec.label.items ≡ label = search rules in
     let is : cert.plain c.certificate_of-cert.result ≡ certificate_of dir stay label threshold start m found =
     c.certificate_of-cert.ensures.certificate
-    ∙ ap (λ (d : Dir). certificate_of d _ c.in-Ok-to_vec.label.items threshold start m found) (dir_is dir c.args.way.now found c.in-Ok.ensures.shape)
+    ∙ ap (λ (d : Dir). certificate_of d (owned_name c.in-Ok-owned.stay) c.in-Ok-to_vec.label.items threshold start m found) (dir_is dir c.args.way.now found c.in-Ok.ensures.shape)
     ∙ ap₂ (λ (s : Option (List ℕ)) (t : List ℕ). certificate_of dir s t threshold start m found) c.in-Ok-owned.ensures same in
     text_due dir stay label threshold m goals start found (cert.plain c.certificate_of-cert.result) _
     (subst (λ (w : Mdp). EndsSo dir w goals start threshold (Ok found)) c.requires.way c.in-Ok.ensures.path) is c.certificate_text.ensures
@@ -74,7 +74,7 @@ returns-clause-printed c =
     let same : c.in-Ok-to_vec.label.items ≡ label = search rules in
     let is : cert.plain c.certificate_of-cert.result ≡ certificate_of dir stay label threshold start m found =
     c.certificate_of-cert.ensures.certificate
-    ∙ ap (λ (d : Dir). certificate_of d _ c.in-Ok-to_vec.label.items threshold start m found) (dir_is dir c.args.way.now found e.shape)
+    ∙ ap (λ (d : Dir). certificate_of d (owned_name c.in-Ok-owned.stay) c.in-Ok-to_vec.label.items threshold start m found) (dir_is dir c.args.way.now found e.shape)
     ∙ ap₂ (λ (s : Option (List ℕ)) (t : List ℕ). certificate_of dir s t threshold start m found) c.in-Ok-owned.ensures same in
     let witness : IsWitness dir stay threshold m goals start found =
     is_witness m c.known.ensures.mdp stay goals start threshold found c.args.way.now c.requires.way dir e.path e.holds
