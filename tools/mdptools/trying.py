@@ -6,11 +6,9 @@ import subprocess
 import sys
 from fractions import Fraction
 
-sys.dont_write_bytecode = True
+from .drn import Choice, Model, State, text_of
 
-from mdptools.drn import Choice, Model, State, text_of  # noqa: E402
-
-TOP = pathlib.Path(__file__).resolve().parent.parent
+TOP = pathlib.Path(__file__).resolve().parent.parent.parent
 # The program that is run, where the command line names one.
 PROGRAM = []
 INFINITE = {"inf": math.inf, "-inf": -math.inf}
@@ -22,9 +20,8 @@ def built_program():
     return max((path for path in places if path.exists()), key=lambda path: path.stat().st_mtime, default=TOP / "bin" / "mdp")
 
 
-def take_words(doc):
+def take_words(words, doc):
     """Prints the help where it is asked for, and ends; a word may name the program that is run in place of bin/mdp."""
-    words = sys.argv[1:]
     if words[:1] in (["--help"], ["-h"]):
         print(doc)
         sys.exit(0)
