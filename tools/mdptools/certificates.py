@@ -1,5 +1,5 @@
-"""Reads the texts that the program writes: certificates, values within a deadline, curves, policies. It judges nothing: a text that it can't follow is
-`Unclear`, with the line."""
+"""The one reader of the texts that the program writes, for tools/ and bench/: certificates, values within a deadline, curves, policies. It judges nothing:
+a text that it can't follow is `Unclear`, with the line. tools/recheck, which judges, has a reader of its own."""
 
 import math
 import re
@@ -39,11 +39,88 @@ def number(word):
     return INFINITE[word] if word in INFINITE else Fraction(word)
 
 
+def place_of(name, words):
+    """From which state, or number of steps, to which one a line speaks, and what it says of them."""
+    ends = 2 if name == "run" else 1
+    return int(words[0]), int(words[ends - 1]), words[ends:]
+
+
+def stretches(text):
+    """The lines of states in a text that is given as bytes: from which state to which one, and the words behind."""
+    for line in text.decode().split("\n"):
+        name, *words = line.split(" ")
+        if name in ("state", "run"):
+            yield place_of(name, words)
+
+
 class Reader:
-    """Reads a text line by line. `places` has where, behind the number of a state, lower, upper and choice stand."""
+    """Reads a text line by line, and hands what each line says to the method for it. A method refuses its line by an error; here each of them does."""
+
+    WHY = "this line isn't one of a text of the program"
+    # So many lines are read where the text is cut before its end.
+    LEAST = 1
 
     def __init__(self):
+        self.version = ""
+
+    def refuse(self, *words):
+        raise ValueError(words)
+
+    claim = size = note = deadline = states = choose = keep = flow = step = point = refuse
+
+    def begin(self, line):
+        """Takes the first line."""
+        if not VERSION.fullmatch(line):
+            raise ValueError(line)
+        self.version = line
+
+    def line(self, line):
+        name, *words = line.split(" ")
+        if name in ("claim", "policy"):
+            self.claim(line)
+        elif name in ("step", "run") and self.version == "mdp-curve 1":
+            self.point(*place_of(name, words))
+        elif name in ("state", "run"):
+            self.states(*place_of(name, words))
+        elif name in ("choose", "step"):
+            (self.choose if name == "choose" else self.step)(int(words[0]), words[1:])
+        elif name in ("init", "spread", "remainder", "improve"):
+            self.note(name, words)
+        elif name in ("states", "steps", "keep", "flow"):
+            {"states": self.size, "steps": self.deadline, "keep": self.keep, "flow": self.flow}[name](words)
+        else:
+            raise ValueError(line)
+
+    def end(self):
+        """Looks at the whole."""
+
+    def take(self, path, lines):
+        """Takes the lines of a text; the path stands in the message where one is refused."""
+        at = 0
+        try:
+            self.begin(lines[0])
+            for at in range(1, max(len(lines) - 2, self.LEAST)):
+                self.line(lines[at])
+            if lines[-2:] != ["end", ""]:
+                raise ValueError("end")
+            self.end()
+        except (ValueError, IndexError, KeyError, TypeError, ArithmeticError) as error:
+            raise Unclear(path, at + 1, self.WHY) from error
+
+    def read(self, path):
+        self.take(path, lines_of(path))
+
+
+class Values(Reader):
+    """Reads the values and choices of a text. `places` has where, behind the number of a state, lower, upper and choice stand."""
+
+    def __init__(self):
+        super().__init__()
         self.text, self.places = Text(), (0, 0, None)
+
+    def begin(self, line):
+        super().begin(line)
+        self.text.version = line
 
     def claim(self, line):
         self.text.claim = line
@@ -53,6 +130,13 @@ class Reader:
         if "horizon" in self.text.version or self.text.version == "mdp-value 1" or words[1] in ("upper", "reach"):
             choice = None
         self.places = (0, int(is_bounds), None if choice is None else choice + is_bounds)
+
+    def size(self, words):
+        self.text.size = int(words[0])
+
+    def note(self, name, words):
+        if name == "init":
+            self.text.start = None if words[0] == "-" else int(words[0])
 
     def states(self, first, last, words):
         low, high, choice = self.places
@@ -68,49 +152,38 @@ class Reader:
         if choice is not None:
             values.choices += [int(words[choice])] * count
 
-    def curve(self, first, last, words):
+    def choose(self, state, words):
+        self.states(state, state, words)
+
+    def step(self, left, words):
+        self.text.steps[left] = words
+
+    def point(self, first, last, words):
         if first != len(self.text.curve) or last < first:
             raise ValueError(words)
         self.text.curve += [(number(words[0]), number(words[1]))] * (last - first + 1)
 
-    def line(self, line):
-        name, *words = line.split(" ")
-        is_curve = self.text.version == "mdp-curve 1"
-        if name in ("claim", "policy"):
-            self.claim(line)
-        elif name == "states":
-            self.text.size = int(words[0])
-        elif name == "init":
-            self.text.start = None if words[0] == "-" else int(words[0])
-        elif name in ("step", "run") and is_curve:
-            pair = (int(words[0]), int(words[0])) if name == "step" else (int(words[0]), int(words[1]))
-            self.curve(*pair, words[1 if name == "step" else 2 :])
-        elif name == "run":
-            self.states(int(words[0]), int(words[1]), words[2:])
-        elif name in ("state", "choose"):
-            self.states(int(words[0]), int(words[0]), words[1:])
-        elif name == "step":
-            self.text.steps[int(words[0])] = words[1:]
-        elif name not in ("spread", "remainder", "improve", "steps", "keep", "flow"):
-            raise ValueError(line)
+    def passed(self, *words):
+        """Passes over what has no value and no choice."""
+
+    deadline = keep = flow = passed
+
+    def end(self):
+        self.text.upper = self.text.upper or self.text.lower
 
 
 def read(path):
     """What a file says."""
-    reader, lines, at = Reader(), lines_of(path), 0
-    try:
-        if not VERSION.fullmatch(lines[0]):
-            raise ValueError(lines[0])
-        reader.text.version = lines[0]
-        for at in range(1, len(lines) - 2):
-            reader.line(lines[at])
-        if lines[-2:] != ["end", ""]:
-            raise ValueError("end")
-    except (ValueError, IndexError, ArithmeticError) as error:
-        raise Unclear(path, at + 1, "this line isn't one of a text of the program") from error
-    text = reader.text
-    text.upper = text.upper or text.lower
-    return text
+    reader = Values()
+    reader.read(path)
+    return reader.text
+
+
+def of_bytes(text, name):
+    """What a text says that is given as bytes; the name stands in the message where it can't be followed."""
+    reader = Values()
+    reader.take(name, text.decode().split("\n"))
+    return reader.text
 
 
 def policy_of(choices):

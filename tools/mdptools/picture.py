@@ -20,18 +20,13 @@ import shutil
 import subprocess
 import sys
 from dataclasses import dataclass, field
-from fractions import Fraction
 
-from . import drn
-from .drn import Unclear, fraction, lines_of
+from . import certificates, drn
+from .drn import Unclear, fraction
 
 TOP = pathlib.Path(__file__).resolve().parent.parent.parent
 MOST_STATES = 400
 LONGEST_VALUE = 12
-
-
-def read_model(path, most=MOST_STATES):
-    return drn.read(path, most)
 
 
 # ---- the certificate
@@ -103,42 +98,6 @@ def state_words(kind, words):
     return [f"value {shown(value)}", *(f"rank {int(number)}" for number in rank)], int(choice), value == "inf"
 
 
-def take_states(kind, evidence, first, last, words):
-    says, choice, infinite = (bounds_words if evidence.is_bounds else state_words)(kind, words)
-    for s in range(first, last + 1):
-        evidence.says[s] = says
-        if choice is not None and s not in evidence.goals | evidence.cut:
-            evidence.policy[s] = choice
-        if infinite:
-            evidence.infinite.add(s)
-
-
-def take_keep(evidence, state, words):
-    *values, mark = words
-    if mark not in ("kept", "wide"):
-        raise ValueError(mark)
-    evidence.kept[state] = mark
-    if values:
-        value, rank = values
-        evidence.says[state] = [f"at least {shown(value)}", f"rank {int(rank)}"]
-
-
-def take_line(kind, evidence, line):
-    word, *words = line.split(" ")
-    if word == "state":
-        take_states(kind, evidence, int(words[0]), int(words[0]), words[1:])
-    elif word == "run":
-        take_states(kind, evidence, int(words[0]), int(words[1]), words[2:])
-    elif word == "keep":
-        take_keep(evidence, int(words[0]), words[1:])
-    elif word == "flow":
-        state, choice, amount = words
-        evidence.policy.setdefault(int(state), int(choice))
-        evidence.flows[int(state), int(choice)] = shown(amount)
-    elif word not in ("init", "states", "spread", "remainder"):
-        raise ValueError(line)
-
-
 def fits(evidence, model):
     """Whether all that a certificate names is there."""
     choices = [*evidence.policy.items(), *evidence.flows]
@@ -146,25 +105,81 @@ def fits(evidence, model):
     return all(s < len(model.states) for s in states) and all(s < len(model.states) and c < len(model.states[s].choices) for s, c in choices)
 
 
+# The kinds of claims that a text of a first line has.
+KINDS = {
+    "mdp-bounds 1": ("reach", "until", "reward", "mean", "discount"),
+    "mdp-certificate 1": ("upper", "reach", "until", "reward", "mean", "witness"),
+    "mdp-certificate 2": ("upper", "reach", "until", "reward", "mean", "witness"),
+    "mdp-discount 1": ("discount",),
+}
+
+
+class Reader(certificates.Reader):
+    """Reads a certificate for a model, whose claim is its second line."""
+
+    WHY = "this line isn't one of a certificate for the model"
+    LEAST = 2
+
+    def __init__(self, model):
+        super().__init__()
+        self.model, self.kind, self.evidence = model, "", None
+
+    def begin(self, line):
+        if line not in KINDS:
+            raise ValueError(line)
+        super().begin(line)
+
+    def line(self, line):
+        if (self.evidence is None) != line.startswith("claim "):
+            raise ValueError(line)
+        super().line(line)
+
+    def claim(self, line):
+        self.kind, self.evidence = claim_of(line, self.model)
+        self.evidence.is_bounds = self.version == "mdp-bounds 1"
+        if self.kind not in KINDS[self.version]:
+            raise ValueError(line)
+
+    def size(self, words):
+        """Passes over the number of states: each state is looked for in the model."""
+
+    def note(self, name, words):
+        """Passes over the initial state, and over what is said of the whole."""
+        if name == "improve":
+            raise ValueError(name)
+
+    def states(self, first, last, words):
+        says, choice, infinite = (bounds_words if self.evidence.is_bounds else state_words)(self.kind, words)
+        for s in range(first, last + 1):
+            self.evidence.says[s] = says
+            if choice is not None and s not in self.evidence.goals | self.evidence.cut:
+                self.evidence.policy[s] = choice
+            if infinite:
+                self.evidence.infinite.add(s)
+
+    def keep(self, words):
+        state, *values, mark = words
+        if mark not in ("kept", "wide"):
+            raise ValueError(mark)
+        self.evidence.kept[int(state)] = mark
+        if values:
+            value, rank = values
+            self.evidence.says[int(state)] = [f"at least {shown(value)}", f"rank {int(rank)}"]
+
+    def flow(self, words):
+        state, choice, amount = words
+        self.evidence.policy.setdefault(int(state), int(choice))
+        self.evidence.flows[int(state), int(choice)] = shown(amount)
+
+    def end(self):
+        if not fits(self.evidence, self.model):
+            raise ValueError("end")
+
+
 def read_certificate(path, model):
-    lines = lines_of(path)
-    number = 0
-    try:
-        if not re.fullmatch("mdp-(certificate [12]|bounds 1|discount 1)", lines[0]):
-            raise ValueError(lines[0])
-        number = 1
-        kind, evidence = claim_of(lines[1], model)
-        evidence.is_bounds = lines[0] == "mdp-bounds 1"
-        kinds = {"mdp-bounds 1": ("reach", "until", "reward", "mean", "discount"), "mdp-discount 1": ("discount",)}
-        if kind not in kinds.get(lines[0], ("upper", "reach", "until", "reward", "mean", "witness")):
-            raise ValueError(lines[1])
-        for number in range(2, len(lines) - 2):
-            take_line(kind, evidence, lines[number])
-        if lines[-2:] != ["end", ""] or not fits(evidence, model):
-            raise ValueError(lines[-1])
-    except (ValueError, IndexError) as error:
-        raise Unclear(path, number + 1, "this line isn't one of a certificate for the model") from error
-    return evidence
+    reader = Reader(model)
+    reader.read(path)
+    return reader.evidence
 
 
 # ---- the picture
@@ -250,7 +265,7 @@ def picture(model, evidence):
 
 
 def drawn(model_path, cert_path=None):
-    model = read_model(model_path)
+    model = drn.read(model_path, MOST_STATES)
     evidence = None if cert_path is None else read_certificate(cert_path, model)
     return model, evidence, "\n".join(picture(model, evidence)) + "\n"
 

@@ -16,13 +16,13 @@ import pathlib
 import re
 import sys
 from dataclasses import dataclass, field
+from fractions import Fraction
 
-from . import picture
-from .drn import Unclear
+from . import certificates, drn
+from .drn import Unclear, fraction
+from .shown import table
 
 TOP = pathlib.Path(__file__).resolve().parent.parent.parent
-MOST_STATES = 1 << 20
-
 
 # How a decimal is rounded, by the mark in front of it.
 ROUNDING = {"≈": decimal.ROUND_HALF_EVEN, "≤": decimal.ROUND_CEILING, "≥": decimal.ROUND_FLOOR}
@@ -50,7 +50,7 @@ INFINITE = ("inf", "-inf")
 
 def number_cells(word, mark):
     """A number as it is spelled, and its decimal."""
-    return [word, "" if word in INFINITE else decimal_text(picture.fraction(word), mark)]
+    return [word, "" if word in INFINITE else decimal_text(fraction(word), mark)]
 
 
 # ---- the text
@@ -106,10 +106,13 @@ class Shown:
     gaps: list = field(default_factory=list)
 
 
-class Reader:
+class Reader(certificates.Reader):
     """Reads a text line by line; `model` gives labels and names, and may be missing."""
 
+    WHY = "this line isn't one of a text of the program, or doesn't fit the model"
+
     def __init__(self, model):
+        super().__init__()
         self.model = model
         self.shown = Shown()
 
@@ -144,14 +147,23 @@ class Reader:
                 return
         raise ValueError(text)
 
-    def version(self, text):
-        if not re.fullmatch("mdp-(bounds 1|certificate [12]|curve 1|discount 1|horizon 1|horizon-bounds 1|policy 1|value 1)", text):
-            raise ValueError(text)
+    def begin(self, text):
+        super().begin(text)
         self.shown.is_bounds = text in ("mdp-bounds 1", "mdp-horizon-bounds 1")
         self.shown.is_curve = text == "mdp-curve 1"
         self.shown.has_steps = text in ("mdp-curve 1", "mdp-horizon 1", "mdp-horizon-bounds 1")
         if text == "mdp-policy 1":
             self.shown.title, self.shown.columns = "a policy", [("choice", "")]
+
+    def size(self, words):
+        self.shown.count = int(words[0])
+        if self.model and self.shown.count != len(self.model.states):
+            raise ValueError("the model has another number of states")
+
+    def deadline(self, words):
+        if not self.shown.is_curve:
+            raise ValueError(words)
+        self.shown.count = int(words[0])
 
     def note(self, name, words):
         """The lines of the whole text: the initial state, the spread, the remainder, and better choices of a policy."""
@@ -167,74 +179,39 @@ class Reader:
             (value,) = words
             self.shown.notes.append(f"{name}: {' '.join(number_cells(value, '≤')).rstrip()}")
 
-    def lines_of(self, first, last, words):
+    def states(self, first, last, words):
         """The lines of the states from one to another with the same words: each its own with a model, and one for all without."""
         if self.shown.is_bounds and not any(word in INFINITE for word in words[:2]):
-            self.shown.gaps.append(picture.fraction(words[1]) - picture.fraction(words[0]))
+            self.shown.gaps.append(fraction(words[1]) - fraction(words[0]))
         if not self.model and first != last:
             self.shown.states.append((f"{first} to {last}", "", *self.cells(first, words)))
             return
         for s in range(first, last + 1):
             self.shown.states.append((str(s), self.labels(s), *self.cells(s, words)))
 
-    def steps(self, first, last, words):
+    def point(self, first, last, words):
         """The line of a curve for the numbers of steps from one to another."""
         if first != (self.shown.curve[-1][1] + 1 if self.shown.curve else 0) or last < first:
             raise ValueError(words)
         if not any(word in INFINITE for word in words):
-            self.shown.gaps.append(picture.fraction(words[1]) - picture.fraction(words[0]))
+            self.shown.gaps.append(fraction(words[1]) - fraction(words[0]))
         self.shown.curve.append((first, last, *self.cells(None, words)))
 
-    def line(self, text):
-        name, *words = text.split(" ")
-        if name in ("claim", "policy"):
-            self.claim(text)
-        elif name in ("init", "spread", "remainder", "improve"):
-            self.note(name, words)
-        elif name == "states":
-            self.shown.count = int(words[0])
-            if self.model and self.shown.count != len(self.model.states):
-                raise ValueError("the model has another number of states")
-        elif self.shown.is_curve and name == "steps":
-            self.shown.count = int(words[0])
-        elif self.shown.is_curve and name in ("step", "run"):
-            self.steps(int(words[0]), int(words[name == "run"]), words[1 + (name == "run") :])
-        elif name == "run":
-            self.lines_of(int(words[0]), int(words[1]), words[2:])
-        elif name in ("state", "choose", "keep"):
-            self.lines_of(int(words[0]), int(words[0]), words[1:])
-        elif name == "flow":
-            s, choice, amount = int(words[0]), *words[1:]
-            self.shown.flows.append((str(s), self.labels(s), self.choice(s, choice), *number_cells(amount, "≈")))
-        elif name == "step":
-            self.shown.steps[int(words[0])] = words[1:]
-        else:
-            raise ValueError(text)
+    def choose(self, state, words):
+        self.states(state, state, words)
 
+    def keep(self, words):
+        self.states(int(words[0]), int(words[0]), words[1:])
 
-def read_text(path, model):
-    reader, lines, number = Reader(model), picture.lines_of(path), 0
-    try:
-        reader.version(lines[0])
-        for number in range(1, len(lines) - 2):
-            reader.line(lines[number])
-        if lines[-2:] != ["end", ""]:
-            raise ValueError("end")
-    except (ValueError, IndexError, KeyError, TypeError, ArithmeticError) as error:
-        raise Unclear(path, number + 1, "this line isn't one of a text of the program, or doesn't fit the model") from error
-    return reader
+    def flow(self, words):
+        s, choice, amount = int(words[0]), *words[1:]
+        self.shown.flows.append((str(s), self.labels(s), self.choice(s, choice), *number_cells(amount, "≈")))
+
+    def step(self, left, words):
+        self.shown.steps[left] = words
 
 
 # ---- the table
-
-
-def table(head, rows):
-    """Lines of aligned cells; a column that is empty throughout is left out. Cells with digits in front stand to the right."""
-    columns = [column for column in zip(head, *rows) if any(column[1:])]
-    widths = [max(map(len, column)) for column in columns]
-    sides = [str.rjust if all(re.fullmatch(r"-?\d\S*|-?inf|", cell) for cell in column[1:]) else str.ljust for column in columns]
-    for line in zip(*columns):
-        yield "  ".join(side(cell, width) for side, cell, width in zip(sides, line, widths)).rstrip()
 
 
 def names_of(columns):
@@ -254,7 +231,9 @@ def stretches(reader, s):
 
 
 def read(path, model_path=None):
-    return read_text(path, None if model_path is None else picture.read_model(model_path, MOST_STATES))
+    reader = Reader(None if model_path is None else drn.read(model_path))
+    reader.read(path)
+    return reader
 
 
 def shown_text(reader):
@@ -305,9 +284,9 @@ def try_text(path, model, has_to):
 
 def try_rounding():
     """What is wrong with the decimals: those behind ≤ are never below their fraction, those behind ≥ never above it."""
-    numbers = [picture.fraction(f"{sign}{a}/{b}") for sign in ("", "-") for a in (1, 2, 10**30 + 1, 2**127 - 1) for b in (3, 7, 8, 10**30, 2**127 - 1)]
+    numbers = [fraction(f"{sign}{a}/{b}") for sign in ("", "-") for a in (1, 2, 10**30 + 1, 2**127 - 1) for b in (3, 7, 8, 10**30, 2**127 - 1)]
     for number in numbers:
-        below, above = (picture.Fraction(rounded(number, mark)[0]) for mark in "≥≤")
+        below, above = (Fraction(rounded(number, mark)[0]) for mark in "≥≤")
         if not below <= number <= above or (below == above) != rounded(number, "≈")[1]:
             yield f"{number} is rounded to {below} and {above}"
 

@@ -21,8 +21,9 @@ import sys
 import tempfile
 from fractions import Fraction
 
+from . import certificates
 from .drn import read
-from .trying import INFINITE, TOP, columns, drn, run, take_words
+from .trying import TOP, columns, drn, run, take_words
 
 EXAMPLES = sorted((TOP / "examples").glob("*.drn"))
 DIGITS = ["3", "9", "15", "30"]
@@ -62,13 +63,6 @@ def has_deadline(query):
     return query[1] == "total" or len(query) == 5 and query[1] == "until"
 
 
-def curve_lines(text):
-    """The lower and upper value of a curve by the number of steps."""
-    lines = re.findall(r"^(?:step (\d+)|run (\d+) (\d+)) (\S+) (\S+)$", text.decode(), re.MULTILINE)
-    number = lambda word: INFINITE[word] if word in INFINITE else Fraction(word)
-    return {k: (number(low), number(high)) for one, first, last, low, high in lines for k in range(int(one or first), int(one or last) + 1)}
-
-
 def wrong_curve(model, rule, query):
     """What is wrong with the curve up to the deadline of a query: lines, of which there are none where all is well."""
     *words, steps = query
@@ -79,8 +73,8 @@ def wrong_curve(model, rule, query):
         if (text, status, len(starts) == 1) != (b"query init\n", 4, False):
             yield f"{place}: {text} and status {status}"
         return
-    points = curve_lines(text)
-    if list(points) != list(range(int(steps) + 1)):
+    points = certificates.of_bytes(text, place).curve
+    if len(points) != int(steps) + 1:
         yield f"{place}: the numbers of steps"
     for k in {"0", "1", steps}:
         exact, ended = run(*exact_words(model, rule, *words, k))

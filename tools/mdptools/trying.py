@@ -1,17 +1,16 @@
 """What tools/try_bounds, tools/try_recheck and tools/try_rounds share: they run the program, read its texts, and write models."""
 
-import math
 import pathlib
 import subprocess
 import sys
 from fractions import Fraction
 
+from . import certificates
 from .drn import Choice, Model, State, text_of
 
 TOP = pathlib.Path(__file__).resolve().parent.parent.parent
 # The program that is run, where the command line names one.
 PROGRAM = []
-INFINITE = {"inf": math.inf, "-inf": -math.inf}
 
 
 def built_program():
@@ -39,11 +38,8 @@ def run(*words):
 
 def columns(text, count):
     """The first words behind the number of each state in a certificate, as numbers."""
-    for line in text.decode().split("\n"):
-        name, *words = line.split(" ")
-        if name in ("state", "run"):
-            first, last, behind = (int(words[0]), int(words[1]), 2) if name == "run" else (int(words[0]), int(words[0]), 1)
-            yield from [tuple(INFINITE[word] if word in INFINITE else Fraction(word) for word in words[behind : behind + count])] * (last + 1 - first)
+    for first, last, words in certificates.stretches(text):
+        yield from [tuple(map(certificates.number, words[:count]))] * (last + 1 - first)
 
 
 def drn(states):
