@@ -17,7 +17,13 @@ without one it takes the bit of its left neighbour. With `bits` a state is these
 
 import collections
 import itertools
+import pathlib
 import sys
+
+sys.dont_write_bytecode = True
+sys.path.insert(0, str(pathlib.Path(__file__).resolve().parent.parent / "tools"))
+
+from mdptools import drn  # noqa: E402
 
 
 def turned(tokens, count):
@@ -68,14 +74,13 @@ def main():
     numbers = {state: number for number, state in enumerate(states)}
     apart = turned([count * i // 3 for i in range(3)], count)
     start = next(state for state in states if turned(tokens(state), count) == apart)
-    print("@type: DTMC", "@parameters", "", "@reward_models", "rounds", "@nr_states", len(states), "@nr_choices", len(states), "@model", sep="\n")
+    print(*drn.head(["rounds"], len(states), len(states), is_chain=True), sep="\n")
     for state in states:
         many = len(tokens(state))
         print("// tokens at", *tokens(state))
-        print("state", numbers[state], *["init"] * (state == start), *["stable"] * (many == 1))
-        print("action round [1]")
-        for target, ways in sorted((numbers[target], ways) for target, ways in outcomes(state).items()):
-            print(target, f": {ways}/{2 ** many}")
+        print(drn.state_line(numbers[state], ["init"] * (state == start) + ["stable"] * (many == 1)))
+        row = sorted((numbers[target], f"{ways}/{2 ** many}") for target, ways in outcomes(state).items())
+        print(*drn.choice_lines(row, "round", [1]), sep="\n")
 
 
 if __name__ == "__main__":

@@ -7,7 +7,13 @@ State s is that one has s. One begins with STAKE, wins 1 with 18/37, loses 1 wit
 With r = 19/18, rich is reached from STAKE with probability (r^STAKE - 1) / (r^GOAL - 1).
 """
 
+import pathlib
 import sys
+
+sys.dont_write_bytecode = True
+sys.path.insert(0, str(pathlib.Path(__file__).resolve().parent.parent / "tools"))
+
+from mdptools import drn  # noqa: E402
 
 
 def main():
@@ -15,14 +21,11 @@ def main():
         print(__doc__)
         return
     stake, goal = map(int, sys.argv[1:])
-    print("@type: DTMC", "@parameters", "", "@reward_models", "", "@nr_states", goal + 1, "@nr_choices", goal + 1, "@model", sep="\n")
+    print(*drn.head([], goal + 1, goal + 1, is_chain=True), sep="\n")
     for state in range(goal + 1):
-        print("state", state, *["init"] * (state == stake), *["rich"] * (state == goal))
-        print("action bet")
-        if state in (0, goal):
-            print(state, ": 1")
-        else:
-            print(f"{state - 1} : 19/37", f"{state + 1} : 18/37", sep="\n")
+        print(drn.state_line(state, ["init"] * (state == stake) + ["rich"] * (state == goal)))
+        row = [(state, 1)] if state in (0, goal) else [(state - 1, "19/37"), (state + 1, "18/37")]
+        print(*drn.choice_lines(row, "bet"), sep="\n")
 
 
 if __name__ == "__main__":

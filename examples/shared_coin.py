@@ -11,7 +11,13 @@ Labels: `init`, `finished` where all processes have decided, `heads` where all d
 where some decided for each. The reward `steps` counts the steps. This is the model of Kwiatkowska, Norman and Segala (2001), with the counter from 0.
 """
 
+import pathlib
 import sys
+
+sys.dont_write_bytecode = True
+sys.path.insert(0, str(pathlib.Path(__file__).resolve().parent.parent / "tools"))
+
+from mdptools import drn  # noqa: E402
 
 FLIP, UP, DOWN, CHECK, HEADS, TAILS = range(6)
 DECIDED = (HEADS, TAILS)
@@ -56,16 +62,17 @@ def main():
     lines = []
     for state in states:
         marks = ["init"] * (state == states[0]) + labels(state)
-        lines.append(" ".join(["state", str(numbers[state]), *marks]))
+        lines.append(drn.state_line(numbers[state], marks))
         for name, entries in choices(state, bound):
-            lines.append(f"action {name} [{int(name != 'rest')}]")
+            row = []
             for value, target in entries:
                 if target not in numbers:
                     numbers[target] = len(states)
                     states.append(target)
-                lines.append(f"{numbers[target]} : {value}")
+                row.append((numbers[target], value))
+            lines += drn.choice_lines(row, name, [int(name != "rest")])
     actions = sum(line.startswith("action") for line in lines)
-    print("@type: MDP", "@parameters", "", "@reward_models", "steps", "@nr_states", len(states), "@nr_choices", actions, "@model", sep="\n")
+    print(*drn.head(["steps"], len(states), actions), sep="\n")
     print(*lines, sep="\n")
 
 

@@ -7,7 +7,13 @@ The chain starts in the middle of a line of 2 STEPS + 1 states. From the middle 
 further with 1/2, and else back to the middle. The state at one end is labelled `goal`. By symmetry it is reached with probability 1/2.
 """
 
+import pathlib
 import sys
+
+sys.dont_write_bytecode = True
+sys.path.insert(0, str(pathlib.Path(__file__).resolve().parent.parent / "tools"))
+
+from mdptools import drn  # noqa: E402
 
 
 def row(state, middle):
@@ -22,14 +28,11 @@ def main():
         return
     middle = int(sys.argv[1])
     states = 2 * middle + 1
-    print("@type: DTMC", "@parameters", "", "@reward_models", "", "@nr_states", states, "@nr_choices", states, "@model", sep="\n")
+    print(*drn.head([], states, states, is_chain=True), sep="\n")
     for state in range(states):
-        print("state", state, *["init"] * (state == middle), *["goal"] * (state == states - 1))
-        print("action on")
-        if state in (0, states - 1):
-            print(state, ": 1")
-        else:
-            print(*(f"{target} : 1/2" for target in row(state, middle)), sep="\n")
+        print(drn.state_line(state, ["init"] * (state == middle) + ["goal"] * (state == states - 1)))
+        entries = [(state, 1)] if state in (0, states - 1) else [(target, "1/2") for target in row(state, middle)]
+        print(*drn.choice_lines(entries, "on"), sep="\n")
 
 
 if __name__ == "__main__":

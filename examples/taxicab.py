@@ -9,7 +9,13 @@ expected fare of its trip. The driver starts in town A, the state labelled `init
 """
 
 import fractions
+import pathlib
 import sys
+
+sys.dont_write_bytecode = True
+sys.path.insert(0, str(pathlib.Path(__file__).resolve().parent.parent / "tools"))
+
+from mdptools import drn  # noqa: E402
 
 # For each town its choices: the name, the chances of a trip to A, B and C, and the fares of these trips.
 TOWNS = [
@@ -27,15 +33,13 @@ def main():
     if sys.argv[1:2] in (["--help"], ["-h"]):
         print(__doc__)
         return
-    print("@type: MDP", "@parameters", "", "@reward_models", "fare", "@nr_states", 3, "@nr_choices", sum(map(len, TOWNS)), "@model", sep="\n")
+    print(*drn.head(["fare"], len(TOWNS), sum(map(len, TOWNS))), sep="\n")
     for town, choices in enumerate(TOWNS):
-        print("state", town, *["init"] * (town == 0), "ABC"[town])
+        print(drn.state_line(town, ["init"] * (town == 0) + ["ABC"[town]]))
         for name, chances, fares in choices:
             row = numbers(chances)
-            print(f"action {name} [{sum(chance * fare for chance, fare in zip(row, numbers(fares)))}]")
-            for target, chance in enumerate(row):
-                if chance:
-                    print(target, ":", chance)
+            expected = sum(chance * fare for chance, fare in zip(row, numbers(fares)))
+            print(*drn.choice_lines([(target, chance) for target, chance in enumerate(row) if chance], name, [expected]), sep="\n")
 
 
 if __name__ == "__main__":

@@ -180,23 +180,34 @@ def quoted(label):
     return f'"{label}"'
 
 
-def bracket(rewards):
-    """A reward bracket with a blank in front; nothing where all rewards are 0."""
-    return f" [{', '.join(map(str, rewards))}]" if any(rewards) else ""
+def head(names, states, choices=None, is_chain=False):
+    """The lines in front of the states: the reward names, how many states there are and, where that is given, how many choices."""
+    yield f"@type: {'DTMC' if is_chain else 'MDP'}"
+    yield from ("@parameters", "", "@reward_models", "" if names == ["-"] else " ".join(names), "@nr_states", str(states))
+    yield from () if choices is None else ("@nr_choices", str(choices))
+    yield "@model"
+
+
+def state_line(number, labels=()):
+    return " ".join(["state", str(number), *labels])
+
+
+def choice_lines(row, name="", rewards=(), tab=""):
+    """The lines of a choice: its name where it has one, its rewards where they are given, and its entries as they come."""
+    bracket = [f"[{', '.join(map(str, rewards))}]"] if rewards else []
+    yield " ".join([f"{tab}action", *filter(None, [name]), *bracket])
+    yield from (f"{tab}{tab}{target} : {value}" for target, value in row)
 
 
 def lines_to_write(model):
-    """The lines of a model. A choice has its whole reward, and a state none."""
-    yield f"@type: {'DTMC' if model.is_chain else 'MDP'}"
-    yield from ("@parameters", "", "@reward_models", "" if model.names == ["-"] else " ".join(model.names))
-    yield from ("@nr_states", str(len(model.states)), "@nr_choices", str(sum(len(state.choices) for state in model.states)), "@model")
+    """The lines of a model. A choice has its whole reward, where that isn't 0, and a state none."""
+    yield from head(model.names, len(model.states), sum(len(state.choices) for state in model.states), model.is_chain)
     for s, state in enumerate(model.states):
-        yield " ".join([f"state {s}", *map(quoted, state.labels)])
+        yield state_line(s, map(quoted, state.labels))
         if state.name:
             yield f"//{state.name}"
         for choice in state.choices:
-            yield f"\taction{' ' * bool(choice.name)}{choice.name}{bracket(choice.rewards)}"
-            yield from (f"\t\t{target} : {value}" for target, value in sorted(choice.row))
+            yield from choice_lines(sorted(choice.row), choice.name, choice.rewards if any(choice.rewards) else (), "\t")
 
 
 def text_of(model):
