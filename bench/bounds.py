@@ -43,7 +43,7 @@ sys.dont_write_bytecode = True
 TOP = pathlib.Path(__file__).resolve().parent.parent
 sys.path.insert(0, str(TOP / "tools"))
 
-from mdptools import drn  # noqa: E402
+from mdptools import certificates, drn  # noqa: E402
 
 PROGRAM = TOP / "out" / "mdp"
 DIGITS, LIMIT, WIDTH, MOST, TIMES = 9, 60, 64, 100, 3
@@ -68,75 +68,74 @@ def policy_text(model, query, found):
     """The chain of the policy that was found, where each state has the label `done` that is a goal or has a value that is 0 or 1 for sure."""
     goals = set(model.states_with(query[-1]))
     decided = ("0", "1") if query[1] == "reach" else ("inf",)
-    yield f"@type: MDP\n@parameters\n\n@reward_models\n\n@nr_states\n{len(model.states)}\n@model"
+    yield from drn.head([], len(model.states))
     for s, (state, (low, high, choice)) in enumerate(zip(model.states, found, strict=True)):
-        yield f"state {s}{' init' * (s == 0)}{' done' * (s in goals or low == high and low in decided)}\naction a"
-        yield from (f"{target} : {prob}" for target, prob in state.choices[min(choice, len(state.choices) - 1)].row)
+        yield drn.state_line(s, ["init"] * (s == 0) + ["done"] * (s in goals or low == high and low in decided))
+        yield from drn.choice_lines(state.choices[min(choice, len(state.choices) - 1)].row, "a")
 
 
 def layers(states):
     """The text of the model of layers: random numbers from the number of states."""
     draw = random.Random(states)
-    yield "\n".join(["@type: MDP", "@parameters", "", "@reward_models", "cost", "@nr_states", str(states), "@model"])
+    yield from drn.head(["cost"], states)
     for s in range(states - 2):
-        yield f"state {s}" + " init" * (s == 0)
+        yield drn.state_line(s, ["init"] * (s == 0))
         for _ in range(2):
             nearest, farthest = (s // WIDTH + 1) * WIDTH, (s // WIDTH + 3) * WIDTH
             targets = sorted({min(draw.randrange(nearest, farthest), states - 1 - draw.randrange(2) * (s > states - 3 * WIDTH)) for _ in range(4)})
             cuts = sorted(draw.sample(range(1, 100), len(targets) - 1))
             parts = [high - low for low, high in zip([0, *cuts], [*cuts, 100])]
-            yield f"action [{draw.randrange(1, 10)}]"
-            yield from (f"{target} : 0.{part:02}" if part < 100 else f"{target} : 1" for target, part in zip(targets, parts))
+            row = [(target, f"0.{part:02}" if part < 100 else 1) for target, part in zip(targets, parts)]
+            yield from drn.choice_lines(row, rewards=[draw.randrange(1, 10)])
     for s in (states - 2, states - 1):
-        yield f"state {s} goal" + " careful" * (s == states - 1) + "\naction [0]\n0 : 1"
+        yield drn.state_line(s, ["goal"] + ["careful"] * (s == states - 1))
+        yield from drn.choice_lines([(0, 1)], rewards=[0])
 
 
 def drawn(states, denominator):
     """The text of a random model: random numbers from the number of states."""
     draw = random.Random(states)
     digits = len(str(denominator)) - 1
-    yield "\n".join(["@type: MDP", "@parameters", "", "@reward_models", "cost", "@nr_states", str(states), "@model"])
+    yield from drn.head(["cost"], states)
     for s in range(states):
-        yield f"state {s}" + " init" * (s == 0)
+        yield drn.state_line(s, ["init"] * (s == 0))
         for _ in range(3):
             targets = sorted({draw.randrange(states) for _ in range(4)})
             cuts = sorted(draw.sample(range(1, denominator), len(targets) - 1))
             parts = [high - low for low, high in zip([0, *cuts], [*cuts, denominator])]
-            yield f"action [{draw.randrange(1000)}]"
-            yield from (f"{target} : 0.{part:0{digits}}" if part < denominator else f"{target} : 1" for target, part in zip(targets, parts))
+            row = [(target, f"0.{part:0{digits}}" if part < denominator else 1) for target, part in zip(targets, parts)]
+            yield from drn.choice_lines(row, rewards=[draw.randrange(1000)])
 
 
 def slow_halves(states):
     """The text of a model of two halves: random numbers from the number of states."""
     draw = random.Random(states)
     half = states // 2
-    yield "\n".join(["@type: MDP", "@parameters", "", "@reward_models", "cost", "@nr_states", str(states), "@model"])
+    yield from drn.head(["cost"], states)
     for s in range(states):
         own = s // half * half
-        yield f"state {s}" + " init" * (s == 0) + " goal" * (s == states - 1)
+        yield drn.state_line(s, ["init"] * (s == 0) + ["goal"] * (s == states - 1))
         for _ in range(3):
             inner = sorted({own + draw.randrange(half) for _ in range(4)})
             cuts = sorted(draw.sample(range(1, 100), len(inner) - 1))
             row = {target: (high - low) * 10**4 for target, low, high in zip(inner, [0, *cuts], [*cuts, 100])}
             row[inner[0]] -= 1
             row[half - own + draw.randrange(half)] = 1
-            yield f"action [{draw.randrange(1000)}]"
-            yield from (f"{target} : 0.{part:06}" for target, part in sorted(row.items()))
+            yield from drn.choice_lines([(target, f"0.{part:06}") for target, part in sorted(row.items())], rewards=[draw.randrange(1000)])
 
 
 def walk(side, dimensions):
     """The text of a walk on a square, or in a cube: random numbers from the length of its side."""
     draw = random.Random(side)
     states = side**dimensions
-    yield "\n".join(["@type: MDP", "@parameters", "", "@reward_models", "cost", "@nr_states", str(states), "@model"])
+    yield from drn.head(["cost"], states)
     for s in range(states):
         steps = [(side**place, s // side**place % side) for place in reversed(range(dimensions))]
         beside = [other for step, at in steps for other in (s + step * (at < side - 1), s - step * (at > 0))]
-        yield f"state {s}" + " init" * (s == 0) + " goal" * (s == states - 1)
+        yield drn.state_line(s, ["init"] * (s == 0) + ["goal"] * (s == states - 1))
         for weights in ([1] * len(beside), [draw.randrange(1, 10) for _ in beside]):
             row = {target: sum(weight for weight, other in zip(weights, beside) if other == target) for target in sorted(beside)}
-            yield f"action [{draw.randrange(1000)}]"
-            yield from (f"{target} : {part}/{sum(weights)}" for target, part in row.items())
+            yield from drn.choice_lines([(target, f"{part}/{sum(weights)}") for target, part in row.items()], rewards=[draw.randrange(1000)])
 
 
 def text_of(kind, size):
@@ -167,13 +166,8 @@ def timed(words, folder):
 
 def columns(text, place):
     """For each state its lower and its upper value, and its choice, which stands at this place behind the number of a state."""
-    for line in text.decode().split("\n"):
-        name, *words = line.split(" ")
-        if name in ("state", "run"):
-            numbers = 2 if name == "run" else 1
-            times = int(words[1]) + 1 - int(words[0]) if name == "run" else 1
-            values = words[numbers:]
-            yield from [(values[0], values[1], int(values[place]))] * times
+    for first, last, words in certificates.stretches(text):
+        yield from [(words[0], words[1], int(words[place]))] * (last + 1 - first)
 
 
 def gap_of(found):
@@ -193,7 +187,7 @@ def over_steps(model, query, found, gap, folder):
     if query[1] == "mean":
         return gap, ""
     chain = folder / "chain.drn"
-    chain.write_text("\n".join(policy_text(model, query, found)) + "\n")
+    drn.write(chain, policy_text(model, query, found))
     _, (iteration, _, steps) = iterated(folder, chain, "1e-9", ["max", "steps", "done"])
     return gap / max(float(steps), 1.0), f" over {'at least ' * (float(iteration) >= LIMIT)}{float(steps):.4g} steps"
 

@@ -186,6 +186,11 @@ def of_bytes(text, name):
     return reader.text
 
 
+def text_of(version, claim, start, states):
+    """The text of a certificate: its first line, its claim, what it says of the initial state, and what it says of each state."""
+    return "\n".join([version, f"claim {claim}", f"states {len(states)}", f"init {start}", *(f"state {s} {says}" for s, says in enumerate(states)), "end", ""])
+
+
 def policy_of(choices):
     """The text of a policy."""
     return "\n".join(["mdp-policy 1", f"states {len(choices)}", *(f"choose {s} {choice}" for s, choice in enumerate(choices)), "end", ""])

@@ -214,6 +214,12 @@ def text_of(model):
     return "".join(line + "\n" for line in lines_to_write(model))
 
 
+def write(path, lines):
+    """Writes lines to a file, each with its line feed."""
+    with open(path, "w", encoding="utf-8") as file:
+        file.writelines(line + "\n" for line in lines)
+
+
 # ---- copies
 
 
