@@ -14,26 +14,29 @@ import sys
 import tempfile
 import time
 
+sys.dont_write_bytecode = True
 TOP = pathlib.Path(__file__).resolve().parent.parent
+sys.path.insert(0, str(TOP / "tools"))
+
+from mdptools import certificates, drn  # noqa: E402
+
 RECHECKED = 2**17
 
 
 def model(states):
-    yield "\n".join(["@type: MDP", "@parameters", "", "@reward_models", "cost", "@nr_states", str(states), "@nr_choices", str(states), "@model"])
-    for s in range(states - 2):
-        yield f"state {s}" + " init" * (s == 0) + f"\naction [1]\n{s + 1} : 1/2\n{states - 1} : 1/2"
-    yield f"state {states - 2}\naction [2]\n{states - 1} : 1\nstate {states - 1} goal\naction [0]\n{states - 1} : 1"
+    yield from drn.head(["cost"], states, states)
+    for s in range(states):
+        yield drn.state_line(s, ["init"] * (s == 0) + ["goal"] * (s == states - 1))
+        row = [(s + 1, "1/2"), (states - 1, "1/2")] if s < states - 2 else [(states - 1, 1)]
+        yield from drn.choice_lines(row, rewards=[0 if s == states - 1 else 2 if s == states - 2 else 1])
 
 
-def certificates(states):
+def certificates_of(states):
     """The kind of each certificate, and its text."""
-    last = states - 1
-    yield "reach", "\n".join(["mdp-certificate 2", 'claim max reach "goal"', f"states {states}", "init 0 1"]
-                             + [f"state {s} 1 0 {(1 + s % 2) * (s < last)}" for s in range(states)] + ["end", ""])
-    yield "reward", "\n".join(["mdp-certificate 2", 'claim min reward "cost" "goal"', f"states {states}", "init 0 2"]
-                              + [f"state {s} {2 * (s < last)} 0 {(1 + s % 2) * (s < last)}" for s in range(states)] + ["end", ""])
-    yield "bounds", "\n".join(["mdp-bounds 1", 'claim max reach "goal"', f"states {states}", "init 0 1 1"]
-                              + [f"state {s} 1 1 0 {(1 + s % 2) * (s < last)}" for s in range(states)] + ["end", ""])
+    ranks = [1 + s % 2 for s in range(states - 1)] + [0]
+    yield "reach", certificates.text_of("mdp-certificate 2", 'max reach "goal"', "0 1", [f"1 0 {rank}" for rank in ranks])
+    yield "reward", certificates.text_of("mdp-certificate 2", 'min reward "cost" "goal"', "0 2", [f"{2 * (rank > 0)} 0 {rank}" for rank in ranks])
+    yield "bounds", certificates.text_of("mdp-bounds 1", 'max reach "goal"', "0 1 1", [f"1 1 0 {rank}" for rank in ranks])
 
 
 def timed(*words):
@@ -44,8 +47,8 @@ def timed(*words):
 
 def measure(states, folder):
     path, cert = folder / "model.drn", folder / "cert"
-    path.write_text("\n".join(model(states)) + "\n")
-    for kind, text in certificates(states):
+    drn.write(path, model(states))
+    for kind, text in certificates_of(states):
         cert.write_text(text)
         command = "bounds-check" if kind == "bounds" else "check"
         found = [f"bin/check {timed(TOP / 'bin' / 'check', path, 'exact', cert)}",
