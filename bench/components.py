@@ -11,9 +11,14 @@
 A small program beside the crates reads the models and times the calls (timer_program.py). Each round goes over the whole model, so in the worst case
 the time grows with the square. Usage: bench/components.py
 """
+import os
 import sys
 
-import timer_program
+sys.dont_write_bytecode = True
+sys.path.insert(0, os.path.join(os.path.dirname(os.path.abspath(__file__)), "..", "tools"))
+
+import timer_program  # noqa: E402
+from mdptools import drn  # noqa: E402
 
 LIBRARIES = "mdp_math mdp_num mdp_edge mdp_spec mdp_rows mdp_drn mdp_graph mdp_ends mdp_parts"
 
@@ -69,14 +74,16 @@ fn main(rt: HostRuntime) -> ExitCode {
 """
 
 
+def lines_of(choices):
+    yield from drn.head([], len(choices))
+    for s, rows in enumerate(choices):
+        yield drn.state_line(s)
+        for row in rows:
+            yield from drn.choice_lines([(target, f"1/{len(row)}") for target in sorted(row)])
+
+
 def write_states(path, choices):
-    with open(path, "w") as file:
-        file.write("@type: MDP\n@nr_states\n%d\n@model\n" % len(choices))
-        for s, rows in enumerate(choices):
-            file.write("state %d\n" % s)
-            for row in rows:
-                file.write("action\n")
-                file.writelines("%d : 1/%d\n" % (target, len(row)) for target in sorted(row))
+    drn.write(path, lines_of(choices))
 
 
 def write_ring(path, states):
