@@ -20,7 +20,12 @@ import sys
 import tempfile
 import time
 
+sys.dont_write_bytecode = True
 TOP = os.path.join(os.path.dirname(os.path.abspath(__file__)), "..")
+sys.path.insert(0, os.path.join(TOP, "tools"))
+
+from mdptools import drn  # noqa: E402
+
 PROGRAM = os.path.join(TOP, "out", "mdp")
 RUNS = 3
 
@@ -59,13 +64,12 @@ def hub(size):
 KINDS = {"line": line, "random": random_chain, "grid": grid, "hub": hub}
 
 
-def write_chain(path, rows):
-    with open(path, "w") as file:
-        file.write("@type: DTMC\n@nr_states\n%d\n@model\n" % (len(rows) + 1))
-        for s, row in enumerate(rows):
-            file.write("state %d\naction\n" % s)
-            file.writelines("%d : %s\n" % entry for entry in row)
-        file.write("state %d goal\naction\n%d : 1\n" % (len(rows), len(rows)))
+def chain_lines(rows):
+    """The lines of a chain with a goal behind the states of these rows."""
+    yield from drn.head([], len(rows) + 1, is_chain=True)
+    for s, row in enumerate([*rows, [(len(rows), 1)]]):
+        yield drn.state_line(s, ["goal"] * (s == len(rows)))
+        yield from drn.choice_lines(row)
 
 
 def solve(model):
@@ -84,7 +88,7 @@ def main():
     with tempfile.TemporaryDirectory() as folder:
         model = os.path.join(folder, "chain.drn")
         for kind, size in zip(words[::2], words[1::2]):
-            write_chain(model, KINDS[kind](int(size)))
+            drn.write(model, chain_lines(KINDS[kind](int(size))))
             seconds, memory, status = min(solve(model) for _ in range(RUNS))
             print("%s %s: %.3f s, %.1f MB, status %d, load %.1f" % (kind, size, seconds, memory / 1024, status, os.getloadavg()[0]))
 
