@@ -18,7 +18,12 @@ import subprocess
 import sys
 import tempfile
 
+sys.dont_write_bytecode = True
 TOP = pathlib.Path(__file__).resolve().parent.parent
+sys.path.insert(0, str(TOP / "tools"))
+
+from mdptools import drn  # noqa: E402
+
 ROWS = TOP / "crates" / "mdp_app" / "data" / "rows"
 PROGRAM = TOP / "out" / "mdp"
 NAMES = ["solve_die", "solve_greatest", "loop_carries_value", "mean_by_chance", "solve_mean_by_chance", "subsystem_flows", "policy_loops", "witness_die", "discount_puterman"]
@@ -99,8 +104,7 @@ def tried_row(name, library, folder):
 
 
 def refused_model(path, comments):
-    head = "@type: MDP\n@parameters\n\n@reward_models\n\n@nr_states\n1048577\n@nr_choices\n4\n@model\n"
-    path.write_text(head + ("/" * 63 + "\n") * comments)
+    drn.write(path, [*drn.head([], 2**20 + 1, 4), *["/" * 63] * comments])
 
 
 def tried_pair(library, folder):
