@@ -4,9 +4,14 @@
 State s of the chain stays with one half and goes on to state s + 1 with one half; the last state is the goal. So the greatest rank is the number of
 states less 1. A small program beside the crates reads the chain and times `may_reach`, `must_meet` and `sure_some` (timer_program.py). Usage: bench/passes.py [STATES ..] (10000 and 100000 if nothing is said).
 """
+import os
 import sys
 
-import timer_program
+sys.dont_write_bytecode = True
+sys.path.insert(0, os.path.join(os.path.dirname(os.path.abspath(__file__)), "..", "tools"))
+
+import timer_program  # noqa: E402
+from mdptools import drn  # noqa: E402
 
 LIBRARIES = "mdp_math mdp_num mdp_edge mdp_spec mdp_rows mdp_drn mdp_graph"
 
@@ -95,12 +100,15 @@ fn main(rt: HostRuntime) -> ExitCode {
 """
 
 
+def chain_lines(states):
+    yield from drn.head([], states)
+    for s in range(states):
+        yield drn.state_line(s, ["goal"] * (s == states - 1))
+        yield from drn.choice_lines([(s, "1/2"), (s + 1, "1/2")] if s < states - 1 else [(s, 1)])
+
+
 def write_chain(path, states):
-    with open(path, "w") as file:
-        file.write("@type: MDP\n@nr_states\n%d\n@model\n" % states)
-        for s in range(states - 1):
-            file.write("state %d\naction\n%d : 1/2\n%d : 1/2\n" % (s, s, s + 1))
-        file.write("state %d goal\naction\n%d : 1\n" % (states - 1, states - 1))
+    drn.write(path, chain_lines(states))
 
 
 def main():
