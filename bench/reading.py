@@ -12,31 +12,33 @@ import sys
 import tempfile
 import time
 
+sys.dont_write_bytecode = True
 TOP = os.path.join(os.path.dirname(os.path.abspath(__file__)), "..")
+sys.path.insert(0, os.path.join(TOP, "tools"))
+
+from mdptools import certificates, drn  # noqa: E402
+
 PROGRAM = os.path.join(TOP, "out", "mdp")
+
+
+def lines_of(states, row_of):
+    """The lines of a model with one choice a state, whose row a function gives."""
+    yield from drn.head([], states, states)
+    for s in range(states):
+        yield drn.state_line(s, ["init"] * (s == 0) + ["goal"] * (s == 1))
+        yield from drn.choice_lines(row_of(s), "0", tab="\t")
 
 
 def write_ring(path, transitions):
     """States in a ring; each has one choice with four targets, of 1/4 each."""
     states = max(5, transitions // 4)
-    with open(path, "w") as file:
-        file.write("@type: MDP\n@parameters\n\n@reward_models\n\n@nr_states\n%d\n@nr_choices\n%d\n@model\n" % (states, states))
-        for s in range(states):
-            file.write("state %d%s\n\taction 0\n" % (s, " init" if s == 0 else " goal" if s == 1 else ""))
-            for step in (1, 2, 3, 4):
-                file.write("\t\t%d : 0.25\n" % ((s + step) % states))
+    drn.write(path, lines_of(states, lambda s: [((s + step) % states, "0.25") for step in (1, 2, 3, 4)]))
 
 
 def write_long_row(path, transitions):
     """State 0 goes to each state with the same probability, the greatest target first; the others stay."""
     states = max(5, transitions // 2)
-    with open(path, "w") as file:
-        file.write("@type: MDP\n@parameters\n\n@reward_models\n\n@nr_states\n%d\n@nr_choices\n%d\n@model\n" % (states, states))
-        file.write("state 0 init\n\taction 0\n")
-        for t in reversed(range(states)):
-            file.write("\t\t%d : 1/%d\n" % (t, states))
-        for s in range(1, states):
-            file.write("state %d%s\n\taction 0\n\t\t%d : 1\n" % (s, " goal" if s == 1 else "", s))
+    drn.write(path, lines_of(states, lambda s: [(s, 1)] if s else ((t, f"1/{states}") for t in reversed(range(states)))))
 
 
 def measure(name, model, cert, transitions):
@@ -61,7 +63,7 @@ def main():
         model = os.path.join(folder, "large.drn")
         cert = os.path.join(folder, "small.cert")
         with open(cert, "w") as file:
-            file.write('mdp-certificate 1\nclaim upper reach "goal"\nstates 1\ninit 0 1\nstate 0 1\nend\n')
+            file.write(certificates.text_of("mdp-certificate 1", 'upper reach "goal"', "0 1", ["1"]))
         for name, write in (("ring", write_ring), ("long row", write_long_row)):
             write(model, transitions)
             measure(name, model, cert, transitions)
