@@ -23,9 +23,13 @@ import subprocess
 import sys
 import tempfile
 import time
-from fractions import Fraction
 
+sys.dont_write_bytecode = True
 TOP = os.path.join(os.path.dirname(os.path.abspath(__file__)), "..")
+sys.path.insert(0, os.path.join(TOP, "tools"))
+
+from mdptools import certificates, drn  # noqa: E402
+
 PROGRAM = os.path.join(TOP, "bin", "mdp")
 LIMIT = 120
 MODELS = "layered 10 100 layered 40 100 layered 100 160 random 4000 reward 10 100 reward 40 100 mean 10 100 mean 40 100 discount 10 100 discount 40 100"
@@ -76,14 +80,13 @@ def returning_model(layers, width):
     return states, rewards
 
 
-def write_model(path, states, rewards=None):
-    with open(path, "w") as file:
-        file.write("@type: MDP\n@nr_states\n%d\n@model\n" % len(states))
-        for s, choices in enumerate(states):
-            file.write("state %d%s\n" % (s, " init" if s == 0 else " goal" if s == len(states) - 2 else ""))
-            for c, targets in enumerate(choices):
-                file.write("action a [%d]\n" % rewards[s][c] if rewards else "action\n")
-                file.writelines("%d : 1/%d\n" % (target, len(targets)) for target in targets)
+def lines_of(states, rewards):
+    yield from drn.head([], len(states))
+    for s, choices in enumerate(states):
+        yield drn.state_line(s, ["init"] * (s == 0) + ["goal"] * (s == len(states) - 2))
+        for c, targets in enumerate(choices):
+            row = [(target, f"1/{len(targets)}") for target in targets]
+            yield from drn.choice_lines(row, "a", [rewards[s][c]]) if rewards else drn.choice_lines(row)
 
 
 def write_program(path, least, rows, free=()):
@@ -202,7 +205,7 @@ def peer(folder, program, *query):
 def measure(folder, name, states, query, rewards=None, program=None, rounds=""):
     """A query, given by its first word and those behind the row rule, and the check of its certificate; and its linear program, if there is one."""
     model, cert = os.path.join(folder, "model.drn"), os.path.join(folder, "model.cert")
-    write_model(model, states, rewards)
+    drn.write(model, lines_of(states, rewards))
     command, *behind = query
     text, status, solved = timed([PROGRAM, command, model, "exact", *behind])
     print("%s: %d states, %d choices, load %.1f" % (name, len(states), sum(len(c) for c in states), os.getloadavg()[0]))
@@ -212,7 +215,7 @@ def measure(folder, name, states, query, rewards=None, program=None, rounds=""):
     with open(cert, "w") as file:
         file.write(text)
     said, _, checked = timed([PROGRAM, "discount-check" if command == "discount" else "check", model, "exact", cert])
-    value = Fraction(re.search(r"^init 0 (\S+)$", text, re.M).group(1))
+    value = certificates.of_bytes(text.encode(), cert).lower[0]
     print("  %s: %.2f s, %svalue of state 0 %.6f; check: %.2f s, %s" % (" ".join(query), solved, rounds, value, checked, said.strip()))
     if program is not None:
         line, seconds = peer(folder, program, *([states] if rewards is None else [states, rewards]))
