@@ -16,14 +16,12 @@ import concurrent.futures
 import os
 import pathlib
 import random
-import re
 import sys
 import tempfile
 from fractions import Fraction
 
-from . import certificates
-from .drn import read
-from .trying import TOP, columns, drn, run, take_words
+from . import certificates, drn
+from .trying import TOP, columns, model_text, run, take_words
 
 EXAMPLES = sorted((TOP / "examples").glob("*.drn"))
 DIGITS = ["3", "9", "15", "30"]
@@ -68,7 +66,7 @@ def wrong_curve(model, rule, query):
     *words, steps = query
     place = f"curve {model} {rule} {' '.join(query)} 9"
     text, status = run("curve", model, rule, *query, "9")
-    starts = read(model).states_with("init")
+    starts = drn.read(model).states_with("init")
     if status != 0 or len(starts) != 1:
         if (text, status, len(starts) == 1) != (b"query init\n", 4, False):
             yield f"{place}: {text} and status {status}"
@@ -108,22 +106,22 @@ def wide_row():
     """Three denominators that are primes of 30 bits, and what is left of 1."""
     parts = [Fraction(2**28, 1073741789), Fraction(2**27, 1073741783), Fraction(2**26, 1073741741)]
     row = dict(enumerate([*parts, 1 - sum(parts)]))
-    return drn([("init", [(1, row), (2, {1: "1/3", 3: "2/3"})]), ("", [(3, {0: "1/7", 2: "6/7"})]), ("goal", [(0, {2: 1})]), ("", [(1, {3: 1}), (5, {0: "1/11", 3: "10/11"})])])
+    return model_text([("init", [(1, row), (2, {1: "1/3", 3: "2/3"})]), ("", [(3, {0: "1/7", 2: "6/7"})]), ("goal", [(0, {2: 1})]), ("", [(1, {3: 1}), (5, {0: "1/11", 3: "10/11"})])])
 
 
 def long_walk(states):
     """A fair walk from the middle to either end takes a quarter of the square of its states."""
     inner = [("init" if s == states // 2 else "", [(1, {s - 1: "1/2", s + 1: "1/2"})]) for s in range(1, states - 1)]
-    return drn([("end", [(0, {0: 1})]), *inner, ("end goal", [(0, {states - 1: 1})])])
+    return model_text([("end", [(0, {0: 1})]), *inner, ("end goal", [(0, {states - 1: 1})])])
 
 
 def free_loops():
     """Two states between which one goes for nothing, with two ways out."""
-    return drn([("init", [(0, {1: 1}), (5, {2: "1/3", 1: "2/3"})]), ("", [(0, {0: 1}), (2, {2: "1/7", 3: "6/7"})]), ("goal", [(0, {2: 1})]), ("", [(1, {0: 1})])])
+    return model_text([("init", [(0, {1: 1}), (5, {2: "1/3", 1: "2/3"})]), ("", [(0, {0: 1}), (2, {2: "1/7", 3: "6/7"})]), ("goal", [(0, {2: 1})]), ("", [(1, {0: 1})])])
 
 
 def great_rewards():
-    return drn([("init", [(10**30, {0: "1/3", 1: "2/3"}), ("1/1000000007", {0: "9/10", 1: "1/10"})]), ("goal", [(10**29, {0: "1/7", 1: "6/7"})])])
+    return model_text([("init", [(10**30, {0: "1/3", 1: "2/3"}), ("1/1000000007", {0: "9/10", 1: "1/10"})]), ("goal", [(10**29, {0: "1/7", 1: "6/7"})])])
 
 
 def slow_parts(states, parts):
@@ -140,7 +138,7 @@ def slow_parts(states, parts):
         other = draw.randrange(states)
         return draw.randrange(1, 1000), {**entries, other: entries.get(other, 0) + Fraction(1, 10**6)}
 
-    return drn([(" ".join(["init"] * (s == 0) + ["goal"] * (s == states - 1)), [choice(s) for _ in range(3)]) for s in range(states)])
+    return model_text([(" ".join(["init"] * (s == 0) + ["goal"] * (s == states - 1)), [choice(s) for _ in range(3)]) for s in range(states)])
 
 
 def square(side):
@@ -156,7 +154,7 @@ def square(side):
 
     places = [(x, y) for x in range(side) for y in range(side)]
     labels = {0: "init", side * side - 1: "goal"}
-    return drn([(labels.get(x * side + y, ""), [choice(x, y, [1] * 4), choice(x, y, [draw.randrange(1, 10) for _ in range(4)])]) for x, y in places])
+    return model_text([(labels.get(x * side + y, ""), [choice(x, y, [1] * 4), choice(x, y, [draw.randrange(1, 10) for _ in range(4)])]) for x, y in places])
 
 
 def hard_models(folder):
@@ -172,15 +170,14 @@ def with_way(paths, folder):
     for path in paths:
         draw = random.Random(path.name)
         copy = pathlib.Path(folder) / f"way-{path.name}"
-        lines = path.read_text(errors="surrogateescape").split("\n")
-        copy.write_text("\n".join(f"{line} way" if re.match(r"state[ \t]", line) and draw.random() < 0.75 else line for line in lines), errors="surrogateescape")
+        drn.copy(path, copy, {"way": {s for s in range(len(drn.read(path).states)) if draw.random() < 0.75}})
         yield copy
 
 
 def way_queries(paths):
     """Each of these models with the queries of its labels on a way through `way`, also within a deadline."""
     for path in paths:
-        labels = [label for label in read(path).labels() if label != "way"]
+        labels = [label for label in drn.read(path).labels() if label != "way"]
         for label in labels:
             for direction in ("max", "min"):
                 yield from ((str(path), "exact", (direction, "until", "way", label, *steps)) for steps in ((), ("15",)))
@@ -189,7 +186,7 @@ def way_queries(paths):
 def queries(paths):
     """Each model with the queries of its labels and its reward names."""
     for path in paths:
-        model = read(path)
+        model = drn.read(path)
         labels, names = model.labels(), sorted(model.names)
         objectives = [("reach", label) for label in labels]
         objectives += [("reward", name, label) for name in names for label in labels]

@@ -22,7 +22,7 @@ import sys
 import tempfile
 from fractions import Fraction
 
-from .trying import PROGRAM, TOP, built_program, drn, take_words
+from .trying import PROGRAM, TOP, built_program, model_text, take_words
 
 LOADER = importlib.machinery.SourceFileLoader("recheck", str(TOP / "tools" / "recheck"))
 recheck = importlib.util.module_from_spec(importlib.util.spec_from_loader("recheck", LOADER))
@@ -91,7 +91,7 @@ def drawn_model(seed):
         return " ".join(["init"] * (s == 0) + ["A"] * (draw.random() < 0.7) + ["B"] * (s == count - 1 or draw.random() < 0.1))
 
     least = draw.choice([0, 0, 0, -2])
-    return drn([(labels(s), [(Fraction(draw.randrange(least, 4), draw.randrange(1, 3)), row()) for _ in range(draw.randrange(1, 4))]) for s in range(count)])
+    return model_text([(labels(s), [(Fraction(draw.randrange(least, 4), draw.randrange(1, 3)), row()) for _ in range(draw.randrange(1, 4))]) for s in range(count)])
 
 
 def queries():

@@ -21,7 +21,7 @@ from fractions import Fraction
 
 from drn_model import crossed, plus, written
 
-from .trying import columns, drn, run, take_words
+from .trying import columns, model_text, run, take_words
 
 MODELS = 120
 FACTORS = ["1/2", "9/10", "999/1000", "999999/1000000"]
@@ -258,7 +258,7 @@ def wrong_at(folder, seed):
     goal = len(choices) - 2
     path = pathlib.Path(folder) / f"{seed}.drn"
     labels = {0: "init", goal: "goal"}
-    path.write_text(drn([(labels.get(s, ""), [(choice.reward, dict(choice.row)) for choice in of_state]) for s, of_state in enumerate(choices)]))
+    path.write_text(model_text([(labels.get(s, ""), [(choice.reward, dict(choice.row)) for choice in of_state]) for s, of_state in enumerate(choices)]))
     factor = FACTORS[seed % len(FACTORS)]
     for direction in ("max", "min"):
         is_max = direction == "max"

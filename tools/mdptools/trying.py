@@ -42,7 +42,7 @@ def columns(text, count):
         yield from [tuple(map(certificates.number, words[:count]))] * (last + 1 - first)
 
 
-def drn(states):
+def model_text(states):
     """A model in DRN with the reward name `cost`: for each state its labels, and its choices as a reward and entries."""
     choice = lambda reward, entries: Choice([Fraction(reward)], "", [(target, Fraction(value)) for target, value in entries.items()])
     return text_of(Model(["cost"], [State([], labels.split(), [choice(*each) for each in choices]) for labels, choices in states]))
