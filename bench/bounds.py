@@ -43,7 +43,7 @@ sys.dont_write_bytecode = True
 TOP = pathlib.Path(__file__).resolve().parent.parent
 sys.path.insert(0, str(TOP / "tools"))
 
-from drn_model import Model  # noqa: E402
+from mdptools import drn  # noqa: E402
 
 PROGRAM = TOP / "out" / "mdp"
 DIGITS, LIMIT, WIDTH, MOST, TIMES = 9, 60, 64, 100, 3
@@ -66,12 +66,12 @@ QUERIES = {
 
 def policy_text(model, query, found):
     """The chain of the policy that was found, where each state has the label `done` that is a goal or has a value that is 0 or 1 for sure."""
-    goals = model.labels[query[-1].encode()]
+    goals = set(model.states_with(query[-1]))
     decided = ("0", "1") if query[1] == "reach" else ("inf",)
-    yield f"@type: MDP\n@parameters\n\n@reward_models\n\n@nr_states\n{len(model.choices)}\n@model"
-    for s, (choices, (low, high, choice)) in enumerate(zip(model.choices, found, strict=True)):
+    yield f"@type: MDP\n@parameters\n\n@reward_models\n\n@nr_states\n{len(model.states)}\n@model"
+    for s, (state, (low, high, choice)) in enumerate(zip(model.states, found, strict=True)):
         yield f"state {s}{' init' * (s == 0)}{' done' * (s in goals or low == high and low in decided)}\naction a"
-        yield from (f"{target} : {prob}" for target, prob in choices[min(choice, len(choices) - 1)][1])
+        yield from (f"{target} : {prob}" for target, prob in state.choices[min(choice, len(state.choices) - 1)].row)
 
 
 def layers(states):
@@ -204,14 +204,14 @@ def measure(kind, size, query, path, folder):
     cert.write_bytes(text)
     _, _, reading, _ = timed([PROGRAM, "bounds-check", path, "exact", "/dev/null"], folder)
     said, _, checking, _ = timed([PROGRAM, "bounds-check", path, "exact", cert], folder)
-    model = Model(path.read_bytes(), False)
+    model = drn.read(path)
     found = list(columns(text, 4 if query[1] == "mean" else 2))
     gap, unbounded = gap_of(found)
     units, over = over_steps(model, query, found, float(gap * 10**DIGITS), folder)
     peer, (iteration, sweeps, left) = iterated(folder, path, f"1e-{DIGITS}", query)
-    transitions = sum(len(row) for choices in model.choices for _, row in choices)
+    transitions = sum(len(choice.row) for state in model.states for choice in state.choices)
     print(
-        f"{kind} {size}, {' '.join(query)}: {len(model.choices)} states, {transitions} transitions;",
+        f"{kind} {size}, {' '.join(query)}: {len(model.states)} states, {transitions} transitions;",
         f"bounds {seconds:.2f} s, reading {reading:.2f} s, {memory / transitions:.0f} B a transition, gap {float(gap):.2e},",
         f"{units:.3g} units{over}, at most {MOST}: {'yes' if units <= MOST else 'no'}{f' and {unbounded} upper values inf' * (unbounded > 0)};",
         f"bounds-check {said.decode().strip()} in {checking:.2f} s; peer {peer:.2f} s (iteration {iteration} s, {sweeps} sweeps, gap {left});",

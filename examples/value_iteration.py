@@ -4,30 +4,23 @@
     python3 examples/value_iteration.py MODEL max|min LABEL [CHANGE]
 
 It starts with 1 at the states with LABEL and 0 elsewhere, and replaces all values by the best expected ones until no value changes by CHANGE, 10^-6
-where nothing is said, or more. Then it prints the value of the state labelled `init`, and after how many steps it stopped. It reads models as those
-of this folder, with labels of one word, and doesn't judge them.
+where nothing is said, or more. Then it prints the value of the state labelled `init`, and after how many steps it stopped. It doesn't judge the model.
 """
 
-import fractions
+import pathlib
 import sys
+
+sys.dont_write_bytecode = True
+sys.path.insert(0, str(pathlib.Path(__file__).resolve().parent.parent / "tools"))
+
+from mdptools import drn  # noqa: E402
 
 
 def read(path):
     """The choices of each state, a list of rows; and the states of each label."""
-    states, labels = [], {}
-    with open(path, encoding="utf-8") as lines:
-        for line in map(str.strip, lines):
-            words = line.split()
-            if line.startswith("state "):
-                states.append([])
-                for label in words[2:]:
-                    labels.setdefault(label, set()).add(int(words[1]))
-            elif line.startswith("action"):
-                states[-1].append([])
-            elif states and words and words[0].isdigit():
-                target, value = line.split(":")
-                states[-1][-1].append((int(target), float(fractions.Fraction(value.strip()))))
-    return states, labels
+    model = drn.read(path)
+    states = [[[(target, float(value)) for target, value in choice.row] for choice in state.choices] for state in model.states]
+    return states, {label: set(model.states_with(label)) for label in model.labels()}
 
 
 def iterate(states, goals, best, change):

@@ -130,7 +130,7 @@ def value_text(result):
     if result.count is not None:
         return str(result.count[0]) if result.count[0] == result.count[1] else f"from {result.count[0]} to {result.count[1]}"
     if result.least is not None:
-        return "no number of steps" if result.truth is False else f"{result.least} steps, value {value}"
+        return "no number of steps" if result.truth is False else f"{result.least} step{'s' * (result.least != 1)}, value {value}"
     if result.curve:
         return f"{len(result.curve)} numbers of steps"
     if not result.is_bound:
@@ -315,6 +315,7 @@ def session_of(words, model, options):
     try:
         solver, checker = program.solver(words.solver), program.checker(words.checker)
         program.prepare(solver)
+        program.prepare(checker)
     except program.Unbuilt as unbuilt:
         raise Ends(70, f"bin/ask: {unbuilt}") from None
     return asking.Session(words.model, model, options, solver, checker)

@@ -82,7 +82,9 @@ def checker(given=""):
 
 
 def prepare(tool):
-    """Has bin/try compile what it runs, where that isn't kept yet, so that no limit of time counts it."""
+    """Has bin/try compile what it runs, where that isn't kept yet, so that no limit of time counts it. Of another tool, whether it can be run."""
+    if not os.access(tool.path, os.X_OK):
+        raise Unbuilt(f"{tool.name} is no program")
     if tool.name != "bin/try":
         return
     with subprocess.Popen([TOP / "tools" / "compile", "mdp_app"], stdin=subprocess.DEVNULL, stdout=subprocess.DEVNULL, start_new_session=True) as process:

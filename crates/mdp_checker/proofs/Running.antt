@@ -33,14 +33,42 @@ check_decided asked rule model cert said is read unread model_end cert_end =
 -- ---- what an accepted certificate means
 
 claims_truly : (kind : CertificateKind) (rule : RowRule) (model cert : List ℕ) → IsTrueClaimBy (checker_of kind) rule model cert → ClaimsTruly (meaning_of kind) rule model cert
-claims_truly Exact rule model cert t =
-    record { model = t.accepted.model; reads = t.accepted.reads; cert = t.accepted.cert; text = t.accepted.text; bound = t.bound }
-claims_truly Discounted rule model cert t =
-    record { model = t.accepted.model; reads = t.accepted.reads; cert = t.accepted.cert; text = t.accepted.text; bound = t.bound }
-claims_truly Bounds rule model cert t =
-    record { model = t.accepted.model; reads = t.accepted.reads; cert = t.accepted.cert; text = t.accepted.text; bound = t.bound }
-claims_truly DiscountedBounds rule model cert t =
-    record { model = t.accepted.model; reads = t.accepted.reads; cert = t.accepted.cert; text = t.accepted.text; bound = t.bound }
+claims_truly Exact rule model cert t = record {
+  model = t.accepted.model;
+  reads = t.accepted.reads;
+  cert = t.accepted.cert;
+  text = t.accepted.text;
+  states = t.accepted.holds.states;
+  start = t.accepted.holds.init;
+  bound = t.bound;
+}
+claims_truly Discounted rule model cert t = record {
+  model = t.accepted.model;
+  reads = t.accepted.reads;
+  cert = t.accepted.cert;
+  text = t.accepted.text;
+  states = t.accepted.holds.states;
+  start = t.accepted.holds.init;
+  bound = t.bound;
+}
+claims_truly Bounds rule model cert t = record {
+  model = t.accepted.model;
+  reads = t.accepted.reads;
+  cert = t.accepted.cert;
+  text = t.accepted.text;
+  states = t.accepted.holds.states;
+  start = t.accepted.holds.init;
+  bound = t.bound;
+}
+claims_truly DiscountedBounds rule model cert t = record {
+  model = t.accepted.model;
+  reads = t.accepted.reads;
+  cert = t.accepted.cert;
+  text = t.accepted.text;
+  states = t.accepted.holds.states;
+  start = t.accepted.holds.init;
+  bound = t.bound;
+}
 
 -- ---- what is answered
 

@@ -1,6 +1,9 @@
 -- What certificates of each kind mean, and the kind that the first line of a text names.
-use Rattle.std.specs.{Prelude.{ℕ, Bool, List, length, take, if◌then◌else◌}, Str.{bytes_eq}}
+use Rattle.std.specs.{Prelude.{◌≡◌, ℕ, Bool, List, length, take, if◌then◌else◌}, Str.{bytes_eq}}
+use Rattle.mdp_spec.specs.Labels.{initial_of}
+use Rattle.mdp_claims.specs.declared.verdict.Verdict.TheVariants.{Yes}
 use Rattle.mdp_check.specs.Bounds as bounds
+use Rattle.mdp_check.specs.BoundsInitial as bounds_initial
 use Rattle.mdp_cert.specs.BoundsCert as bounds_cert
 use Rattle.mdp_cert.specs.BoundsReading as bounds_reading
 use Rattle.mdp_cert.specs.BoundsSpelling as bounds_text
@@ -17,16 +20,33 @@ use Rattle.mdp_command.specs.declared.kind.CertificateKind.TheVariants.{Exact, D
 
 -- of discounted rewards: no policy is better than the values by more than what is left of the remainder after so many steps
 abbrev pub discounted_meaning : Meaning
-discounted_meaning = record { Certificate = discount_cert.Certificate; outcome = discount_reading.outcome; IsBound = discount.IsBound }
+discounted_meaning = record {
+  Certificate = discount_cert.Certificate;
+  outcome = discount_reading.outcome;
+  states = λ c. length c.values;
+  IsStart = λ m c. discount.init_check c.init (initial_of m) c.values ≡ Yes;
+  IsBound = discount.IsBound;
+}
 
 -- of bounds: the best values lie between the lower and the upper values
 abbrev pub between_meaning : Meaning
-between_meaning = record { Certificate = bounds_cert.Certificate; outcome = bounds_reading.outcome; IsBound = bounds.IsBoundsTrue }
+between_meaning = record {
+  Certificate = bounds_cert.Certificate;
+  outcome = bounds_reading.outcome;
+  states = λ c. c.states;
+  IsStart = λ m c. bounds_initial.bounds_init_check c.init (initial_of m) c.body ≡ Yes;
+  IsBound = bounds.IsBoundsTrue;
+}
 
 -- of bounds of discounted rewards: the best ones lie between the values, but for what is left of the remainder after so many steps
 abbrev pub discounted_between_meaning : Meaning
-discounted_between_meaning =
-    record { Certificate = discount_bounds_cert.Certificate; outcome = discount_bounds_reading.outcome; IsBound = discount_bounds.IsBound }
+discounted_between_meaning = record {
+  Certificate = discount_bounds_cert.Certificate;
+  outcome = discount_bounds_reading.outcome;
+  states = λ c. length c.lower;
+  IsStart = λ m c. discount_bounds.init_check c.init (initial_of m) c.lower c.upper ≡ Yes;
+  IsBound = discount_bounds.IsBound;
+}
 
 abbrev pub meaning_of : CertificateKind → Meaning
 meaning_of Exact = exact_meaning

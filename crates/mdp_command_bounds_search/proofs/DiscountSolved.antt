@@ -1,5 +1,5 @@
 -- What is due to `bounds` of a discounted reward is never a term that is too wide, the best values lie between its values, and what is shown of its text.
-use Rattle.std.proofs.Common.{◌≡◌, ℕ, List, Option, Some, None, Ok, Err, IfOk, IsOk, refl, sym, ap, subst, ◌∙◌}
+use Rattle.std.proofs.Common.{◌≡◌, ℕ, List, Option, Some, None, Ok, Err, IfOk, sym, ap, subst, ◌∙◌}
 use Rattle.mdp_math.specs.Rational.{ℚ}
 use Rattle.mdp_spec.specs.{Labels.{place_of}, Mdp.{Mdp}, Row.{IsMdp}}
 use Rattle.mdp_rows.specs.{declared.dir.Dir.{Dir}, declared.rule.RowRule.{RowRule}}

@@ -1,4 +1,4 @@
-use Rattle.std.proofs.{Common.{◌≡◌, ℕ, ◌<◌, List, length, get_or, Option, Some, sym, subst, ◌∙◌, arith, pos, lt-ltb}, lemmas.List.{get_or_default}}
+use Rattle.std.proofs.{Common.{◌≡◌, ℕ, ◌<◌, List, length, Option, Some, sym, subst, ◌∙◌, arith, pos, lt-ltb}, lemmas.List.{get_or_default}}
 use Rattle.mdp_math.specs.Rational.{ℚ, of_int}
 use Rattle.mdp_spec.specs.{Labels.{initial_of}, Mdp.{Mdp, states_of}}
 use Rattle.mdp_claims.specs.declared.verdict.Verdict.TheVariants.{Yes}
