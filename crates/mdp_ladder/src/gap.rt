@@ -36,7 +36,7 @@ pub fn lacking_digits(lower: &Frac, upper: &Frac, digits: u32) -> u32 {
         return MOST_DIGITS;
     };
     let scale = magnitude(upper);
-    for lacking in 0..digits {
+    for lacking in 0..=digits {
         if is_within(&gap, scale, digits - lacking) {
             return lacking;
         }
