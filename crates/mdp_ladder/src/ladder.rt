@@ -63,6 +63,13 @@ pub trait Search {
         requires { is_sized self.now cert.now }
         ensures { result ≡ true → is_held self.now cert.now };
 
+    /// The exact answer, as a lower and an upper value that are the same, where there is a search for it that comes to no term past width.
+    fn exact(&self, _alloc: Global) -> Result<Option<Self::Cert>, Memory>
+        ensures { IfOk result (λ found. IfSome found (is_sized self.now)) }
+    {
+        Ok(None)
+    }
+
     /// How many digits the bounds of a certificate lack of so many, at the state where most are lacking; none where all are as near.
     fn lacking(&self, cert: &Self::Cert, digits: u32) -> u32;
 
@@ -265,9 +272,39 @@ fn held_with_fewer<S: Search>(
     Ok(None)
 }
 
+/// The exact answer, where the rules say yes to it.
+fn held_answer<S: Search>(alloc: Global, search: &S) -> Result<Option<S::Cert>, Memory>
+    ensures { IfOk result (λ found. IfSome found (S.is_held search.now)) }
+{
+    match search.exact(alloc)? {
+        Some(cert) => Ok(held(search, cert)),
+        None => Ok(None),
+    }
+}
+
+/// The bounds that the search proposed, where they are as near as so many digits say; else the exact answer, where there is one; else those bounds.
+fn held_near_or_exact<S: Search>(
+    alloc: Global,
+    search: &S,
+    near: &S::Near,
+    most: &Option<S::Near>,
+    digits: u32,
+) -> Result<Option<S::Cert>, Memory>
+    ensures { IfOk result (λ found. IfSome found (S.is_held search.now)) }
+{
+    let found = held_as_near(alloc, search, near, most, digits)?;
+    if lacking_of(search, &found, digits) == 0 {
+        return Ok(found);
+    }
+    match held_answer(alloc, search)? {
+        Some(exact) => Ok(Some(exact)),
+        None => Ok(found),
+    }
+}
+
 /// Bounds that meet the rules: exact values, where the simplest fractions between the bounds that the search proposes, with so many digits or with the
-/// most, are such; else these bounds, with so many digits, or with more where they aren't as near as so many digits say; else with fewer digits; else those
-/// that say nothing.
+/// most, are such; else these bounds, with so many digits, or with more where they aren't as near as so many digits say; where no bounds are as near the exact
+/// answer, if it isn't too wide; else bounds with fewer digits; else those that say nothing.
 pub fn bounds_by<S: Search>(alloc: Global, search: &S, digits: u32) -> Result<S::Cert, Memory>
     ensures { IfOk result (S.is_held search.now) }
 {
@@ -279,7 +316,7 @@ pub fn bounds_by<S: Search>(alloc: Global, search: &S, digits: u32) -> Result<S:
     if let Some(exact) = held_exact_of(alloc, search, &most)? {
         return Ok(exact);
     }
-    if let Some(cert) = held_as_near(alloc, search, &near, &most, digits)? {
+    if let Some(cert) = held_near_or_exact(alloc, search, &near, &most, digits)? {
         return Ok(cert);
     }
     if let Some(cert) = held_with_fewer(alloc, search, digits)? {

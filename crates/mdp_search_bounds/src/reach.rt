@@ -10,7 +10,9 @@ use mdp_claims::Verdict;
 use mdp_ladder::{Search, bounds_by, fractions, most_lacking, numbers};
 use mdp_near::{NearReach, near_reach};
 use mdp_num::Memory;
+use mdp_reach::solve_reach;
 use mdp_rows::{Dir, Marks, Model};
+use mdp_wide::Unfinished;
 use std::alloc::Global;
 
 /// The search for bounds of the probability to reach a goal.
@@ -79,6 +81,22 @@ impl Search for Reaching<'_, '_> {
             holds_bounds_reach(self.model, self.goals, self.dir, cert),
             Verdict::Yes
         )
+    }
+
+    fn exact(&self, alloc: Global) -> Result<Option<ReachBoundsCert>, Memory> {
+        match solve_reach(alloc, self.model, self.goals, self.dir) {
+            Ok(answer) => {
+                let lower = answer.values.clone()?;
+                Ok(Some(ReachBoundsCert {
+                    lower,
+                    upper: answer.values,
+                    choices: answer.choices,
+                    ranks: answer.ranks,
+                }))
+            }
+            Err(Unfinished::TooWide(_)) => Ok(None),
+            Err(Unfinished::Memory) => Err(Memory),
+        }
     }
 
     fn lacking(&self, cert: &ReachBoundsCert, digits: u32) -> u32 {

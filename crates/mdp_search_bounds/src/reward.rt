@@ -11,7 +11,9 @@ use mdp_claims::Verdict;
 use mdp_ladder::{Search, bounds_by, listed, most_lacking_rewards, numbers};
 use mdp_near_reward::{NearReward, near_reward};
 use mdp_num::Memory;
+use mdp_reward::solve_reward;
 use mdp_rows::{Dir, Marks, Model};
+use mdp_wide::Unfinished;
 use std::alloc::Global;
 
 /// The search for bounds of the reward of a name until a goal.
@@ -84,6 +86,22 @@ impl Search for Earning<'_, '_> {
             holds_bounds_reward(self.model, self.name, self.goals, self.dir, cert),
             Verdict::Yes
         )
+    }
+
+    fn exact(&self, alloc: Global) -> Result<Option<RewardBoundsCert>, Memory> {
+        match solve_reward(alloc, self.model, self.name, self.goals, self.dir) {
+            Ok(answer) => {
+                let lower = answer.values.clone()?;
+                Ok(Some(RewardBoundsCert {
+                    lower,
+                    upper: answer.values,
+                    choices: answer.choices,
+                    ranks: answer.ranks,
+                }))
+            }
+            Err(Unfinished::TooWide(_)) => Ok(None),
+            Err(Unfinished::Memory) => Err(Memory),
+        }
     }
 
     fn lacking(&self, cert: &RewardBoundsCert, digits: u32) -> u32 {
