@@ -25,8 +25,6 @@ import collections
 import concurrent.futures
 import dataclasses
 import hashlib
-import importlib.machinery
-import importlib.util
 import json
 import pathlib
 import re
@@ -37,24 +35,14 @@ import tempfile
 import threading
 import time
 
+from . import build
+
 TOP = pathlib.Path(__file__).resolve().parent.parent.parent
 TABLE = TOP / "tools" / "wrong_bodies.txt"
 KEPT = TOP / "out" / "wrong-bodies"
 FEWEST, SECONDS = 300, 3600
 FIELDS = ("wrong", "clause", "seen", "proved")
 LOCK = threading.Lock()
-
-
-def loaded(name):
-    """A tool as a module: it has no ending."""
-    loader = importlib.machinery.SourceFileLoader(name, str(TOP / "tools" / name))
-    spec = importlib.util.spec_from_loader(name, loader)
-    module = importlib.util.module_from_spec(spec)
-    loader.exec_module(module)
-    return module
-
-
-build = loaded("build")
 
 
 # ---- the table
