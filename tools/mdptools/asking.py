@@ -346,6 +346,8 @@ class Session:
 
     def values(self, query, source, is_enough):
         """The answer to a query, exact or with bounds that are enough, as far as digits go."""
+        if not isinstance(query.path.steps, (int, type(None))):
+            raise Unsupported("an experiment and <=? are asked of the initial state alone, without a filter", query.path.start, query.path.end)
         question = self.question(query, source)
         if question is None:
             return self.without_goal(query)
@@ -483,9 +485,11 @@ def of_least(session, query, result):
     if question is None or is_never(session, query, result.asked.source):
         result.truth, result.least = False, math.inf
         return
+    before = len(session.evidence)
     while steps <= 1 << 17:
+        del session.evidence[before:]
         pairs, _ = session.curve(question, steps, digits)
-        found = [decided(low, high, query.relation, query.threshold) for low, high in pairs]
+        found = settled(session, question, query, [decided(low, high, query.relation, query.threshold) for low, high in pairs])
         known = found.index(True) if True in found else len(found)
         if None in found[:known] and digits < MOST_DIGITS:
             digits = min(MOST_DIGITS, digits + MORE_DIGITS)
@@ -497,8 +501,21 @@ def of_least(session, query, result):
             return
         else:
             steps *= 8
-        session.evidence.pop()
     session.note(f"with {steps // 8} steps the bound isn't met yet")
+
+
+def settled(session, question, query, found, most=8):
+    """The same, where the first few numbers of steps that bounds don't decide are decided by their exact values, if these aren't too wide."""
+    known = found.index(True) if True in found else len(found)
+    if None not in found[:known] or not most:
+        return found
+    k = found.index(None)
+    answer = session.exact(replace(question, steps=k))
+    if answer is None:
+        return found
+    value = answer.lower[session.starts[0]]
+    truth = decided(value, value, query.relation, query.threshold)
+    return [*found[:k], truth, *found[k + 1 :]] if truth else settled(session, question, query, [*found[:k], False, *found[k + 1 :]], most - 1)
 
 
 def is_never(session, query, source):
@@ -551,9 +568,10 @@ def of_property(session, asked):
     """What a property comes to."""
     session.evidence, session.notes, session.source = [], [], asked.source
     result, tree = Result(asked), asked.tree
-    if isinstance(tree, Query) and isinstance(tree.path.steps, Range):
+    is_alone = isinstance(tree, Query) and tree.where is None
+    if is_alone and isinstance(tree.path.steps, Range):
         of_experiment(session, tree, result)
-    elif isinstance(tree, Query) and tree.path.steps == "?":
+    elif is_alone and tree.path.steps == "?":
         of_least(session, tree, result)
     elif isinstance(tree, Query):
         where = None if tree.where is None else states_of(session.labels.states(tree.where))

@@ -63,6 +63,16 @@ pub trait Search {
         requires { is_sized self.now cert.now }
         ensures { result ≡ true → is_held self.now cert.now };
 
+    /// The exact answer, as a lower and an upper value that are the same, where there is a search for it that comes to no term past width.
+    fn exact(&self, _alloc: Global) -> Result<Option<Self::Cert>, Memory>
+        ensures { IfOk result (λ found. IfSome found (is_sized self.now)) }
+    {
+        Ok(None)
+    }
+
+    /// How many digits the bounds of a certificate lack of so many, at the state where most are lacking; none where all are as near.
+    fn lacking(&self, cert: &Self::Cert, digits: u32) -> u32;
+
     /// The bounds that say nothing. The rules say yes to them.
     fn trivial(&self, alloc: Global) -> Result<Self::Cert, Memory>
         ensures { IfOk result (is_held self.now) };
@@ -122,20 +132,115 @@ fn held_proposed<S: Search>(
     Ok(held(search, cert))
 }
 
-/// The same of what the search proposes with the most digits, where these are more than those of what it proposed before.
-fn held_exact_with_most<S: Search>(
+/// What the search proposes with the most digits, where these are more than those of what it proposed before.
+fn with_most<S: Search>(
     alloc: Global,
     search: &S,
     near: &mut S::Near,
     digits: u32,
-) -> Result<Option<S::Cert>, Memory>
-    ensures { IfOk result (λ found. IfSome found (S.is_held search.now)) }
-{
+) -> Result<Option<S::Near>, Memory> {
     if digits >= MOST_DIGITS {
         return Ok(None);
     }
-    let more = search.nearer(alloc, MOST_DIGITS, near)?;
-    held_exact(alloc, search, &more)
+    let most = search.nearer(alloc, MOST_DIGITS, near)?;
+    Ok(Some(most))
+}
+
+/// The simplest fractions, where the search proposed something.
+fn held_exact_of<S: Search>(
+    alloc: Global,
+    search: &S,
+    near: &Option<S::Near>,
+) -> Result<Option<S::Cert>, Memory>
+    ensures { IfOk result (λ found. IfSome found (S.is_held search.now)) }
+{
+    match near {
+        Some(near) => held_exact(alloc, search, near),
+        None => Ok(None),
+    }
+}
+
+/// How many digits a certificate lacks; all where there is none.
+fn lacking_of<S: Search>(search: &S, cert: &Option<S::Cert>, digits: u32) -> u32 {
+    match cert {
+        Some(cert) => search.lacking(cert, digits),
+        None => MOST_DIGITS,
+    }
+}
+
+/// The bounds that the search proposed, where the rules say yes to them and they lack fewer digits than others.
+fn held_nearer<S: Search>(
+    alloc: Global,
+    search: &S,
+    near: &S::Near,
+    others_lack: u32,
+    digits: u32,
+) -> Result<Option<S::Cert>, Memory>
+    ensures { IfOk result (λ found. IfSome found (S.is_held search.now)) }
+{
+    let cert = held_proposed(alloc, search, near)?;
+    if lacking_of(search, &cert, digits) < others_lack {
+        return Ok(cert);
+    }
+    Ok(None)
+}
+
+/// What the search proposes with as many digits more as are lacking, where that is enough.
+fn held_enough<S: Search>(
+    alloc: Global,
+    search: &S,
+    lacking: u32,
+    digits: u32,
+) -> Result<Option<S::Cert>, Memory>
+    ensures { IfOk result (λ found. IfSome found (S.is_held search.now)) }
+{
+    let enough = digits.saturating_add(lacking);
+    if enough >= MOST_DIGITS {
+        return Ok(None);
+    }
+    let near = search.near(alloc, enough)?;
+    held_nearer(alloc, search, &near, 1, digits)
+}
+
+/// Bounds that lack fewer digits than those before: with as many digits more as these lack, where that is enough, else with the most.
+fn held_finer<S: Search>(
+    alloc: Global,
+    search: &S,
+    most: &Option<S::Near>,
+    lacking: u32,
+    digits: u32,
+) -> Result<Option<S::Cert>, Memory>
+    ensures { IfOk result (λ found. IfSome found (S.is_held search.now)) }
+{
+    if let Some(cert) = held_enough(alloc, search, lacking, digits)? {
+        return Ok(Some(cert));
+    }
+    match most {
+        Some(most) => held_nearer(alloc, search, most, lacking, digits),
+        None => Ok(None),
+    }
+}
+
+/// The bounds that the search proposed, where the rules say yes to them: with so many digits, where they are as near as these say; else nearer ones, where
+/// there are any.
+fn held_as_near<S: Search>(
+    alloc: Global,
+    search: &S,
+    near: &S::Near,
+    most: &Option<S::Near>,
+    digits: u32,
+) -> Result<Option<S::Cert>, Memory>
+    ensures { IfOk result (λ found. IfSome found (S.is_held search.now)) }
+{
+    let first = held_proposed(alloc, search, near)?;
+    let lacking = lacking_of(search, &first, digits);
+    if lacking == 0 {
+        return Ok(first);
+    }
+    match held_finer(alloc, search, most, lacking, digits)? {
+        Some(finer) => Ok(Some(finer)),
+        None => Ok(first),
+    }
 }
 
 /// What the search proposes with so many digits, where the rules say yes to it: first the simplest fractions between its bounds, as exact values.
@@ -167,8 +272,39 @@ fn held_with_fewer<S: Search>(
     Ok(None)
 }
 
+/// The exact answer, where the rules say yes to it.
+fn held_answer<S: Search>(alloc: Global, search: &S) -> Result<Option<S::Cert>, Memory>
+    ensures { IfOk result (λ found. IfSome found (S.is_held search.now)) }
+{
+    match search.exact(alloc)? {
+        Some(cert) => Ok(held(search, cert)),
+        None => Ok(None),
+    }
+}
+
+/// The bounds that the search proposed, where they are as near as so many digits say; else the exact answer, where there is one; else those bounds.
+fn held_near_or_exact<S: Search>(
+    alloc: Global,
+    search: &S,
+    near: &S::Near,
+    most: &Option<S::Near>,
+    digits: u32,
+) -> Result<Option<S::Cert>, Memory>
+    ensures { IfOk result (λ found. IfSome found (S.is_held search.now)) }
+{
+    let found = held_as_near(alloc, search, near, most, digits)?;
+    if lacking_of(search, &found, digits) == 0 {
+        return Ok(found);
+    }
+    match held_answer(alloc, search)? {
+        Some(exact) => Ok(Some(exact)),
+        None => Ok(found),
+    }
+}
+
 /// Bounds that meet the rules: exact values, where the simplest fractions between the bounds that the search proposes, with so many digits or with the
-/// most, are such; else these bounds, with so many digits or fewer; else those that say nothing.
+/// most, are such; else these bounds, with so many digits, or with more where they aren't as near as so many digits say; where no bounds are as near the exact
+/// answer, if it isn't too wide; else bounds with fewer digits; else those that say nothing.
 pub fn bounds_by<S: Search>(alloc: Global, search: &S, digits: u32) -> Result<S::Cert, Memory>
     ensures { IfOk result (S.is_held search.now) }
 {
@@ -176,10 +312,11 @@ pub fn bounds_by<S: Search>(alloc: Global, search: &S, digits: u32) -> Result<S:
     if let Some(exact) = held_exact(alloc, search, &near)? {
         return Ok(exact);
     }
-    if let Some(exact) = held_exact_with_most(alloc, search, &mut near, digits)? {
+    let most = with_most(alloc, search, &mut near, digits)?;
+    if let Some(exact) = held_exact_of(alloc, search, &most)? {
         return Ok(exact);
     }
-    if let Some(cert) = held_proposed(alloc, search, &near)? {
+    if let Some(cert) = held_near_or_exact(alloc, search, &near, &most, digits)? {
         return Ok(cert);
     }
     if let Some(cert) = held_with_fewer(alloc, search, digits)? {

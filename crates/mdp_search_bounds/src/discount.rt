@@ -9,7 +9,10 @@ use crate::missing::missing_discount;
 use mdp_discount_bounds::{
     DiscountBounds, Verdict, discount_bounds_at_state, greatest_magnitude, holds_bounds_discount,
 };
-use mdp_ladder::{Search, all_capped, bounds_by, listed, numbers, simplest_rewards};
+use mdp_ladder::{
+    MOST_DIGITS, Search, all_capped, bounds_by, listed, most_lacking_rewards, numbers,
+    simplest_rewards,
+};
 use mdp_near::{NearDiscount, near_discount};
 use mdp_num::{Frac, Memory};
 use mdp_rows::{Dir, Model};
@@ -47,6 +50,16 @@ fn simplest_bounds(
         choices,
         remainder,
     })
+}
+
+/// Whether no value is missing.
+fn are_there(values: &[Option<Frac>]) -> bool {
+    for value in values {
+        if value.is_none() {
+            return false;
+        }
+    }
+    true
 }
 
 impl Discounting<'_> {
@@ -140,6 +153,14 @@ impl Search for Discounting<'_> {
         )
     }
 
+    fn lacking(&self, bounds: &DiscountBounds, digits: u32) -> u32 {
+        if are_there(&bounds.lower) {
+            most_lacking_rewards(&bounds.lower, &bounds.upper, digits)
+        } else {
+            MOST_DIGITS
+        }
+    }
+
     fn trivial(&self, alloc: Global) -> Result<DiscountBounds, Memory> {
         if let Some(bounds) = self.finite(alloc)? {
             return Ok(bounds);
@@ -154,8 +175,8 @@ impl Search for Discounting<'_> {
 
 /// Bounds of the greatest or the least sum of rewards of the name of place `name` where a step later counts `factor` times as much, with a policy and a
 /// remainder: exact values, where the simplest fractions between the bounds that the search proposes, with so many digits or with the most, are such; else
-/// these bounds, with so many digits or fewer; else one number that no reward passes; else no value at all. They always meet the rules. An `Err` is want of
-/// memory.
+/// these bounds, with so many digits, with more where they aren't as near, or with fewer; else one number that no reward passes; else no value at all. They
+/// always meet the rules. An `Err` is want of memory.
 pub fn bounds_discount(
     alloc: Global,
     model: &Model,

@@ -7,7 +7,7 @@ use crate::mean_trivial::trivial_mean;
 use crate::simplest::simplest_mean;
 use mdp_bounds::{MeanBoundsCert, holds_bounds_mean, mean_bounds_at_state};
 use mdp_claims::Verdict;
-use mdp_ladder::{Search, bounds_by, fractions, numbers};
+use mdp_ladder::{Search, bounds_by, fractions, most_lacking, numbers};
 use mdp_near_mean::{NearMean, near_mean, nearer_mean};
 use mdp_num::Memory;
 use mdp_rows::{Dir, Model};
@@ -93,6 +93,10 @@ impl Search for Averaging<'_> {
         )
     }
 
+    fn lacking(&self, cert: &MeanBoundsCert, digits: u32) -> u32 {
+        most_lacking(&cert.lower, &cert.upper, digits)
+    }
+
     fn trivial(&self, alloc: Global) -> Result<MeanBoundsCert, Memory> {
         trivial_mean(alloc, self.model, self.name)
     }
@@ -100,8 +104,8 @@ impl Search for Averaging<'_> {
 
 /// Bounds of the greatest or the least mean payoff of the name of place `name`, in units of that reward, with a policy, two relative values for each
 /// state and their spread: exact gains, where the simplest fractions between the bounds that the search proposes, with so many digits or with the most,
-/// are such; else these bounds, with so many digits or fewer; else the least and the greatest reward. They always meet the rules. An `Err` is want of
-/// memory.
+/// are such; else these bounds, with so many digits, with more where they aren't as near, or with fewer; else the least and the greatest reward. They always
+/// meet the rules. An `Err` is want of memory.
 pub fn bounds_mean(
     alloc: Global,
     model: &Model,

@@ -7,10 +7,12 @@ use crate::simplest::simplest_reach;
 use crate::trivial::trivial_reach;
 use mdp_bounds::{ReachBoundsCert, holds_bounds_reach, reach_bounds_at_state};
 use mdp_claims::Verdict;
-use mdp_ladder::{Search, bounds_by, fractions, numbers};
+use mdp_ladder::{Search, bounds_by, fractions, most_lacking, numbers};
 use mdp_near::{NearReach, near_reach};
 use mdp_num::Memory;
+use mdp_reach::solve_reach;
 use mdp_rows::{Dir, Marks, Model};
+use mdp_wide::Unfinished;
 use std::alloc::Global;
 
 /// The search for bounds of the probability to reach a goal.
@@ -81,6 +83,26 @@ impl Search for Reaching<'_, '_> {
         )
     }
 
+    fn exact(&self, alloc: Global) -> Result<Option<ReachBoundsCert>, Memory> {
+        match solve_reach(alloc, self.model, self.goals, self.dir) {
+            Ok(answer) => {
+                let lower = answer.values.clone()?;
+                Ok(Some(ReachBoundsCert {
+                    lower,
+                    upper: answer.values,
+                    choices: answer.choices,
+                    ranks: answer.ranks,
+                }))
+            }
+            Err(Unfinished::TooWide(_)) => Ok(None),
+            Err(Unfinished::Memory) => Err(Memory),
+        }
+    }
+
+    fn lacking(&self, cert: &ReachBoundsCert, digits: u32) -> u32 {
+        most_lacking(&cert.lower, &cert.upper, digits)
+    }
+
     fn trivial(&self, alloc: Global) -> Result<ReachBoundsCert, Memory> {
         let cert = trivial_reach(alloc, self.model, self.goals)?;
         match holds_bounds_reach(self.model, self.goals, self.dir, &cert) {
@@ -91,8 +113,8 @@ impl Search for Reaching<'_, '_> {
 }
 
 /// Bounds of the greatest or the least probability to reach a goal, with a policy and ranks: exact values, where the simplest fractions between the
-/// bounds that the search proposes, with so many digits or with the most, are such; else these bounds, with so many digits or fewer; else 0 and 1. They
-/// always meet the rules.
+/// bounds that the search proposes, with so many digits or with the most, are such; else these bounds, with so many digits, with more where they aren't as
+/// near, or with fewer; else 0 and 1. They always meet the rules.
 pub fn bounds_reach(
     alloc: Global,
     model: &Model,

@@ -8,10 +8,12 @@ use crate::reward_trivial::trivial_reward;
 use crate::simplest::simplest_rewards_of;
 use mdp_bounds::{RewardBoundsCert, holds_bounds_reward, reward_bounds_at_state};
 use mdp_claims::Verdict;
-use mdp_ladder::{Search, bounds_by, listed, numbers};
+use mdp_ladder::{Search, bounds_by, listed, most_lacking_rewards, numbers};
 use mdp_near_reward::{NearReward, near_reward};
 use mdp_num::Memory;
+use mdp_reward::solve_reward;
 use mdp_rows::{Dir, Marks, Model};
+use mdp_wide::Unfinished;
 use std::alloc::Global;
 
 /// The search for bounds of the reward of a name until a goal.
@@ -86,6 +88,26 @@ impl Search for Earning<'_, '_> {
         )
     }
 
+    fn exact(&self, alloc: Global) -> Result<Option<RewardBoundsCert>, Memory> {
+        match solve_reward(alloc, self.model, self.name, self.goals, self.dir) {
+            Ok(answer) => {
+                let lower = answer.values.clone()?;
+                Ok(Some(RewardBoundsCert {
+                    lower,
+                    upper: answer.values,
+                    choices: answer.choices,
+                    ranks: answer.ranks,
+                }))
+            }
+            Err(Unfinished::TooWide(_)) => Ok(None),
+            Err(Unfinished::Memory) => Err(Memory),
+        }
+    }
+
+    fn lacking(&self, cert: &RewardBoundsCert, digits: u32) -> u32 {
+        most_lacking_rewards(&cert.lower, &cert.upper, digits)
+    }
+
     fn trivial(&self, alloc: Global) -> Result<RewardBoundsCert, Memory> {
         trivial_reward(alloc, self.model, self.name, self.goals, self.dir)
     }
@@ -93,7 +115,7 @@ impl Search for Earning<'_, '_> {
 
 /// Bounds of the greatest or the least reward of the name of place `name` until a goal, in units of that reward, with a policy and ranks: exact values,
 /// where the simplest fractions between the bounds that the search proposes, with so many digits or with the most, are such; else these bounds, with so
-/// many digits or fewer; else 0 and infinite. They always meet the rules. An `Err` is want of memory.
+/// many digits, with more where they aren't as near, or with fewer; else 0 and infinite. They always meet the rules. An `Err` is want of memory.
 pub fn bounds_reward(
     alloc: Global,
     model: &Model,
