@@ -11,7 +11,7 @@ bodies of one crate alone, --list prints the table and what is kept of it. The l
 (bin/mdp), and else those that `rt check` makes and keeps in out/rlib.
 
     refused   a goal of the function itself is open, or an answer that is written for it doesn't fit
-    unclear   a name is gone that the answers written for it speak of, which by itself shows nothing: read the clause
+    unclear   a name is gone that the answers written for it speak of, which by itself shows nothing, and without them it isn't proved: read the clause
     proved    the function is proved
     failed    it can't be applied, doesn't compile, or the check gave no verdict
 
@@ -69,6 +69,10 @@ class Body:
     def is_alone(self):
         """Whether it changes what stands outside its function, so that others of the same copy could be refused for it."""
         return any(re.match(r"(pub(\([a-z]+\))? )?const ", old) for old, _ in self.edits)
+
+    def answers(self):
+        """The folder of what is written for the proof of its function, in its crate."""
+        return f"proofs/{self.function.replace('::', '/')}/"
 
     def applied(self, text):
         """The text of the file with the edits; None where an old text doesn't stand there once."""
@@ -229,8 +233,8 @@ def rounds(bodies):
     return [group for group in ([body for body in group if not body.is_alone()] for group in groups) if group] + alone
 
 
-def copied(name, bodies, place):
-    """Copies a crate and puts wrong bodies into it; those that can't be applied."""
+def copied(name, bodies, place, is_bare):
+    """Copies a crate and puts wrong bodies into it, where that is asked without the answers that are written for them; those that can't be applied."""
     for part in build.PARTS:
         if (TOP / "crates" / name / part).is_dir():
             shutil.copytree(TOP / "crates" / name / part, place / "crates" / name / part)
@@ -242,6 +246,8 @@ def copied(name, bodies, place):
             failed.append(body)
         else:
             path.write_text(text)
+        if is_bare:
+            (place / "crates" / name / body.answers() / "Answers.antt").unlink(missing_ok=True)
     return failed
 
 
@@ -252,7 +258,7 @@ def end_of(body, said):
         return "failed", "the check says nothing of its function"
     if found[-1] in ("proved", "could not tell"):
         return ("proved" if found[-1] == "proved" else "failed"), found[-1]
-    errors = [line for line in said if f"proofs/{body.function.replace('::', '/')}/" in line and ": error: " in line]
+    errors = [line for line in said if body.answers() in line and ": error: " in line]
     if errors:
         is_gone = all(" has no `" in line for line in errors)
         return ("unclear" if is_gone else "refused"), " ".join(errors)[:400]
@@ -260,9 +266,9 @@ def end_of(body, said):
     return ("waits" if own.startswith("it calls ") else "refused"), own or found[-1]
 
 
-def checked_once(name, bodies, trial, folder, checked):
+def checked_once(name, bodies, trial, folder, checked, is_bare):
     """Puts wrong bodies into a copy and checks their functions: those that can't be applied, and the lines that the check printed."""
-    failed = copied(name, bodies, folder)
+    failed = copied(name, bodies, folder, is_bare)
     words = trial.libraries.words(name, [body.function for body in bodies if body not in failed], checked)
     try:
         ended = subprocess.run(words, cwd=folder / "crates" / name, stdin=subprocess.DEVNULL, capture_output=True, timeout=SECONDS, check=False)
@@ -270,29 +276,40 @@ def checked_once(name, bodies, trial, folder, checked):
     except subprocess.TimeoutExpired:
         said = [f"no verdict in {SECONDS} seconds"]
     (KEPT / "said").mkdir(parents=True, exist_ok=True)
-    (KEPT / "said" / f"{name}-{bodies[0].name}.txt").write_text("\n".join(said))
+    (KEPT / "said" / f"{bodies[0].name}{'-bare' * is_bare}.txt").write_text("\n".join(said))
     return failed, said
 
 
-def tried(name, bodies, trial, checked):
-    """How the checks of wrong bodies ended that share a copy. Where one of several doesn't compile they are tried by halves; those that wait for another
-    are tried again without it."""
+def tried_once(name, bodies, trial, checked, is_bare):
+    """How the checks of wrong bodies ended that share a copy, and whether they compile."""
     with tempfile.TemporaryDirectory(dir=trial.room) as folder:
-        failed, said = checked_once(name, bodies, trial, pathlib.Path(folder), checked)
+        failed, said = checked_once(name, bodies, trial, pathlib.Path(folder), checked, is_bare)
     ends = {body.name: ("failed", "it can't be applied") for body in failed}
     well = [body for body in bodies if body not in failed]
     if any(line.startswith("fn ") for line in said):
-        ends.update({body.name: end_of(body, said) for body in well})
-        again = [body for body in well if ends[body.name][0] == "waits"]
-    else:
-        error = next((line for line in said if line.startswith("error")), said[-1])
-        ends.update({body.name: ("failed", error) for body in well})
-        again = well
+        return {**ends, **{body.name: end_of(body, said) for body in well}}, True
+    error = next((line for line in said if line.startswith("error")), said[-1])
+    return {**ends, **{body.name: ("failed", error) for body in well}}, not well
+
+
+def tried(name, bodies, trial, checked, is_bare=False):
+    """The same, where those of several that don't compile are tried by halves, and those that wait for another again without it."""
+    ends, compiles = tried_once(name, bodies, trial, checked, is_bare)
+    again = [body for body in bodies if ends[body.name][0] == "waits"] if compiles else bodies
     if len(bodies) == 1:
         return {name: ("failed" if end == "waits" else end, why) for name, (end, why) in ends.items()}
-    half = (len(again) + 1) // 2
-    for part in [again] if len(again) < len(bodies) else [again[:half], again[half:]]:
-        ends.update(tried(name, part, trial, checked) if part else {})
+    half = len(again) if len(again) < len(bodies) else len(again) // 2
+    for part in (again[:half], again[half:]):
+        ends.update(tried(name, part, trial, checked, is_bare) if part else {})
+    return ends
+
+
+def tried_twice(name, bodies, trial, checked):
+    """The same, where those whose answers speak of a name that is gone are tried again without answers: that finds those that are proved all the same."""
+    ends = tried(name, bodies, trial, checked)
+    again = [body for body in bodies if ends[body.name][0] == "unclear"]
+    bare = tried(name, again, trial, checked, is_bare=True) if again else {}
+    ends.update({name: end for name, end in bare.items() if end[0] == "proved"})
     return ends
 
 
@@ -308,7 +325,7 @@ class Trial:
         began, source = time.monotonic(), source_sum(name)
         with LOCK:
             checked = self.checked[name].pop() if self.checked[name] else pathlib.Path(tempfile.mkdtemp(dir=self.room))
-        ends = tried(name, bodies, self, checked)
+        ends = tried_twice(name, bodies, self, checked)
         with LOCK:
             self.checked[name].append(checked)
             keep(name, {**kept_of(name), **{body.sum(source): [body.name, *ends[body.name]] for body in bodies}})

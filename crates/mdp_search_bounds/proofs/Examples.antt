@@ -1,6 +1,6 @@
 -- The bounds that say nothing of a small model, computed, and what the rules say of others.
 use Rattle.std.proofs.Common.{◌≡◌, ℕ, ◌∙◌, Bool, true, false, true≢false, List, [], ◌∷◌, Some, None, refl, sym, arith}
-use Rattle.mdp_math.specs.{Gcd.{gcd, gcd_with_fuel}, Rational.{ℚ, of_int, ratio, le_ℚ, lt_ℚ, neg_ℚ, ◌+ℚ◌, ◌*ℚ◌}}
+use Rattle.mdp_math.specs.{Gcd.{gcd, gcd_with_fuel}, Rational.{of_int, ratio, le_ℚ, lt_ℚ, neg_ℚ, ◌+ℚ◌, ◌*ℚ◌}}
 use Rattle.mdp_math.specs.Written.{narrow, narrow_ℚ, written_add, written_mul}
 use Rattle.mdp_math.proofs.Extremes.{test_of_le}
 use Rattle.mdp_spec.specs.Mdp.{Mdp, Choice, Entry}
