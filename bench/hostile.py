@@ -7,35 +7,45 @@ itself, from which the program is started.
 Usage: bench/hostile.py [CASE ..] (all cases if nothing is said; `bench/hostile.py --list` names them).
 """
 
+import itertools
 import os
 import subprocess
 import sys
 import tempfile
 import time
 
+sys.dont_write_bytecode = True
 TOP = os.path.join(os.path.dirname(os.path.abspath(__file__)), "..")
+sys.path.insert(0, os.path.join(TOP, "tools"))
+
+from mdptools import certificates, drn  # noqa: E402
+
 PROGRAM = os.path.join(TOP, "bin", "mdp")
 
-HEAD = "@type: MDP\n@nr_states\n%d\n@model\n"
-REWARDED = "@type: MDP\n@parameters\n\n@reward_models\n\n@nr_states\n%d\n@model\n"
+HEAD_LINES = len([*drn.head([], 1)])
 MOST_LINE = 65536
 MOST_STATES = 1 << 20
 MOST_FILE = 1 << 30
 
 
-def write_model(path, states, lines):
-    with open(path, "w") as file:
-        file.write(HEAD % states)
-        file.writelines(lines)
+def write_model(path, states, lines, names=()):
+    drn.write(path, itertools.chain(drn.head(names, states), lines))
 
 
-def coin(path, comment=""):
+def ends(s, states):
+    """The labels of a state where the first one is the initial one, and the last one the goal."""
+    return ["init"] if s == 0 else ["goal"] if s == states - 1 else []
+
+
+def coin(path, comment):
     """One state that stays, and a goal, behind a comment."""
-    write_model(path, 2, [comment, "state 0 init\naction\n0 : 1/2\n1 : 1/2\nstate 1 goal\naction\n1 : 1\n"])
+    lines = [drn.state_line(0, ["init"]), *drn.choice_lines([(0, "1/2"), (1, "1/2")]), drn.state_line(1, ["goal"]), *drn.choice_lines([(1, 1)])]
+    write_model(path, 2, [comment, *lines])
 
 
 def comment_line(length):
-    return "//" + "x" * (length - 2) + "\n"
+    """A comment of so many bytes without its line feed."""
+    return "//" + "x" * (length - 2)
 
 
 def long_line(folder):
@@ -45,15 +55,15 @@ def long_line(folder):
 
 def longer_line(folder):
     coin(folder + "/model.drn", comment_line(MOST_LINE + 1))
-    return ["solve", "model.drn", "exact", "max", "reach", "goal"], "model line 5 long-line"
+    return ["solve", "model.drn", "exact", "max", "reach", "goal"], f"model line {HEAD_LINES + 1} long-line"
 
 
 def ring_lines(states, choices):
     """A ring: each choice goes to the next state with 1/2, and to another one with 1/2."""
     for s in range(states):
-        yield "state %d%s\n" % (s, " init" if s == 0 else " goal" if s == states - 1 else "")
+        yield drn.state_line(s, ends(s, states))
         for c in range(choices):
-            yield "action\n%d : 1/2\n%d : 1/2\n" % ((s + 1) % states, (s + 2 + c) % states)
+            yield from drn.choice_lines([((s + 1) % states, "1/2"), ((s + 2 + c) % states, "1/2")])
 
 
 def many_states(folder):
@@ -63,13 +73,14 @@ def many_states(folder):
 
 def too_many_states(folder):
     write_model(folder + "/model.drn", MOST_STATES + 1, [])
-    return ["solve", "model.drn", "exact", "max", "reach", "goal"], "model line 3 too-many"
+    return ["solve", "model.drn", "exact", "max", "reach", "goal"], f"model line {HEAD_LINES - 1} too-many"
 
 
 def line_lines(states):
     """A line of states, the last of them the goal: each goes on."""
     for s in range(states):
-        yield "state %d%s\naction\n%d : 1\n" % (s, " init" if s == 0 else " goal" if s == states - 1 else "", min(s + 1, states - 1))
+        yield drn.state_line(s, ends(s, states))
+        yield from drn.choice_lines([(min(s + 1, states - 1), 1)])
 
 
 def deep_solve(folder):
@@ -83,16 +94,16 @@ def many_choices(folder):
 
 
 def too_many_choices(folder):
-    write_model(folder + "/model.drn", 1, ["state 0 goal\n", "action\n0 : 1\n" * (4 * MOST_STATES + 1)])
-    return ["solve", "model.drn", "exact", "max", "reach", "goal"], "model line %d too-many" % (5 + 1 + 2 * 4 * MOST_STATES)
+    choices = itertools.repeat([*drn.choice_lines([(0, 1)])], 4 * MOST_STATES + 1)
+    write_model(folder + "/model.drn", 1, itertools.chain([drn.state_line(0, ["goal"])], itertools.chain.from_iterable(choices)))
+    return ["solve", "model.drn", "exact", "max", "reach", "goal"], f"model line {HEAD_LINES + 2 + 2 * 4 * MOST_STATES} too-many"
 
 
 def wide_rows(states, entries):
     """Four choices a state, each with a row of equal entries to the next states."""
     for s in range(states):
-        yield "state %d%s\n" % (s, " init" if s == 0 else " goal" if s == states - 1 else "")
-        row = "".join("%d : 1/%d\n" % ((s + 1 + t) % states, entries) for t in range(entries))
-        yield ("action\n" + row) * 4
+        yield drn.state_line(s, ends(s, states))
+        yield from [*drn.choice_lines([((s + 1 + t) % states, f"1/{entries}") for t in range(entries)])] * 4
 
 
 def many_entries(folder):
@@ -103,37 +114,32 @@ def many_entries(folder):
 def many_labels(folder):
     """1,024 labels of 255 bytes, 16 at each of 64 states."""
     names = [("%04d" % n).rjust(255, "x") for n in range(1024)]
-    lines = ("state %d %s\naction\n%d : 1\n" % (s, " ".join(names[16 * s : 16 * s + 16]), s) for s in range(64))
-    write_model(folder + "/model.drn", 64, lines)
+    states = ([drn.state_line(s, names[16 * s : 16 * s + 16]), *drn.choice_lines([(s, 1)])] for s in range(64))
+    write_model(folder + "/model.drn", 64, itertools.chain.from_iterable(states))
     return ["solve", "model.drn", "exact", "max", "reach", names[1023]], "mdp-certificate 2"
 
 
 def many_rewards(folder):
     """16 reward models at 100,000 states with two choices each."""
-    states, names = 100_000, " ".join("reward%d" % n for n in range(16))
-    bracket = "[" + ", ".join("%d/7" % n for n in range(16)) + "]"
-    with open(folder + "/model.drn", "w") as file:
-        file.write("@type: MDP\n@reward_models\n%s\n@nr_states\n%d\n@model\n" % (names, states))
+    states, rewards = 100_000, [f"{n}/7" for n in range(16)]
+
+    def lines():
         for s in range(states):
-            label = " goal" if s == states - 1 else ""
-            file.write("state %d %s%s\n" % (s, bracket, label))
-            file.write(("action a %s\n%d : 1\n" % (bracket, min(s + 1, states - 1))) * 2)
+            yield drn.state_line(s, ["goal"] * (s == states - 1), rewards)
+            yield from [*drn.choice_lines([(min(s + 1, states - 1), 1)], "a", rewards)] * 2
+
+    write_model(folder + "/model.drn", states, lines(), [f"reward{n}" for n in range(16)])
     return ["solve", "model.drn", "exact", "max", "reward", "reward15", "goal"], "mdp-certificate 2"
 
 
 def fill(path, length):
     """A small model behind comments, of exactly so many bytes."""
-    body = "state 0 init goal\naction\n0 : 1\n"
-    head = HEAD % 1
-    left = length - len(head) - len(body)
-    block = comment_line(MOST_LINE)
-    with open(path, "w") as file:
-        file.write(head)
-        while left >= 2 * len(block):
-            file.write(block)
-            left -= len(block)
-        file.write(comment_line(left // 2 - 1) + comment_line(left - left // 2 - 1))
-        file.write(body)
+    body = [drn.state_line(0, ["init", "goal"]), *drn.choice_lines([(0, 1)])]
+    left = length - sum(len(line) + 1 for line in [*drn.head([], 1), *body])
+    blocks = left // (MOST_LINE + 1) - 1
+    left -= blocks * (MOST_LINE + 1)
+    comments = itertools.chain(itertools.repeat(comment_line(MOST_LINE), blocks), [comment_line(left // 2 - 1), comment_line(left - left // 2 - 1)])
+    write_model(path, 1, itertools.chain(comments, body))
 
 
 def great_file(folder):
@@ -149,10 +155,8 @@ def greater_file(folder):
 def great_certificate(folder):
     """2^20 states, each with a line of its own in the certificate."""
     write_model(folder + "/model.drn", MOST_STATES, line_lines(MOST_STATES))
-    with open(folder + "/given.cert", "w") as file:
-        file.write('mdp-certificate 2\nclaim max reach "goal"\nstates %d\ninit 0 1\n' % MOST_STATES)
-        file.writelines("state %d 1 0 %d\n" % (s, MOST_STATES - 1 - s) for s in range(MOST_STATES))
-        file.write("end\n")
+    says = (f"1 0 {rank}" for rank in reversed(range(MOST_STATES)))
+    drn.write(folder + "/given.cert", certificates.lines_to_write("mdp-certificate 2", 'max reach "goal"', "0 1", MOST_STATES, says))
     return ["check", "model.drn", "exact", "given.cert"], "yes"
 
 
@@ -168,13 +172,17 @@ def forged_at_the_end(folder):
     return words, "denied rule 8 state %d choice 0" % (last - 1)
 
 
+def halves_lines(states, back):
+    """A goal, states that go back to some one with 1/2 and on to the next with 1/2, and a last one that stays."""
+    for s in range(states):
+        yield drn.state_line(s, ["goal"] if s == 0 else ["init"] * (s == states - 1))
+        yield from drn.choice_lines([(back(s), "1/2"), (s + 1, "1/2")] if 0 < s < states - 1 else [(s, 1)])
+
+
 def falling_lines(states):
     """Each state goes to the one before it or to the next one; the last one stays. So no state but the goal surely reaches it, and the states fall away one
     by one, from the last."""
-    yield "state 0 goal\naction\n0 : 1\n"
-    for s in range(1, states - 1):
-        yield "state %d\naction\n%d : 1/2\n%d : 1/2\n" % (s, s - 1, s + 1)
-    yield "state %d init\naction\n%d : 1\n" % (states - 1, states - 1)
+    return halves_lines(states, lambda s: s - 1)
 
 
 def falling(size):
@@ -187,10 +195,7 @@ def falling(size):
 
 def nested_lines(states):
     """Each state goes to the goal or to the next one; the last one stays. So the states fall away in as many rounds as there are."""
-    yield "state 0 goal\naction\n0 : 1\n"
-    for s in range(1, states - 1):
-        yield "state %d\naction\n%d : 1/2\n%d : 1/2\n" % (s, 0, s + 1)
-    yield "state %d init\naction\n%d : 1\n" % (states - 1, states - 1)
+    return halves_lines(states, lambda s: 0)
 
 
 def nested(size):
@@ -203,16 +208,15 @@ def nested(size):
 
 def earning_lines(states):
     """In each state one may stay or go to the next one; in the last one alone a step earns. So each state is an end component, and each but the last takes its exit."""
-    for s in range(states - 1):
-        yield "state %d%s\naction [0]\n%d : 1\naction [0]\n%d : 1\n" % (s, " init" if s == 0 else "", s, s + 1)
-    yield "state %d\naction [1]\n%d : 1\n" % (states - 1, states - 1)
+    for s in range(states):
+        yield drn.state_line(s, ["init"] * (s == 0))
+        yield from drn.choice_lines([(s, 1)], rewards=[int(s == states - 1)])
+        yield from drn.choice_lines([(s + 1, 1)], rewards=[0]) if s < states - 1 else ()
 
 
 def earning(size):
     def made(folder):
-        with open(folder + "/model.drn", "w") as file:
-            file.write(REWARDED % size)
-            file.writelines(earning_lines(size))
+        write_model(folder + "/model.drn", size, earning_lines(size))
         return ["solve", "model.drn", "exact", "max", "mean", "-"], "mdp-certificate 2"
 
     return made
@@ -221,14 +225,13 @@ def earning(size):
 def staying_lines(states):
     """Each state stays, so it is an end component by itself, and none is left."""
     for s in range(states):
-        yield "state %d%s\naction [%d]\n%d : 1\n" % (s, " init" if s == 0 else "", s % 7, s)
+        yield drn.state_line(s, ["init"] * (s == 0))
+        yield from drn.choice_lines([(s, 1)], rewards=[s % 7])
 
 
 def staying(size):
     def made(folder):
-        with open(folder + "/model.drn", "w") as file:
-            file.write(REWARDED % size)
-            file.writelines(staying_lines(size))
+        write_model(folder + "/model.drn", size, staying_lines(size))
         return ["solve", "model.drn", "exact", "max", "mean", "-"], "mdp-certificate 2"
 
     return made
@@ -237,14 +240,13 @@ def staying(size):
 def pair_lines(states):
     """Two states each go to each other, so each pair is an end component, and none is left."""
     for s in range(states):
-        yield "state %d%s\naction [%d]\n%d : 1\n" % (s, " init" if s == 0 else "", s % 7, s ^ 1)
+        yield drn.state_line(s, ["init"] * (s == 0))
+        yield from drn.choice_lines([(s ^ 1, 1)], rewards=[s % 7])
 
 
 def pairs(size):
     def made(folder):
-        with open(folder + "/model.drn", "w") as file:
-            file.write(REWARDED % size)
-            file.writelines(pair_lines(size))
+        write_model(folder + "/model.drn", size, pair_lines(size))
         return ["solve", "model.drn", "exact", "max", "mean", "-"], "mdp-certificate 2"
 
     return made
@@ -254,15 +256,10 @@ def needed(size):
     """A line: each state goes to the next one, and the last one is the goal, so no state can go."""
 
     def made(folder):
-        write_model(folder + "/model.drn", size, line_of(size))
+        write_model(folder + "/model.drn", size, line_lines(size))
         return ["witness", "model.drn", "exact", "max", "goal", "1"], "mdp-certificate 2"
 
     return made
-
-
-def line_of(states):
-    for s in range(states):
-        yield "state %d%s\naction\n%d : 1\n" % (s, " init" if s == 0 else " goal" if s == states - 1 else "", min(s + 1, states - 1))
 
 
 def many_discounted(folder):

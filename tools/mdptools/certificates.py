@@ -186,9 +186,15 @@ def of_bytes(text, name):
     return reader.text
 
 
+def lines_to_write(version, claim, start, size, states):
+    """The lines of a certificate: the first one, its claim, the number of states, what it says of the initial state, and what it says of each state."""
+    yield from (version, f"claim {claim}", f"states {size}", f"init {start}")
+    yield from (f"state {s} {says}" for s, says in enumerate(states))
+    yield "end"
+
+
 def text_of(version, claim, start, states):
-    """The text of a certificate: its first line, its claim, what it says of the initial state, and what it says of each state."""
-    return "\n".join([version, f"claim {claim}", f"states {len(states)}", f"init {start}", *(f"state {s} {says}" for s, says in enumerate(states)), "end", ""])
+    return "".join(line + "\n" for line in lines_to_write(version, claim, start, len(states), states))
 
 
 def policy_of(choices):

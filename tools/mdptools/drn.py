@@ -188,15 +188,20 @@ def head(names, states, choices=None, is_chain=False):
     yield "@model"
 
 
-def state_line(number, labels=()):
-    return " ".join(["state", str(number), *labels])
+def bracket(rewards):
+    """A word with the rewards; none where there are none."""
+    return [f"[{', '.join(map(str, rewards))}]"] if rewards else []
+
+
+def state_line(number, labels=(), rewards=()):
+    return " ".join(["state", str(number), *bracket(rewards), *labels])
 
 
 def choice_lines(row, name="", rewards=(), tab=""):
     """The lines of a choice: its name where it has one, its rewards where they are given, and its entries as they come."""
-    bracket = [f"[{', '.join(map(str, rewards))}]"] if rewards else []
-    yield " ".join([f"{tab}action", *filter(None, [name]), *bracket])
-    yield from (f"{tab}{tab}{target} : {value}" for target, value in row)
+    yield " ".join([f"{tab}action", *([name] if name else []), *bracket(rewards)])
+    for target, value in row:
+        yield f"{tab}{tab}{target} : {value}"
 
 
 def lines_to_write(model):
