@@ -11,7 +11,8 @@ bodies of one crate alone, --list prints the table and what is kept of it. The l
 (bin/mdp), and else those that `rt check` makes and keeps in out/rlib.
 
     refused   a goal of the function itself is open, or an answer that is written for it doesn't fit
-    unclear   a name is gone that the answers written for it speak of, which by itself shows nothing, and without them it isn't proved: read the clause
+    unclear   a name is gone that the answers written for it speak of, which by itself shows nothing, and without them the prover proves neither it nor
+              the real body: read the clause
     proved    the function is proved
     failed    it can't be applied, doesn't compile, or the check gave no verdict
 
@@ -233,8 +234,9 @@ def rounds(bodies):
     return [group for group in ([body for body in group if not body.is_alone()] for group in groups) if group] + alone
 
 
-def copied(name, bodies, place, is_bare):
-    """Copies a crate and puts wrong bodies into it, where that is asked without the answers that are written for them; those that can't be applied."""
+def copied(name, bodies, place, way):
+    """Copies a crate and puts wrong bodies into it; those that can't be applied. `bare` is without the answers that are written for them, and `real` so too,
+    but with the bodies that stand there."""
     for part in build.PARTS:
         if (TOP / "crates" / name / part).is_dir():
             shutil.copytree(TOP / "crates" / name / part, place / "crates" / name / part)
@@ -244,9 +246,9 @@ def copied(name, bodies, place, is_bare):
         text = body.applied(path.read_text()) if path.is_file() else None
         if text is None:
             failed.append(body)
-        else:
+        elif way != "real":
             path.write_text(text)
-        if is_bare:
+        if way != "wrong":
             (place / "crates" / name / body.answers() / "Answers.antt").unlink(missing_ok=True)
     return failed
 
@@ -260,15 +262,15 @@ def end_of(body, said):
         return ("proved" if found[-1] == "proved" else "failed"), found[-1]
     errors = [line for line in said if body.answers() in line and ": error: " in line]
     if errors:
-        is_gone = all(" has no `" in line for line in errors)
+        is_gone = all(re.search(" has no (field )?`", line) for line in errors)
         return ("unclear" if is_gone else "refused"), " ".join(errors)[:400]
     own = re.sub(r"^(no proof|not proved)[:;]? ?(expected \w+ in \S+; )?", "", found[-1])
     return ("waits" if own.startswith("it calls ") else "refused"), own or found[-1]
 
 
-def checked_once(name, bodies, trial, folder, checked, is_bare):
+def checked_once(name, bodies, trial, folder, checked, way):
     """Puts wrong bodies into a copy and checks their functions: those that can't be applied, and the lines that the check printed."""
-    failed = copied(name, bodies, folder, is_bare)
+    failed = copied(name, bodies, folder, way)
     words = trial.libraries.words(name, [body.function for body in bodies if body not in failed], checked)
     try:
         ended = subprocess.run(words, cwd=folder / "crates" / name, stdin=subprocess.DEVNULL, capture_output=True, timeout=SECONDS, check=False)
@@ -276,14 +278,14 @@ def checked_once(name, bodies, trial, folder, checked, is_bare):
     except subprocess.TimeoutExpired:
         said = [f"no verdict in {SECONDS} seconds"]
     (KEPT / "said").mkdir(parents=True, exist_ok=True)
-    (KEPT / "said" / f"{bodies[0].name}{'-bare' * is_bare}.txt").write_text("\n".join(said))
+    (KEPT / "said" / f"{bodies[0].name}-{way}.txt").write_text("\n".join(said))
     return failed, said
 
 
-def tried_once(name, bodies, trial, checked, is_bare):
+def tried_once(name, bodies, trial, checked, way):
     """How the checks of wrong bodies ended that share a copy, and whether they compile."""
     with tempfile.TemporaryDirectory(dir=trial.room) as folder:
-        failed, said = checked_once(name, bodies, trial, pathlib.Path(folder), checked, is_bare)
+        failed, said = checked_once(name, bodies, trial, pathlib.Path(folder), checked, way)
     ends = {body.name: ("failed", "it can't be applied") for body in failed}
     well = [body for body in bodies if body not in failed]
     if any(line.startswith("fn ") for line in said):
@@ -292,24 +294,30 @@ def tried_once(name, bodies, trial, checked, is_bare):
     return {**ends, **{body.name: ("failed", error) for body in well}}, not well
 
 
-def tried(name, bodies, trial, checked, is_bare=False):
+def tried(name, bodies, trial, checked, way="wrong"):
     """The same, where those of several that don't compile are tried by halves, and those that wait for another again without it."""
-    ends, compiles = tried_once(name, bodies, trial, checked, is_bare)
+    ends, compiles = tried_once(name, bodies, trial, checked, way)
     again = [body for body in bodies if ends[body.name][0] == "waits"] if compiles else bodies
     if len(bodies) == 1:
         return {name: ("failed" if end == "waits" else end, why) for name, (end, why) in ends.items()}
     half = len(again) if len(again) < len(bodies) else len(again) // 2
     for part in (again[:half], again[half:]):
-        ends.update(tried(name, part, trial, checked, is_bare) if part else {})
+        ends.update(tried(name, part, trial, checked, way) if part else {})
     return ends
 
 
 def tried_twice(name, bodies, trial, checked):
-    """The same, where those whose answers speak of a name that is gone are tried again without answers: that finds those that are proved all the same."""
+    """The same, where those whose answers speak of a name that is gone are tried again without answers, as the real bodies are then: one that is proved all
+    the same is proved, and one that isn't, where the real one is, is refused."""
     ends = tried(name, bodies, trial, checked)
     again = [body for body in bodies if ends[body.name][0] == "unclear"]
-    bare = tried(name, again, trial, checked, is_bare=True) if again else {}
-    ends.update({name: end for name, end in bare.items() if end[0] == "proved"})
+    bare, real = (tried(name, again, trial, checked, way) if again else {} for way in ("bare", "real"))
+    for body in again:
+        end, why = bare[body.name]
+        if end == "proved":
+            ends[body.name] = end, why
+        elif end == "refused" and real[body.name][0] == "proved":
+            ends[body.name] = end, f"without answers, where the real body is proved: {why}"
     return ends
 
 
