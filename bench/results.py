@@ -51,6 +51,14 @@ QUESTIONS = {
         "bounds.py coin 10 coin 50 roulette 1000 halves 2000 square 100 square 200 cube 20",
         "",
     ),
+    "deadline": Question(
+        "What does a deadline take?",
+        "`curve` and `bounds` of an until within so many steps at 9 digits: a robot on a square, a seventh of whose tiles are holes; the whole program. Beside them as many "
+        "sweeps in C doubles over the same file.",
+        "deadline.py",
+        r"^\d+ (?P<steps>\d+): (?P<states>\d+) states, (?P<transitions>\d+) transitions; curve (?P<curve_s>[\d.]+) s, bounds (?P<bounds_s>[\d.]+) s, "
+        r"reading (?P<reading_s>[\d.]+) s; peer (?P<sweeps_in_doubles_s>[\d.]+) s; .*",
+    ),
     "exact": Question(
         "What does an exact answer take, beside an exact linear program?",
         "`solve` and `discount` on layered models with two choices a state; the whole program, with the check of its certificate. `glpsol --exact` has the linear program "
