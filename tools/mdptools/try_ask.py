@@ -493,6 +493,16 @@ def is_alive(file):
     return status.exists() and not re.search(r"^State:\s*[ZX]", status.read_text(), re.MULTILINE)
 
 
+def is_over(files, seconds=10):
+    """Whether these processes are over, soon: on a busy machine one that was ended may need a moment for it."""
+    until = time.monotonic() + seconds
+    while any(is_alive(file) for file in files):
+        if time.monotonic() > until:
+            return False
+        time.sleep(0.05)
+    return True
+
+
 def try_break(folder):
     """A break by the user ends bin/ask with 130, and all that it started."""
     solver = pathlib.Path(folder) / "sleeps"
@@ -509,7 +519,7 @@ def try_break(folder):
         _, said = started.communicate(timeout=30)
     if started.returncode != 130 or b"broken off" not in said:
         yield f"a break: status {started.returncode}, {said}"
-    if is_alive(f"{folder}/pid") or is_alive(f"{folder}/child"):
+    if not is_over([f"{folder}/pid", f"{folder}/child"]):
         yield "a break: the solver is still at work"
     limited = [*words[1:3], "--solver", solver, "--seconds", "0.3", "--exact", "--keep", f"{folder}/kept"]
     out, said, status = asked(limited) if not SOLVER else ("", "longer than", 5)
