@@ -5,11 +5,10 @@
                  of it once, and `end_components` has one round
     a chain      state s goes to the states s - 1 and s + 1 with one half each, and the last state stays: one state after the other drops out, all of
                  them in the first round of `end_components`
-    waiting      the same chain, where each state may stay as well: each round takes one state from its component, which stays on as one of its own,
-                 so there are as many rounds as states. This is the worst case
+    waiting      the same chain, where each state may stay as well: one state after the other stays on as a component of its own. Rounds of strong
+                 components alone would be as many as states; searches between two rounds find all of them
 
-A small program beside the crates reads the models and times the calls (timer_program.py). Each round goes over the whole model, so in the worst case
-the time grows with the square. Usage: bench/components.py
+A small program beside the crates reads the models and times the calls (timer_program.py). Usage: bench/components.py
 """
 import os
 import sys
@@ -104,7 +103,7 @@ def main():
         return
     models = [(write_ring, states) for states in (10000, 100000, 1000000)]
     models += [(write_chain, states) for states in (1000, 2000, 4000, 100000)]
-    models += [(write_waiting, states) for states in (1000, 2000, 4000)]
+    models += [(write_waiting, states) for states in (1000, 4000, 100000)]
     sys.exit(timer_program.run("component_timer", LIBRARIES, PROGRAM, models))
 
 

@@ -5,6 +5,7 @@ mod EndsFound
 mod Examples
 mod FlatAllowed
 mod Forbidding
+mod Gathering
 mod Grouping
 mod InnerPass
 mod Renumbering

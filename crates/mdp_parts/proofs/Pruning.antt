@@ -1,16 +1,15 @@
--- The choices that lead to a state without an allowed choice are forbidden, one after the other.
-use Rattle.std.proofs.Common.{◌≡◌, ◌⊎◌, inl, inr, ℕ, ◌+◌, ◌<◌, ◌≤◌, Bool, true, false, ◌&&◌, ◌==◌, List, [], ◌∷◌, ◌++◌, length, map, get_or, set, refl, sym, ap, ◌∙◌, arith, subst}
-use Rattle.std.proofs.{lemmas.List.{get_or_append_left, length-append}, Math.Seq.{get_or-append_seam}}
+-- The choices that lead from outside into a set that no allowed choice leaves are forbidden, one after the other.
+use Rattle.std.proofs.Common.{◌≡◌, ◌⊎◌, inl, inr, ℕ, ◌+◌, ◌<◌, ◌≤◌, Bool, true, false, ◌&&◌, ◌==◌, List, [], length, map, get_or, set, refl, sym, ap, ◌∙◌, arith}
 use Rattle.std.proofs.lemmas.Bool.{false≢true, cases_Bool, cases_eq, eq-eqb, and_parts}
 use Rattle.std.specs.List.{range_with_len}
 use Rattle.mdp_math.proofs.Booleans.{and-both, and-false}
-use Rattle.mdp_spec.specs.Mdp.{Mdp, states_of, choices_at, row_at}
+use Rattle.mdp_spec.specs.{Mdp.{Mdp, states_of, choices_at, row_at}, Row.{IsMdp}}
 use Rattle.mdp_rows.specs.{declared.preds.Pred.{Pred}, Preds.{leads_to, preds_to}}
 use Rattle.mdp_graph.specs.Waiting.{is_one_of}
 use Rattle.mdp_graph.proofs.{PredLists.{led-in, list-is}, RowSets.{list_any-by}}
-use Rattle.mdp_ends.specs.Rounds.{keeps_part}
-use Rattle.mdp_ends.proofs.{Existing.{total_below, total-less}, Walking.{stays-at}}
-use Rattle.mdp_parts.specs.{Allowed.{allowed_at, AreChoices}, Losing.{IsLost, IsPruned, AreLosing}, Round.{IsRound}}
+use Rattle.mdp_ends.specs.{Ends.{IsEnd}, Rounds.{keeps_part, KeepsEnds}}
+use Rattle.mdp_ends.proofs.{Existing.{total_below, total-less}, Walking.{stays-at, walk_to}}
+use Rattle.mdp_parts.specs.{declared.losing.Seed.{Seed}, Allowed.{allowed_at, AreChoices}, Losing.{IsPruned, AreLosing}, Region.{IsClosed}, Round.{IsRound}}
 use Rattle.mdp_parts.proofs.Forbidding.{forbidden_here, forbidden_there, forbidden_else, forbidden_sizes}
 
 module _ (m : Mdp) where
@@ -23,42 +22,33 @@ module _ (m : Mdp) where
     | inl is ↦ absurd (false≢true (sym out ∙ p.fewer s c h l is))
   ]
 
-  pub lost_kept : (old new : List (List Bool)) → IsPruned m old new → (s : ℕ) → s < states_of m → IsLost m old s → IsLost m new s
-  lost_kept old new p s h lost c l = still_false old new p s c h l (lost c l)
-
   pub pruned_none : (a : List (List Bool)) → AreChoices m a → IsPruned m a a
   pruned_none a sizes = record { sizes = sizes; fewer = λ s d h l e. e; keeps = λ k. k }
 
-  -- the last of the states that are lost, and the others
-  pub lost_last : (lists : List (List Bool)) (first lost rest : List ℕ) (t : ℕ) → AreLosing m lists first lost → lost ≡ rest ++ t ∷ [] → (t < states_of m) × IsLost m lists t
-  lost_last lists first lost rest t a e =
-      let last : get_or lost (length rest) 0 ≡ t = ap (λ (x : List ℕ). get_or x (length rest) 0) e ∙ get_or-append_seam rest t [] 0 in
-      let h : length rest < length lost = omega (arith, ap length e, length-append rest (t ∷ [])) in
-      (subst (λ (x : ℕ). x < states_of m) last (a.below (length rest) h), subst (λ (x : ℕ). IsLost m lists x) last (a.without (length rest) h))
+  -- ---- sets that no allowed choice leaves
 
-  pub lost_rest : (lists : List (List Bool)) (first lost rest : List ℕ) (t : ℕ) → AreLosing m lists first lost → lost ≡ rest ++ t ∷ [] → AreLosing m lists first rest
-  lost_rest lists first lost rest t a e =
-      let same : (k : ℕ) → k < length rest → get_or lost k 0 ≡ get_or rest k 0 = λ k l. ap (λ (x : List ℕ). get_or x k 0) e ∙ get_or_append_left rest (t ∷ []) 0 k l in
-      let many : length lost ≡ length rest + 1 = ap length e ∙ length-append rest (t ∷ []) in
-      record {
-        count = a.count;
-        before = a.before;
-        below = λ k l. subst (λ (x : ℕ). x < states_of m) (same k l) (a.below k (omega (arith, l, many)));
-        without = λ k l. subst (λ (x : ℕ). IsLost m lists x) (same k l) (a.without k (omega (arith, l, many)));
-      }
+  pub closed_kept : (old new : List (List Bool)) (set : ℕ → Bool) → IsPruned m old new → IsClosed m old set → IsClosed m new set
+  closed_kept old new set p a s h is c l e = a s h is c l (p.fewer s c h l e)
 
-  pub losing_kept : (old new : List (List Bool)) (first lost : List ℕ) → IsPruned m old new → AreLosing m old first lost → AreLosing m new first lost
-  losing_kept old new first lost p a = record {
-    count = a.count;
-    before = λ s c h l b. still_false old new p s c h l (a.before s c h l b);
-    below = a.below;
-    without = λ k l. lost_kept old new p (get_or lost k 0) (a.below k l) (a.without k l);
-  }
+  -- no end component has a choice that leads into one from outside
+  pub closed_apart : IsMdp m → (lists : List (List Bool)) (set : ℕ → Bool) → IsClosed m lists set → KeepsEnds m (allowed_at lists)
+      → (states : ℕ → Bool) (chosen : ℕ → ℕ → Bool) → IsEnd m states chosen → (s c t : ℕ) → s < states_of m → states s ≡ true
+      → c < length (choices_at m s) → chosen s c ≡ true
+      → leads_to t (row_at m s c) ≡ true → t < states_of m → set t ≡ true → set s ≡ true
+  closed_apart ok lists set closed keeps states chosen b s c t hs is hc e to ht inside =
+      let there : states t ≡ true = stays-at states (row_at m s c) t (b.closed s c hs is hc e) to in
+      walk_to m ok chosen s (λ x. states x ≡ true → set x ≡ true → set s ≡ true) (λ _ i. i)
+      (λ x d y hx l f on hy way known in_states in_set.
+      known (stays-at states (row_at m x d) y (b.closed x d hx in_states l f) on)
+      (stays-at set (row_at m x d) y (closed x hx in_set d l (keeps states chosen b x d hx in_states l f)) on))
+      t ht (b.joined t s ht hs there is) there inside
 
   -- ---- a choice is forbidden
 
-  module _ (lists : List (List Bool)) (a : AreChoices m lists) (s c t : ℕ) (hs : s < states_of m) (hc : c < length (choices_at m s)) (to : leads_to t (row_at m s c) ≡ true)
-      (ht : t < states_of m) (lost : IsLost m lists t) where
+  module _ (ok : IsMdp m) (lists : List (List Bool)) (a : AreChoices m lists) (set_in : ℕ → Bool) (closed : IsClosed m lists set_in)
+      (s c t : ℕ) (hs : s < states_of m)
+      (hc : c < length (choices_at m s)) (to : leads_to t (row_at m s c) ≡ true) (ht : t < states_of m)
+      (inside : set_in t ≡ true) (outside : set_in s ≡ false) where
     same_place : (x d : ℕ) → x ≡ s → d ≡ c → allowed_at (set lists s (set (get_or lists s []) c false)) x d ≡ false
     same_place x d same it =
         ap (λ y. allowed_at (set lists s (set (get_or lists s []) c false)) y d) same ∙ ap (allowed_at (set lists s (set (get_or lists s []) c false)) s) it ∙ forbidden_here m lists a s c hs hc
@@ -88,9 +78,7 @@ module _ (m : Mdp) where
         | inr other ↦ other_place x d other ∙ keeps states chosen b x d h is l e
         | inl w ↦
             (let row = ap (λ y. leads_to t (row_at m y d)) w.0 ∙ ap (λ y. leads_to t (row_at m s y)) w.1 ∙ to in
-            let there : states t ≡ true = stays-at states (row_at m x d) t (b.closed x d h is l e) row in
-            let v = b.choice t ht there in
-            absurd (false≢true (sym (lost v.0 v.1) ∙ keeps states chosen b t v.0 ht there v.1 v.2)))
+            absurd (false≢true (sym outside ∙ ap set_in (sym w.0) ∙ closed_apart ok lists set_in closed keeps states chosen b x d t h is l e row ht inside)))
       ];
     }
 
@@ -121,22 +109,25 @@ module _ (m : Mdp) where
       (omega (arith, w.0, AreChoices.count sizes), omega (arith, w.1, k))
 
   -- what was forbidden so far, and the states that are lost
-  pub record IsForbiddingInto (old now : List (List Bool)) (first old_lost lost : List ℕ) : Type 0 where
+  pub record IsForbiddingInto (old now : List (List Bool)) (first old_lost lost : List ℕ) (seeds : List Seed) : Type 0 where
     pub pruned : IsPruned m old now
-    pub losing : AreLosing m now first lost
+    pub losing : AreLosing m now first lost seeds
     pub less : total_below m (allowed_at now) (states_of m) + length lost ≤ total_below m (allowed_at old) (states_of m) + length old_lost
 
-  module _ (old now : List (List Bool)) (first old_lost lost : List ℕ) (a : IsForbiddingInto old now first old_lost lost) (s c t : ℕ) (hs : s < states_of m)
-      (hc : c < length (choices_at m s)) (to : leads_to t (row_at m s c) ≡ true) (ht : t < states_of m) (none : IsLost m old t) where
+  module _ (ok : IsMdp m) (old now : List (List Bool)) (first old_lost lost : List ℕ) (seeds : List Seed) (a : IsForbiddingInto old now first old_lost lost seeds)
+      (set_in : ℕ → Bool) (closed : IsClosed m old set_in) (s c t : ℕ) (hs : s < states_of m) (hc : c < length (choices_at m s)) (to : leads_to t (row_at m s c) ≡ true)
+      (ht : t < states_of m) (inside : set_in t ≡ true) (outside : set_in s ≡ false) where
     pub one_pruned : IsPruned m now (set now s (set (get_or now s []) c false))
-    one_pruned = forbidden_pruned now (IsPruned.sizes a.pruned) s c t hs hc to ht (lost_kept old now a.pruned t ht none)
+    one_pruned = forbidden_pruned ok now (IsPruned.sizes a.pruned) set_in (closed_kept old now set_in a.pruned closed) s c t hs hc to ht inside outside
 
-    pub into_more : (new : List (List Bool)) (more_first more_lost : List ℕ) → new ≡ set now s (set (get_or now s []) c false) → allowed_at now s c ≡ true → AreLosing m new more_first more_lost
-        → length more_lost ≤ length lost + 1 → IsForbiddingInto old new more_first old_lost more_lost
-    into_more new more_first more_lost e is l more = record {
+    pub into_more : (new : List (List Bool)) (more_first more_lost : List ℕ) (more_seeds : List Seed) → new ≡ set now s (set (get_or now s []) c false) → allowed_at now s c ≡ true
+        → AreLosing m new more_first more_lost more_seeds → length more_lost ≤ length lost + 1 → IsForbiddingInto old new more_first old_lost more_lost more_seeds
+    into_more new more_first more_lost more_seeds e is l more = record {
       pruned = rw e (pruned_both old now (set now s (set (get_or now s []) c false)) a.pruned one_pruned);
       losing = l;
-      less = (let k = forbidden_less now (IsPruned.sizes a.pruned) s c t hs hc to ht (lost_kept old now a.pruned t ht none) is in rw e (omega (arith, k, more, a.less)));
+      less =
+          (let k = forbidden_less ok now (IsPruned.sizes a.pruned) set_in (closed_kept old now set_in a.pruned closed) s c t hs hc to ht inside outside is in
+          rw e (omega (arith, k, more, a.less)));
     }
 
   -- ---- in a round

@@ -5,6 +5,7 @@ pub mod Searched
 pub mod Numbered
 pub mod Round
 pub mod Losing
+pub mod Region
 pub mod Inner
 pub mod TowardTargets
 pub mod Laws

@@ -9,6 +9,7 @@ mod inward;
 mod laws;
 mod losing;
 mod numbering;
+mod region;
 mod search;
 mod strong;
 

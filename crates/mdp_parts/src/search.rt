@@ -1,11 +1,11 @@
-ghost use Rattle.std.specs.{Prelude.{◌≡◌, ◌<◌, ◌==◌, map, length, slice_index, IfOk}, List.{All, list_all, range_with_len}};
+ghost use Rattle.std.specs.{Prelude.{◌≡◌, ◌<◌, ◌==◌, map, length, slice_index, IfOk, OnOk}, List.{All, list_all, range_with_len}};
 ghost use Rattle.mdp_spec.specs.Mdp.{states_of, choices_at};
 ghost use Rattle.mdp_ends.specs.Rounds.{keeps_part};
 ghost use Rattle.mdp_parts.specs.{Allowed.{AreChoices}, FoundEnds.{AreEndsOf}, Round.{AreLastParts, some_allowed, key_of, IsRound, IsForbidden}};
 
 use crate::allowed::Allowed;
 use crate::ends::Ends;
-use crate::losing::forbid_losing;
+use crate::losing::forbid_closed;
 use crate::numbering::numbered;
 use crate::strong::components;
 use mdp_num::Memory;
@@ -47,19 +47,27 @@ fn forbid_at(allowed: &mut Allowed, model: &Model, parts: &[u32], s: u32) -> boo
     any
 }
 
-/// Forbids the allowed choices that leave the part of their state. Whether there were any.
-fn forbid_leaving(allowed: &mut Allowed, model: &Model, parts: &[u32]) -> bool
+/// Forbids the allowed choices that leave the part of their state. Whether there were any; `changed` are then the states that lost one.
+fn forbid_leaving(
+    allowed: &mut Allowed,
+    model: &Model,
+    parts: &[u32],
+    changed: &mut Vec<u32>,
+) -> Result<bool, AllocError>
     requires parts { length parts.now ≡ states_of model.now }
     requires allowed { AreChoices model.now allowed.old }
-    ensures { IsRound model.now parts.now allowed.old allowed.new result }
+    ensures round { IfOk result (λ any. IsRound model.now parts.now allowed.old allowed.new any) }
+    ensures changed { OnOk result (All (λ s. s < states_of model.now) changed.new.items) }
 {
+    changed.clear();
     let mut any = false;
     for s in 0..model.states() {
         if forbid_at(allowed, model, parts, s) {
+            changed.push(s)?;
             any = true;
         }
     }
-    any
+    Ok(any)
 }
 
 /// Whether some choice of state `s` is allowed.
@@ -121,10 +129,10 @@ fn ends_of(
 
 /// All maximal end components of a model, numbered by their least states.
 ///
-/// Each round takes the strong components of the allowed choices and forbids each choice that leaves its own, and then, one after the other, those
-/// that lead to a state without an allowed choice, until no choice leaves (de Alfaro 1997; Baier and Katoen 2008, section 10.6.3). A round takes
-/// time in proportion to the entries. States that fall away one after the other take one round together. There are as many rounds as there are
-/// states in the worst case: where each round parts a component whose states all keep an allowed choice.
+/// Each round takes the strong components of the allowed choices and forbids each choice that leaves its own, until none does (de Alfaro 1997; Baier
+/// and Katoen 2008, section 10.6.3). Between rounds it forbids the choices that lead into what fell off, a state without an allowed choice or a small
+/// set that no allowed choice leaves (`forbid_closed`). A round takes time in proportion to the entries. There are as many rounds as there are states
+/// in the worst case: where each parts a component into pieces too large to be found between rounds.
 pub fn end_components(alloc: Global, model: &Model) -> Result<Ends, Memory>
     ensures { IfOk result (λ ends. AreEndsOf model.now ends) }
 {
@@ -132,8 +140,9 @@ pub fn end_components(alloc: Global, model: &Model) -> Result<Ends, Memory>
     let preds = preds_of(alloc, model)?;
     let mut allowed = Allowed::all(alloc, model)?;
     let mut parts = components(alloc, model, &allowed)?;
-    while forbid_leaving(&mut allowed, model, &parts) {
-        forbid_losing(alloc, model, &preds, &mut allowed)?;
+    let mut changed = Vec::new(alloc);
+    while forbid_leaving(&mut allowed, model, &parts, &mut changed)? {
+        forbid_closed(alloc, model, &preds, &mut allowed, &changed)?;
         parts = components(alloc, model, &allowed)?;
     }
     Ok(ends_of(alloc, model, allowed, &parts)?)
