@@ -29,29 +29,11 @@ TOP = os.path.join(os.path.dirname(os.path.abspath(__file__)), "..")
 sys.path.insert(0, os.path.join(TOP, "tools"))
 
 from mdptools import certificates, drn  # noqa: E402
+from mdptools.trying import layered, layered_lines  # noqa: E402
 
 PROGRAM = os.path.join(TOP, "bin", "mdp")
 LIMIT = 120
 MODELS = "layered 10 100 layered 40 100 layered 100 160 random 4000 reward 10 100 reward 40 100 mean 10 100 mean 40 100 discount 10 100 discount 40 100"
-
-
-def layered(layers, width):
-    """The choices of each state, each a list of different targets with equal shares."""
-    number = 7 % 65537
-    goal, failing = layers * width, layers * width + 1
-    states = []
-    for layer in range(layers):
-        for _ in range(width):
-            choices = []
-            for _ in range(2):
-                targets = []
-                for _ in range(2):
-                    number = (75 * number + 74) % 65537
-                    target = (layer + 1) * width + number % width if layer + 1 < layers else (goal if number % 2 == 0 else failing)
-                    targets.append(target)
-                choices.append(sorted(set(targets)))
-            states.append(choices)
-    return states + [[[goal]], [[failing]]]
 
 
 def random_model(size):
@@ -78,15 +60,6 @@ def returning_model(layers, width):
     states, rewards = costly_model(layers, width)
     states[layers * width] = [[0]]
     return states, rewards
-
-
-def lines_of(states, rewards):
-    yield from drn.head([], len(states))
-    for s, choices in enumerate(states):
-        yield drn.state_line(s, ["init"] * (s == 0) + ["goal"] * (s == len(states) - 2))
-        for c, targets in enumerate(choices):
-            row = [(target, f"1/{len(targets)}") for target in targets]
-            yield from drn.choice_lines(row, "a", [rewards[s][c]]) if rewards else drn.choice_lines(row)
 
 
 def write_program(path, least, rows, free=()):
@@ -205,7 +178,7 @@ def peer(folder, program, *query):
 def measure(folder, name, states, query, rewards=None, program=None, rounds=""):
     """A query, given by its first word and those behind the row rule, and the check of its certificate; and its linear program, if there is one."""
     model, cert = os.path.join(folder, "model.drn"), os.path.join(folder, "model.cert")
-    drn.write(model, lines_of(states, rewards))
+    drn.write(model, layered_lines(states, rewards))
     command, *behind = query
     text, status, solved = timed([PROGRAM, command, model, "exact", *behind])
     print("%s: %d states, %d choices, load %.1f" % (name, len(states), sum(len(c) for c in states), os.getloadavg()[0]))

@@ -52,6 +52,60 @@ impl<'a> Model for Solved<'a> {
     ghost view = { λ e. record { entries = e.entries.now; first = e.first; second = e.second } };
 }
 
+/// The equation of an eliminated state that is kept, and may be solved again, with room for its entries in an arena.
+#[derive(Drop)]
+pub(crate) struct KeptEquation<'a> {
+    entries: Vec<Term, &'a Bump>,
+    first: Frac,
+    second: Frac,
+}
+
+impl<'a> Model for KeptEquation<'a> {
+    ghost use Rattle.mdp_elim.specs.Equation as spec;
+    ghost use Rattle.mdp_elim.specs.Code.{equation_code};
+
+    ghost Value = { spec.Equation };
+
+    ghost coded = { equation_code };
+
+    ghost view = { λ e. record { entries = e.entries.items; first = e.first; second = e.second } };
+}
+
+impl<'a> KeptEquation<'a> {
+    /// The equation of a value that is 0, without room in the arena yet.
+    pub(crate) fn none(arena: &'a Bump) -> KeptEquation<'a>
+        ensures { result ≡ no_equation }
+    {
+        KeptEquation {
+            entries: Vec::new(arena),
+            first: Frac::whole(0),
+            second: Frac::whole(0),
+        }
+    }
+
+    /// Keeps this equation in place of the one before, in the room of that one where it is long enough.
+    pub(crate) fn put(&mut self, equation: &Equation) -> Result<(), AllocError>
+        ensures { OnOk result (self.new ≡ equation.now) }
+    {
+        self.entries.clear();
+        self.entries.extend_from_slice(&equation.entries)?;
+        self.first = equation.first;
+        self.second = equation.second;
+        Ok(())
+    }
+
+    /// The same equation, with its entries as a slice of this one.
+    pub(crate) fn lent(&self) -> Solved<'_>
+        ensures { result ≡ self.now }
+    {
+        Solved {
+            entries: &self.entries,
+            first: self.first,
+            second: self.second,
+        }
+    }
+}
+
 impl Solved<'_> {
     /// The entries, which lead to smaller states.
     pub(crate) fn entries(&self) -> &[Term]
@@ -144,17 +198,6 @@ impl Equation {
             first: self.first,
             second: self.second,
         })
-    }
-
-    /// The same equation, with its entries as a slice of this one.
-    pub(crate) fn lent(&self) -> Solved<'_>
-        ensures { result ≡ self.now }
-    {
-        Solved {
-            entries: &self.entries,
-            first: self.first,
-            second: self.second,
-        }
     }
 
     /// Adds so many times another equation.

@@ -10,8 +10,9 @@ ghost use Rattle.mdp_elim.specs.Equation as spec;
 use crate::chain::equation_at;
 use crate::elimination::placed;
 use crate::entries::greatest_above;
-use crate::equation::Equation;
+use crate::equation::{Equation, KeptEquation};
 use crate::errors::ElimError;
+use bumpalo::Bump;
 use mdp_num::Frac;
 use mdp_rows::{Marks, RowsOf};
 use mdp_wide::Unfinished;
@@ -19,15 +20,15 @@ use std::alloc::{AllocError, Global};
 use std::marker::Model;
 
 /// The equations of a chain's states, each solved for its value by those of smaller states, and the values. They are kept, so that a chain that differs
-/// in some rows is solved again at those states alone from which one comes to a row that differs.
+/// in some rows is solved again at those states alone from which one comes to a row that differs. Their entries stand in an arena.
 #[derive(Drop)]
-pub struct Kept {
-    solved: Vec<Equation>,
+pub struct Kept<'a> {
+    solved: Vec<KeptEquation<'a>>,
     first: Vec<Frac>,
     second: Vec<Frac>,
 }
 
-impl Model for Kept {
+impl<'a> Model for Kept<'a> {
     ghost use Rattle.mdp_elim.specs.Kept as spec;
 
     ghost Value = { spec.Kept };
@@ -38,7 +39,7 @@ impl Model for Kept {
 /// Puts into an equation those of the states above `low` that it comes to, the greatest first.
 fn put_in(
     alloc: Global,
-    solved: &[Equation],
+    solved: &[KeptEquation<'_>],
     equation: &mut Equation,
     low: u32,
 ) -> Result<(), ElimError>
@@ -58,7 +59,7 @@ fn put_in(
 /// Solves the equation of state `t`.
 fn solve_row(
     alloc: Global,
-    solved: &mut [Equation],
+    solved: &mut [KeptEquation<'_>],
     equation: Equation,
     t: u32,
 ) -> Result<(), ElimError>
@@ -74,7 +75,7 @@ fn solve_row(
     if equation.divide(t).is_err() {
         return Err(ElimError::TooWide(t));
     }
-    solved[t as usize] = equation;
+    solved[t as usize].put(&equation)?;
     Ok(())
 }
 
@@ -82,7 +83,7 @@ fn solve_row(
 /// greatest state at whose step a term is past width.
 fn solve_state(
     alloc: Global,
-    solved: &mut [Equation],
+    solved: &mut [KeptEquation<'_>],
     equation: Equation,
     t: u32,
     wide: Option<u32>,
@@ -113,7 +114,7 @@ fn solve_states<R: RowsOf>(
     active: &Marks,
     columns: &[Vec<Frac>],
     states: &[u32],
-    solved: &mut [Equation],
+    solved: &mut [KeptEquation<'_>],
 ) -> Result<(), ElimError>
     requires active { length active.now ≡ length (R.rows rows.now) }
     requires leaves { (ranks : List ℕ) × Leaves (R.rows rows.now) active.now ranks }
@@ -143,7 +144,7 @@ fn solve_states<R: RowsOf>(
 
 /// Evaluates the solved equations of these states, the least first. The values of the others stand already.
 fn evaluate_states(
-    solved: &[Equation],
+    solved: &[KeptEquation<'_>],
     states: &[u32],
     first: &mut [Frac],
     second: &mut [Frac],
@@ -171,23 +172,27 @@ fn evaluate_states(
 }
 
 /// So many equations without entries.
-fn no_equations(alloc: Global, states: u32) -> Result<Vec<Equation>, AllocError>
+fn no_equations<'a>(
+    alloc: Global,
+    arena: &'a Bump,
+    states: u32,
+) -> Result<Vec<KeptEquation<'a>>, AllocError>
     ensures count { IfOk result (λ equations. length equations.items ≡ states) }
     ensures down { IfOk result (λ equations. LeadToSmaller equations.items) }
 {
     let mut equations = Vec::with_capacity(alloc, states as usize)?;
     for _ in 0..states {
-        equations.push(Equation::none(alloc))?;
+        equations.push(KeptEquation::none(arena))?;
     }
     Ok(equations)
 }
 
-impl Kept {
-    /// Room for so many states; no equation is solved.
-    pub fn new(alloc: Global, states: u32) -> Result<Kept, AllocError>
+impl<'a> Kept<'a> {
+    /// Room for so many states, with entries in this arena; no equation is solved.
+    pub fn new(alloc: Global, arena: &'a Bump, states: u32) -> Result<Kept<'a>, AllocError>
         ensures { IfOk result (λ k. HasRoom states k) }
     {
-        let solved = no_equations(alloc, states)?;
+        let solved = no_equations(alloc, arena, states)?;
         let first = vec![in alloc; Frac::whole(0); states as usize]?;
         let second = vec![in alloc; Frac::whole(0); states as usize]?;
         Ok(Kept {

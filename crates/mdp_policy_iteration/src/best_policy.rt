@@ -10,6 +10,7 @@ use crate::round::{first_round, round_of};
 use crate::scope::Scope;
 use crate::shortest_path::ShortestPath;
 use crate::solution::{PathError, Solution, path_error};
+use bumpalo::Bump;
 use mdp_elim::solution_law;
 use mdp_rows::{Marks, Pred};
 use std::alloc::Global;
@@ -38,7 +39,7 @@ fn improve_further<P: ShortestPath>(
     problem: &P,
     loops: &Loops,
     start: Vec<u32>,
-    evaluation: &mut Evaluation,
+    evaluation: &mut Evaluation<'_>,
     mut changes: Vec<Pred>,
 ) -> Result<Last, PathError>
     requires solvable { IsSolvable (P.problem problem.now) start.items }
@@ -73,7 +74,7 @@ fn last_of<P: ShortestPath>(
     alloc: Global,
     problem: &P,
     start: Vec<u32>,
-    evaluation: &mut Evaluation,
+    evaluation: &mut Evaluation<'_>,
 ) -> Result<Last, PathError>
     requires solvable { IsSolvable (P.problem problem.now) start.items }
     requires room { HasRoom (count (P.problem problem.now)) evaluation.old }
@@ -92,7 +93,8 @@ fn last_of<P: ShortestPath>(
     }
 }
 
-/// Policy iteration from a start policy (Howard 1960): the last policy of the path, its round and its values, or the first term past width.
+/// Policy iteration from a start policy (Howard 1960): the last policy of the path, its round and its values, or the first term past width. The rows of its
+/// evaluations stand in an arena, which it makes and drops.
 pub fn improve<P: ShortestPath>(
     alloc: Global,
     problem: &P,
@@ -102,7 +104,8 @@ pub fn improve<P: ShortestPath>(
     ensures path { Ends (P.problem problem.now) start.items result }
     ensures best { IfOk result (λ found. IsBestFrom (P.problem problem.now) start.items found.policy.items found.values.items) }
 {
-    let mut evaluation = Evaluation::new(alloc, problem.count())?;
+    let arena = Bump::new(alloc);
+    let mut evaluation = Evaluation::new(alloc, &arena, problem.count())?;
     match last_of(alloc, problem, start, &mut evaluation) {
         Ok(last) => Ok(Solution {
             round: last.round,

@@ -14,6 +14,7 @@ use crate::outer::outer_sum;
 use crate::placing::at_node;
 use crate::policy_chain::PolicyChain;
 use crate::shortest_path::ShortestPath;
+use bumpalo::Bump;
 use mdp_elim::{ElimError, Kept};
 use mdp_num::{Frac, Memory, Wide};
 use mdp_rows::Marks;
@@ -161,7 +162,7 @@ fn solve_at<P: ShortestPath>(
     active: &Marks,
     constants: &Vec<Frac>,
     nodes: &[u32],
-    kept: &mut Kept,
+    kept: &mut Kept<'_>,
 ) -> Result<(), RoundError>
     requires leaves { CanLeave (P.problem rows.problem.now) rows.policy.now }
     requires active { active.now ≡ active_of (P.problem rows.problem.now) rows.policy.now }
@@ -206,16 +207,16 @@ fn put_values<P: ShortestPath>(
 }
 
 /// The evaluation of a policy, kept so that the next policy is evaluated at those nodes alone that come to a change: which nodes are active, the constants of
-/// their equations, what elimination keeps, and the values.
+/// their equations, what elimination keeps, with its rows in an arena, and the values.
 #[derive(Drop)]
-pub(crate) struct Evaluation {
+pub(crate) struct Evaluation<'a> {
     active: Marks,
     constants: Vec<Frac>,
-    kept: Kept,
+    kept: Kept<'a>,
     values: Vec<Frac>,
 }
 
-impl Model for Evaluation {
+impl<'a> Model for Evaluation<'a> {
     ghost use Rattle.mdp_policy_iteration.specs.Evaluated as spec;
 
     ghost Value = { spec.Evaluation };
@@ -223,15 +224,15 @@ impl Model for Evaluation {
     ghost view = { λ e. record { active = e.active; constants = e.constants.items; kept = e.kept; values = e.values.items } };
 }
 
-impl Evaluation {
-    /// Room for so many nodes; no policy is evaluated.
-    pub(crate) fn new(alloc: Global, nodes: u32) -> Result<Evaluation, Memory>
+impl<'a> Evaluation<'a> {
+    /// Room for so many nodes, with rows in this arena; no policy is evaluated.
+    pub(crate) fn new(alloc: Global, arena: &'a Bump, nodes: u32) -> Result<Evaluation<'a>, Memory>
         ensures { IfOk result (λ e. HasRoom nodes e) }
     {
         let active = Marks::empty(alloc, nodes)?;
         let constants = vec![in alloc; Frac::whole(0); nodes as usize]?;
         let values = vec![in alloc; Frac::whole(0); nodes as usize]?;
-        let kept = Kept::new(alloc, nodes)?;
+        let kept = Kept::new(alloc, arena, nodes)?;
         Ok(Evaluation {
             active,
             constants,
@@ -249,7 +250,7 @@ impl Evaluation {
 
     /// The values of the nodes, taken out.
     pub(crate) fn into_values(self) -> Vec<Frac>
-        ensures { result.items ≡ self.values }
+        ensures { result.items ≡ self.entry.values }
     {
         self.values
     }

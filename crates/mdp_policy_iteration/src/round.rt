@@ -19,7 +19,7 @@ pub(crate) fn round_of<P: ShortestPath>(
     problem: &P,
     policy: &[u32],
     loops: &Loops,
-    evaluation: &mut Evaluation,
+    evaluation: &mut Evaluation<'_>,
     scope: &Scope,
 ) -> Result<Vec<Pred>, RoundError>
     requires policy { IsPolicy (P.problem problem.now) policy.now }
@@ -47,7 +47,7 @@ pub(crate) fn first_round<P: ShortestPath>(
     problem: &P,
     policy: &[u32],
     loops: &Loops,
-    evaluation: &mut Evaluation,
+    evaluation: &mut Evaluation<'_>,
 ) -> Result<Vec<Pred>, RoundError>
     requires policy { IsPolicy (P.problem problem.now) policy.now }
     requires leaves { CanLeave (P.problem problem.now) policy.now }

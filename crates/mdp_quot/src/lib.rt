@@ -21,5 +21,7 @@ pub use exit_counts::longest;
 pub use exit_rows::ExitRows;
 pub use exits_laws::exits_law;
 pub use laws::{exit_rows_law, selection_law};
+/// An exit: a choice that isn't inside an end component, by its state and its number.
+pub use mdp_rows::Pred as Exit;
 pub use outer_policy::{Outer, best_exits};
 pub use quotient::Quotient;

@@ -18,18 +18,17 @@ returns-then-is_err-clause-wide c = λ s h.
 
 pub returns-clause-ok : goal.returns-clause-ok
 returns-clause-ok c =
-    let t = c.args.t in
-    let old = c.args.solved.now in
-    let new = c.divide.new.self in
+    let new = c.put.new.self in
     let put = (c.in_ok-put_in.ensures {u = tt}).ok in
-    let here = get_or-set_same c.args.solved.now c.args.t c.divide.new.self spec.no_equation c.requires.state in
+    let kept : c.put.new.self ≡ c.divide.new.self = c.in_ok-put.ensures {u = tt} in
+    let here = get_or-set_same c.args.solved.now c.args.t new spec.no_equation c.requires.state ∙ kept in
     let z : c.args.t + 1 ≡ suc c.args.t = omega arith in
     let below : Between 0 (suc c.args.t) c.put_in.new.equation.entries = subst (λ n. Between 0 n c.put_in.new.equation.entries) z (c.in_ok-put_in.ensures {u = tt}).below in
     let made : divided c.args.t c.put_in.new.equation ≡ Some c.divide.new.self = search rules in (
       ap (λ (o : Option spec.Equation). o >>= divided c.args.t) put ∙ made ∙ ap Some (sym here),
       subst (λ (e : spec.Equation). Between 0 c.args.t e.entries) (sym here) (divided-down c.args.t c.put_in.new.equation c.divide.new.self below made),
-      length-set c.args.solved.now c.args.t c.divide.new.self,
-      λ u h. get_or-set_other c.args.solved.now c.args.t u c.divide.new.self spec.no_equation h,
+      length-set c.args.solved.now c.args.t new,
+      λ u h. get_or-set_other c.args.solved.now c.args.t u new spec.no_equation h,
     )
 
 pub returns-clause-wide : goal.returns-clause-wide
