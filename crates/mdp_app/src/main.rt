@@ -14,18 +14,35 @@ mod run;
 mod tests;
 
 use crate::run::run_on_files;
-use mdp_command::{words_given, written};
+use mdp_command::{exit_of, words_given, written};
 use mdp_edge::{StdSink, StdSource};
+use mdp_job::files_of;
 use std::fs::File;
 use std::process::ExitCode;
+
+/// A file that has ended.
+const ENDED: &str = "/dev/null";
+
+/// Opens the file of this name; one that has ended where no word names a file.
+fn opened(rt: &HostRuntime, path: &str, word: Option<usize>) -> StdSource<File> {
+    let path = match word {
+        Some(_) => path,
+        None => ENDED,
+    };
+    StdSource::new(File::open(rt, path).ok())
+}
 
 fn main(rt: HostRuntime) -> ExitCode {
     let alloc = rt.alloc();
     let mut out = StdSink::new(rt.stdout());
-    let open = |path: &str| StdSource::new(File::open(&rt, path).ok());
     let status = match words_given(&rt) {
-        Ok(words) => run_on_files(alloc, &words, open, open, &mut out),
+        Ok(words) => {
+            let files = files_of(&words);
+            let open_model = |path: &str| opened(&rt, path, files.model);
+            let open_second = |path: &str| opened(&rt, path, files.second);
+            run_on_files(alloc, &words, open_model, open_second, &mut out)
+        }
         Err(refusal) => written(alloc, Err(refusal), &mut out),
     };
-    ExitCode::from(status.code())
+    exit_of(status)
 }

@@ -20,4 +20,5 @@ pub mod MeanTrivial
 pub mod MeanTelling
 pub mod MeanExact
 pub mod Saying
+pub mod Ordered
 mod Examples

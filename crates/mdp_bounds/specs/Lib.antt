@@ -4,3 +4,4 @@ pub mod Reward
 pub mod Mean
 pub mod Says
 pub mod Laws
+pub mod Order

@@ -1,5 +1,7 @@
 ghost use Rattle.mdp_bounds.specs.Laws.{ReachBoundsNeverNo, RewardBoundsNeverNo, MeanBoundsNeverNo, ReachNoRefutes, RewardNoRefutes, MeanNoRefutes};
 ghost use Rattle.mdp_bounds.specs.Laws.{ReachMeetsSays, RewardMeetsSays, MeanMeetsSays};
+ghost use Rattle.mdp_bounds.specs.Order.{ReachIsOrdered, RewardIsOrdered, MeanIsOrdered, ReachLiesBetween, RewardLiesBetween, MeanLiesBetween};
+ghost use Rattle.mdp_bounds.specs.Order.{SameReachIsExact, SameRewardIsExact, SameMeanIsExact};
 
 /// Bounds that meet their rules in exact numbers are never answered no: their checks end with yes or with a sum past width.
 pub fn never_no_law()
@@ -20,4 +22,25 @@ pub fn says_law()
     ensures reach { ReachMeetsSays }
     ensures reward { RewardMeetsSays }
     ensures mean { MeanMeetsSays }
+{}
+
+/// Of bounds that are true, whatever shows it, at each state: the lower value is at most the upper one.
+pub fn order_law()
+    ensures reach { ReachIsOrdered }
+    ensures reward { RewardIsOrdered }
+    ensures mean { MeanIsOrdered }
+{}
+
+/// Wherever exact values are known, they lie between bounds that are true.
+pub fn between_law()
+    ensures reach { ReachLiesBetween }
+    ensures reward { RewardLiesBetween }
+    ensures mean { MeanLiesBetween }
+{}
+
+/// Bounds that are true and whose two columns are the same are the exact values.
+pub fn exact_law()
+    ensures reach { SameReachIsExact }
+    ensures reward { SameRewardIsExact }
+    ensures mean { SameMeanIsExact }
 {}

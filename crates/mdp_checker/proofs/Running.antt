@@ -3,7 +3,8 @@ use Rattle.std.proofs.Common.{◌≡◌, ◌⊎◌, ℕ, inl, inr, List, Option,
 use Rattle.std.specs.Io.KnownBytes.{IsAtEnd}
 use Rattle.mdp_spec.specs.Mdp.{Mdp}
 use Rattle.mdp_rows.specs.declared.rule.RowRule.{RowRule}
-use Rattle.mdp_drn.specs.FromSource.{HadLeft}
+use Rattle.mdp_rows.specs.Limits.{IsModel}
+use Rattle.mdp_drn.specs.{FromSource.{HadLeft}, Laws.{ReadsAsModel}}
 use Rattle.mdp_job.specs.{Refusal.{PlainRefusal, no_job, no_memory}, declared.status.Status.{Status}, declared.words_error.WordsError.{WordsError}}
 use Rattle.mdp_job.specs.declared.status.Status.TheVariants as status
 use Rattle.mdp_command.proofs.Statuses.{done_text, ends_as}
@@ -32,37 +33,41 @@ check_decided asked rule model cert said is read unread model_end cert_end =
 
 -- ---- what an accepted certificate means
 
-claims_truly : (kind : CertificateKind) (rule : RowRule) (model cert : List ℕ) → IsTrueClaimBy (checker_of kind) rule model cert → ClaimsTruly (meaning_of kind) rule model cert
-claims_truly Exact rule model cert t = record {
+claims_truly : ReadsAsModel → (kind : CertificateKind) (rule : RowRule) (model cert : List ℕ) → IsTrueClaimBy (checker_of kind) rule model cert → ClaimsTruly (meaning_of kind) rule model cert
+claims_truly kept Exact rule model cert t = record {
   model = t.accepted.model;
   reads = t.accepted.reads;
+  mdp = IsModel.mdp (kept model rule t.accepted.model t.accepted.reads);
   cert = t.accepted.cert;
   text = t.accepted.text;
   states = t.accepted.holds.states;
   start = t.accepted.holds.init;
   bound = t.bound;
 }
-claims_truly Discounted rule model cert t = record {
+claims_truly kept Discounted rule model cert t = record {
   model = t.accepted.model;
   reads = t.accepted.reads;
+  mdp = IsModel.mdp (kept model rule t.accepted.model t.accepted.reads);
   cert = t.accepted.cert;
   text = t.accepted.text;
   states = t.accepted.holds.states;
   start = t.accepted.holds.init;
   bound = t.bound;
 }
-claims_truly Bounds rule model cert t = record {
+claims_truly kept Bounds rule model cert t = record {
   model = t.accepted.model;
   reads = t.accepted.reads;
+  mdp = IsModel.mdp (kept model rule t.accepted.model t.accepted.reads);
   cert = t.accepted.cert;
   text = t.accepted.text;
   states = t.accepted.holds.states;
   start = t.accepted.holds.init;
   bound = t.bound;
 }
-claims_truly DiscountedBounds rule model cert t = record {
+claims_truly kept DiscountedBounds rule model cert t = record {
   model = t.accepted.model;
   reads = t.accepted.reads;
+  mdp = IsModel.mdp (kept model rule t.accepted.model t.accepted.reads);
   cert = t.accepted.cert;
   text = t.accepted.text;
   states = t.accepted.holds.states;
@@ -83,35 +88,35 @@ module _ (model cert : Input) (out : Output) (ended : Status) where
 
   -- ---- yes
 
-  yes_read : (rule : RowRule) (text : List ℕ) → IsCheckRead None rule model cert (Ok text) → IsAtEnd model.after → IsAtEnd cert.after → WroteAll out text → IsYesTrue (Ok rule) model cert out
-  yes_read rule text (inl from) model_end cert_end w = record {
+  yes_read : ReadsAsModel → (rule : RowRule) (text : List ℕ) → IsCheckRead None rule model cert (Ok text) → IsAtEnd model.after → IsAtEnd cert.after → WroteAll out text → IsYesTrue (Ok rule) model cert out
+  yes_read kept rule text (inl from) model_end cert_end w = record {
     rule = rule;
     words = refl;
     model_bytes = from.model_bytes;
     cert_bytes = from.second_bytes;
     had_model = from.had_model;
     had_cert = from.had_second;
-    true_claim = claims_truly (kind_of from.second_bytes) rule from.model_bytes from.second_bytes from.shown.true_claim;
+    true_claim = claims_truly kept (kind_of from.second_bytes) rule from.model_bytes from.second_bytes from.shown.true_claim;
     model_end = model_end;
     cert_end = cert_end;
     written = subst (λ (t : List ℕ). WroteAll out t) from.shown.yes w;
   }
-  yes_read rule text (inr (inl failed)) model_end cert_end w = cc (failed.0)
-  yes_read rule text (inr (inr (inl failed))) model_end cert_end w = cc (failed.says)
-  yes_read rule text (inr (inr (inr memory))) model_end cert_end w = cc memory
+  yes_read kept rule text (inr (inl failed)) model_end cert_end w = cc (failed.0)
+  yes_read kept rule text (inr (inr (inl failed))) model_end cert_end w = cc (failed.says)
+  yes_read kept rule text (inr (inr (inr memory))) model_end cert_end w = cc memory
 
   no_text : (e : WordsError) (text : List ℕ) → (Ok text ≡ Err (no_job e)) ⊎ (Ok text ≡ Err no_memory) → ⊥
   no_text e text (inl h) = cc h
   no_text e text (inr h) = cc h
 
-  yes_text_true : (asked : Asked) (text : List ℕ) → IsDecided asked model cert (Ok text) → WroteAll out text → IsYesTrue asked model cert out
-  yes_text_true (Ok rule) text d w = yes_read rule text d.cause.read d.ends.0 d.ends.1 w
-  yes_text_true (Err e) text d w = absurd (no_text e text d.cause.says)
+  yes_text_true : ReadsAsModel → (asked : Asked) (text : List ℕ) → IsDecided asked model cert (Ok text) → WroteAll out text → IsYesTrue asked model cert out
+  yes_text_true kept (Ok rule) text d w = yes_read kept rule text d.cause.read d.ends.0 d.ends.1 w
+  yes_text_true kept (Err e) text d w = absurd (no_text e text d.cause.says)
 
-  pub yes_true : (asked : Asked) (said : Said) → IsDecided asked model cert said → EndsWith ended out said → ended ≡ status.Done → IsYesTrue asked model cert out
-  yes_true asked said d w is =
+  pub yes_true : ReadsAsModel → (asked : Asked) (said : Said) → IsDecided asked model cert said → EndsWith ended out said → ended ≡ status.Done → IsYesTrue asked model cert out
+  yes_true kept asked said d w is =
       let t = done_text ended out said w is in
-      yes_text_true asked t.0 (subst (λ (x : Said). IsDecided asked model cert x) t.1 d) t.2
+      yes_text_true kept asked t.0 (subst (λ (x : Said). IsDecided asked model cert x) t.1 d) t.2
 
   -- ---- bytes that are accepted
 

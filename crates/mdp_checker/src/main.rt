@@ -5,7 +5,7 @@
 mod run;
 
 use crate::run::run_on_files;
-use mdp_command::{words_given, written};
+use mdp_command::{exit_of, words_given, written};
 use mdp_edge::{StdSink, StdSource};
 use std::fs::File;
 use std::process::ExitCode;
@@ -18,5 +18,5 @@ fn main(rt: HostRuntime) -> ExitCode {
         Ok(words) => run_on_files(alloc, &words, open, open, &mut out),
         Err(refusal) => written(alloc, Err(refusal), &mut out),
     };
-    ExitCode::from(status.code())
+    exit_of(status)
 }

@@ -3,6 +3,7 @@ ghost use Rattle.mdp_command.specs.{Opened.{OnFiles}, Prelude.{said, input, outp
 ghost use Rattle.mdp_checker.specs.{Run.{IsDecided, IsAnswered, IsYesTrue, IsComplete, HasRun}, Words.{asked, model_path, cert_path}};
 
 use mdp_command::{check_files, check_law, written};
+use mdp_drn::model_law;
 use mdp_edge::{Sink, Source};
 use mdp_job::{Paths, Refusal, Status, rows_of};
 use std::alloc::Global;
@@ -44,6 +45,7 @@ pub fn run<S: Source, C: Source, K: Sink>(
         (output K.taken K.settled K.faults out.old out.new) result }
 {
     check_law();
+    model_law();
     let answer = decided(alloc, words, model, cert);
     written(alloc, answer, out)
 }

@@ -1,6 +1,6 @@
 -- What certificates of a kind mean.
 use Rattle.std.specs.Prelude.{◌≡◌, ℕ, List, Result, Ok}
-use Rattle.mdp_spec.specs.{Labels.{initial_of}, Mdp.{Mdp, states_of}}
+use Rattle.mdp_spec.specs.{Labels.{initial_of}, Mdp.{Mdp, states_of}, Row.{IsMdp}}
 use Rattle.mdp_rows.specs.declared.rule.RowRule.{RowRule}
 use Rattle.mdp_drn.specs.Reading.{Reads}
 use Rattle.mdp_text.specs.declared.error.Refusal.{Refusal}
@@ -19,11 +19,12 @@ pub record Meaning : Type 1 where
   pub IsStart : Mdp → Certificate → Type 0
   pub IsBound : Mdp → Certificate → Type 0
 
--- the bytes of the model read as a model, those of the certificate as a certificate; it speaks of as many states, its line `init` is right, and what it
--- claims is true of the model, whoever wrote it
+-- the bytes of the model read as a model, each row of which is a distribution over its states, and those of the certificate as a certificate; it speaks
+-- of as many states, its line `init` is right, and what it claims is true of the model, whoever wrote it
 pub record ClaimsTruly (meaning : Meaning) (rule : RowRule) (model_bytes cert_bytes : List ℕ) : Type 0 where
   pub model : Mdp
   pub reads : Reads model_bytes rule model
+  pub mdp : IsMdp model
   pub cert : meaning.Certificate
   pub text : meaning.outcome cert_bytes ≡ Ok cert
   pub states : meaning.states cert ≡ states_of model

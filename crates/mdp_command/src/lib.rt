@@ -18,5 +18,5 @@ pub use kind::{CertificateKind, kind_of};
 pub use laws::check_law;
 pub use printing::certificate_text;
 pub use saying::answered;
-pub use words::words_given;
+pub use words::{behind_name, exit_of, words_given};
 pub use writing::written;

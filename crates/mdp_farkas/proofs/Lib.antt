@@ -18,6 +18,7 @@ mod MeanTelling
 mod Saying
 mod Places
 mod Named
+mod Firsts
 mod Examples
 mod ExamplesReward
 mod ExamplesMean

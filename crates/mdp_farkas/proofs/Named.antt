@@ -5,7 +5,7 @@ use Rattle.mdp_math.specs.Result.{◌>>=◌}
 use Rattle.mdp_farkas.specs.{Verdict.{Check, objection, objection_to, verdict, verdict_of}, Laws.{IsFalse}}
 use Rattle.mdp_claims.specs.{declared.verdict.Fault.{Fault}, declared.verdict.Verdict.{Verdict}, declared.verdict.Verdict.TheVariants.{Yes, No, Wide}}
 
-abbrev fault_or : Fault → Verdict → Fault
+abbrev pub fault_or : Fault → Verdict → Fault
 fault_or f Yes = f
 fault_or f (No g) = g
 fault_or f (Wide state choice) = f

@@ -1,16 +1,36 @@
 -- What a no means: a check of the named rule at the named place is false, and so is, in exact numbers, what the rule says of that place; so the rules
 -- don't hold in exact numbers.
-use Rattle.std.specs.{Prelude.{◌≡◌, ◌↔◌, ℕ, ◌<◌, Bool, false, List, length, Option, Some}, List.{Any}}
+use Rattle.std.specs.{Prelude.{◌≡◌, ◌↔◌, ℕ, ◌<◌, Bool, true, false, List, ◌∷◌, ◌++◌, length, Option, Some, None, All}, List.{Any}}
 use Rattle.mdp_math.specs.Rational.{ℚ, ◌≤ℚ◌}
 use Rattle.mdp_spec.specs.{Mdp.{Mdp, states_of, choices_at, choice_at}, Unit.{reward_of}, Rules.{MeetsUpper}}
 use Rattle.mdp_farkas.specs.{Compare.{0ℚ}, Verdict.{Check, verdict_of}, Upper.{upper_checks}, Reach.{reach_checks, MeetsReach}}
 use Rattle.mdp_farkas.specs.{Reward.{reward_checks, MeetsReward}, Mean.{mean_checks, MeetsMean}, Says.{UpperSays, ReachSays, RewardSays, MeanSays}}
 use Rattle.mdp_rows.specs.declared.dir.Dir.{Dir}
-use Rattle.mdp_claims.specs.{declared.rule.Rule.{Rule}, declared.verdict.Fault.{Fault}, declared.verdict.Verdict.TheVariants.{No}}
+use Rattle.mdp_claims.specs.{declared.rule.Rule.{Rule}, declared.verdict.Fault.{Fault}, declared.verdict.Verdict.TheVariants.{No, Wide}}
 
 -- the check is of the rule and at the place that the fault names, and it is false
 abbrev pub IsFalse : Fault → Check → Type 0
 IsFalse fault c = (c.rule ≡ fault.rule) × (c.state ≡ fault.state) × (c.choice ≡ fault.choice) × (c.holds ≡ Some false)
+
+-- a list of checks has one that meets P, and all before it hold
+pub record IsFirst (P : Check → Type 0) (checks : List Check) : Type 0 where
+  pub before : List Check
+  pub one : Check
+  pub behind : List Check
+  pub split : checks ≡ before ++ (one ∷ behind)
+  pub hold : All (λ c. c.holds ≡ Some true) before
+  pub meets : P one
+
+-- a check at a place that has a term past width
+abbrev pub IsWideAt : Option ℕ → Option ℕ → Check → Type 0
+IsWideAt state choice c = (c.state ≡ state) × (c.choice ≡ choice) × (c.holds ≡ None)
+
+-- where the answer is a term past width, all checks before the one at that place hold; and so do those before the one that a no names
+abbrev pub WideIsFirst : Type 0
+WideIsFirst = (checks : List Check) (state choice : Option ℕ) → verdict_of checks ≡ Wide state choice → IsFirst (IsWideAt state choice) checks
+
+abbrev pub NoIsFirst : Type 0
+NoIsFirst = (checks : List Check) (fault : Fault) → verdict_of checks ≡ No fault → IsFirst (IsFalse fault) checks
 
 -- a list of checks that is answered no has one that is false, of the rule and at the place that are named
 abbrev pub NoIsFalse : Type 0

@@ -1,3 +1,4 @@
+ghost use Rattle.mdp_farkas.specs.Laws.{WideIsFirst, NoIsFirst};
 ghost use Rattle.mdp_farkas.specs.Laws.{NoIsFalse, UpperNeverNo, ReachNeverNo, RewardNeverNo, MeanNeverNo};
 ghost use Rattle.mdp_farkas.specs.Laws.{UpperNoRefutes, ReachNoRefutes, RewardNoRefutes, MeanNoRefutes, UpperSaysAll, ReachSaysAll, RewardSaysAll, MeanSaysAll};
 
@@ -25,4 +26,10 @@ pub fn says_law()
     ensures reach { ReachSaysAll }
     ensures reward { RewardSaysAll }
     ensures mean { MeanSaysAll }
+{}
+
+/// What stands before the check that ended a walk over checks: those before one with a term past width, and those before a false one, all hold.
+pub fn first_law()
+    ensures wide { WideIsFirst }
+    ensures no { NoIsFirst }
 {}

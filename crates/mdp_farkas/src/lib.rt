@@ -24,7 +24,7 @@ pub use compare::{at_least, at_most, equal};
 pub use finite::{finite_at, finite_sum, is_infinite_at, stays_finite_at};
 pub use infinite::infinite_state;
 pub use initial::{init_denied, is_value, state_verdict};
-pub use laws::{never_no_law, refuted_law, says_law};
+pub use laws::{first_law, never_no_law, refuted_law, says_law};
 pub use mdp_claims::{
     Fault, MeanCert, Objection, ReachCert, RewardCert, Rule, UpperCert, Verdict, numbers_law,
 };

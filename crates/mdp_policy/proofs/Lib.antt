@@ -11,5 +11,6 @@ pub mod Chains
 pub mod Handed
 pub mod Trees
 pub mod Owned
+pub mod Stepped
 pub mod Rewards
 mod ChainExamples

@@ -1,12 +1,13 @@
 -- The greatest and the least rewards of a policy's chain until a goal are what the policy earns on the model.
-use Rattle.std.proofs.Common.{◌≡◌, ℕ, suc, ◌*◌, ◌≤◌, ◌<◌, ⊎_elim, inl, inr, Bool, List, [], ◌∷◌, Option, Some, None, refl, subst, arith, pos}
+use Rattle.std.proofs.Common.{◌≡◌, ℕ, zero, suc, ◌+◌, ◌*◌, ◌-◌, ◌≤◌, ◌<◌, ⊎_elim, inl, inr, Bool, List, [], ◌∷◌, Option, Some, None, refl, subst, arith, pos}
 use Rattle.mdp_math.specs.Rational.{ℚ, ◌+ℚ◌, ◌≤ℚ◌}
-use Rattle.mdp_math.proofs.{Ring.{◌⊕◌, lit}, Linear.{linear, known}, Laws.{den-pos}, Order.{1ℚ, le-ratio}, Whole.{ratio-pos}, Powers.{unit_fraction-le}}
+use Rattle.mdp_math.proofs.{Ring.{◌⊕◌, lit}, Linear.{linear, known}, Laws.{den-pos}, Order.{1ℚ, ≤ℚ_refl, ≤ℚ_trans, le-ratio}, Whole.{ratio-pos}, Powers.{unit_fraction-le}}
 use Rattle.mdp_spec.specs.{Mdp.{Mdp, states_of}, Row.{IsMdp}, Tree.{IsStrategy, IsPolicy, unfolded}, Hit.{hit}, Pay.{pay, Enters}}
 use Rattle.mdp_spec.specs.Bounds.{part, reward_at, greatest_finite, infinite, MaxInfinite, MinInfinite}
 use Rattle.mdp_spec.specs.Between.{MaxAtLeast, MaxLower, MaxUpper, MinAtLeast, MinLower, MinUpper, RewardMinBetween}
 use Rattle.mdp_spec.proofs.{Keeping.{unfolded_is_strategy}, Values.{none_of_infinite, greatest_finite-nonneg}, Pays.{near_enough}}
 use Rattle.mdp_spec.proofs.{Reward.{reward_max_between, reward_min_between}, Trapped.{misses_of_enters}}
+use Rattle.mdp_subsystem_rules.proofs.Bounded.{one_more_step}
 use Rattle.mdp_policy.specs.{Chain.{chain_of}, ChainLaws.{RewardIsOwn, RewardBoundsAreOwn}, Own.{OwnLower, OwnUpper}}
 use Rattle.mdp_policy.proofs.{Chains.{chain_is_mdp}, Trees.{pays_kept}, Owned.{inside, tree_of, hit_same}}
 
@@ -34,6 +35,20 @@ never_enters m r goals policy lower upper n s known_ rules h arrives enters =
     (part (ℚ.den missed.0)) missed.0 (missed.2 met.0) (unit_fraction-le missed.0 missed.1))
     met.1
 
+-- a policy hits no less with more steps
+module _ (m : Mdp) (goals : List Bool) (policy : List ℕ) (known_ : IsMdp m) (takes : IsPolicy m policy) where
+  same_steps : (n k s : ℕ) → n ≡ k → hit m goals 1 n (unfolded m policy n s) s ≤ℚ hit m goals 1 k (unfolded m policy k s) s
+  same_steps n k s e = subst (λ (j : ℕ). hit m goals 1 n (unfolded m policy n s) s ≤ℚ hit m goals 1 j (unfolded m policy j s) s) e (≤ℚ_refl _)
+
+  hits_grow_by : (n more d s : ℕ) → more + n ≡ d → s < states_of m → hit m goals 1 n (unfolded m policy n s) s ≤ℚ hit m goals 1 d (unfolded m policy d s) s
+  hits_grow_by n zero d s e h = same_steps n d s (omega (arith, e))
+  hits_grow_by n (suc more) d s e h =
+      ≤ℚ_trans _ _ _ (hits_grow_by n more (more + n) s refl h)
+      (≤ℚ_trans _ _ _ (one_more_step m goals policy (more + n) s known_ takes h) (same_steps (suc (more + n)) d s (omega (arith, e))))
+
+  hits_grow : (n d s : ℕ) → s < states_of m → n ≤ d → hit m goals 1 n (unfolded m policy n s) s ≤ℚ hit m goals 1 d (unfolded m policy d s) s
+  hits_grow n d s h l = hits_grow_by n (d - n) d s (omega (arith, l)) h
+
 module _ (m : Mdp) (policy other : List ℕ) (known_ : IsMdp m) (is : IsPolicy m policy) (r : ℕ) (goals : List Bool) (takes : IsPolicy (chain_of m policy) other) where
   -- the policy's trees on the chain and on the model
   abbrev there : ℕ → ℕ → ℚ
@@ -59,7 +74,7 @@ module _ (m : Mdp) (policy other : List ℕ) (known_ : IsMdp m) (is : IsPolicy m
     arrives = λ k hk.
         let a = MaxAtLeast.arrives c k hk in
         (a.0, subst (λ (w : ℚ). 1ℚ ≤ℚ w +ℚ part k) (met_same a.0 s h) (a.1 a.0 1 (unfolded (chain_of m policy) other a.0 s) (omega arith) (tree a.0 s h)));
-    close = λ k hk. let a = MaxAtLeast.close c k hk in (a.0, subst (λ (w : ℚ). x ≤ℚ w +ℚ part k) (pay_same a.0 s h) a.1);
+    close = λ k hk. let a = MaxAtLeast.close c k hk in (a.0, λ d l. subst (λ (w : ℚ). x ≤ℚ w +ℚ part k) (pay_same d s h) (a.1 d l));
   }
   of_max_lower s h None c = let q = MaxInfinite.misses c in (q.0, q.1, λ n. subst (λ (w : ℚ). w +ℚ part q.0 ≤ℚ 1ℚ) (met_same n s h) (q.2 n))
 
@@ -72,15 +87,20 @@ module _ (m : Mdp) (policy other : List ℕ) (known_ : IsMdp m) (is : IsPolicy m
   of_min_upper s h None c = tt
 
   module _ (lower upper : List (Option ℚ)) (rules : RewardMinBetween (chain_of m policy) r goals other lower upper) where
-    comes_close : (s : ℕ) (x : ℚ) → s < states_of m → MinAtLeast (chain_of m policy) r goals other lower s x → (k : ℕ) → 1 ≤ k → (n : ℕ) × (x ≤ℚ here n s +ℚ part k)
+    comes_close : (s : ℕ) (x : ℚ) → s < states_of m → MinAtLeast (chain_of m policy) r goals other lower s x → (k : ℕ) → 1 ≤ k → (n : ℕ) × ((d : ℕ) → n ≤ d → x ≤ℚ here d s +ℚ part k)
     comes_close s x h c k hk =
         let enough = near_enough (greatest_finite lower) k (greatest_finite-nonneg lower) hk in
         let met = MinAtLeast.arrives c enough.0 enough.1 in
-        ⊎_elim
-        (λ enters.
-        absurd (never_enters (chain_of m policy) r goals other lower upper met.0 s (chain_is_mdp m policy is known_) rules (inside m policy other known_ is s h) (MinAtLeast.arrives c) enters))
-        (λ covered. (met.0, subst (λ (w : ℚ). x ≤ℚ w +ℚ part k) (pay_same met.0 s h) (enough.2 x (there met.0 s) (met_there met.0 s) covered met.1)))
-        (MinAtLeast.covered c met.0 1 (unfolded (chain_of m policy) other met.0 s) (tree met.0 s h))
+        let is_mdp = chain_is_mdp m policy is known_ in
+        let within = inside m policy other known_ is s h in (
+          met.0,
+          λ d l.
+              ⊎_elim (λ enters. absurd (never_enters (chain_of m policy) r goals other lower upper d s is_mdp rules within (MinAtLeast.arrives c) enters))
+              (λ covered. subst (λ (w : ℚ). x ≤ℚ w +ℚ part k) (pay_same d s h) (enough.2 x (there d s) (met_there d s) covered
+              (linear 3 (λ a b q. lit (pos 1)) (λ a b q. b ⊕ q) (λ a b q. known (lit (pos 1)) (a ⊕ q) ∷ known a b ∷ []) refl (met_there met.0 s) (met_there d s) (part enough.0) met.1
+              (hits_grow (chain_of m policy) goals other is_mdp takes met.0 d s within l))))
+              (MinAtLeast.covered c d 1 (unfolded (chain_of m policy) other d s) (tree d s h)),
+        )
 
     of_min_lower : (s : ℕ) → s < states_of m → (o : Option ℚ) → MinLower (chain_of m policy) r goals other lower s o → OwnLower m r goals policy s o
     of_min_lower s h (Some x) c = record {

@@ -4,9 +4,10 @@ use Rattle.mdp_math.specs.Rational.{ℚ}
 use Rattle.mdp_spec.specs.{Mdp.{Mdp}, Row.{IsMdp}, Tree.{IsPolicy}, Bounds.{ReachMax, ReachMin, RewardMax, RewardMin, MeanMax, MeanMin}}
 use Rattle.mdp_spec.specs.Between.{ReachMaxBetween, ReachMinBetween, RewardMaxBetween, RewardMinBetween, MeanMaxBetween, MeanMinBetween}
 use Rattle.mdp_rows.specs.declared.dir.Dir.{Dir}
-use Rattle.mdp_horizon.specs.Bounds.{BoundedMax, BoundedMin}
+use Rattle.mdp_horizon.specs.{Bounds.{BoundedMax, BoundedMin, TotalMax, TotalMin}, Between.{MaxBetween, MinBetween}, Objective.{Objective}}
 use Rattle.mdp_discount_rules.specs.{Bounds.{DiscountBound}, Rules.{IsFactor}}
-use Rattle.mdp_policy.specs.{Chain.{chain_of}, Own.{IsChainOf, AreOwn, OwnReach, OwnReward, OwnMean, OwnBounded, OwnDiscount}}
+use Rattle.mdp_discount_bounds.specs.Between.{DiscountBetween}
+use Rattle.mdp_policy.specs.{Chain.{chain_of}, Own.{IsChainOf, AreOwn, OwnReach, OwnReward, OwnMean, OwnBounded, OwnTotal, OwnWithin, OwnDiscount, OwnDiscountBetween}}
 
 -- ---- the chain itself
 
@@ -55,7 +56,22 @@ BoundedIsOwn =
     (m : Mdp) (policy : List ℕ) (stay goals : List Bool) (n : ℕ) (z : List ℚ) (table : List (List ℕ)) → IsMdp m → IsPolicy m policy
     → BoundedMax (chain_of m policy) stay goals n z table ⊎ BoundedMin (chain_of m policy) stay goals n z table → OwnBounded m stay goals policy n z
 
+abbrev pub TotalIsOwn : Type 0
+TotalIsOwn =
+    (m : Mdp) (policy : List ℕ) (r n : ℕ) (z : List ℚ) (table : List (List ℕ)) → IsMdp m → IsPolicy m policy
+    → TotalMax (chain_of m policy) r n z table ⊎ TotalMin (chain_of m policy) r n z table → OwnTotal m r policy n z
+
+abbrev pub StepBoundsAreOwn : Type 0
+StepBoundsAreOwn =
+    (m : Mdp) (policy : List ℕ) (o : Objective) (n : ℕ) (lower upper : List (Option ℚ)) (table : List (List ℕ)) → IsMdp m → IsPolicy m policy
+    → MaxBetween (chain_of m policy) o n lower upper table ⊎ MinBetween (chain_of m policy) o n lower upper table → OwnWithin m o policy n lower upper
+
 abbrev pub DiscountIsOwn : Type 0
 DiscountIsOwn =
     (dir : Dir) (m : Mdp) (policy other : List ℕ) (r : ℕ) (f : ℚ) (v : List ℚ) (remainder : ℚ) → IsMdp m → IsPolicy m policy → IsFactor f
     → DiscountBound dir (chain_of m policy) r f v remainder other → OwnDiscount m r f policy v remainder
+
+abbrev pub DiscountBoundsAreOwn : Type 0
+DiscountBoundsAreOwn =
+    (dir : Dir) (m : Mdp) (policy other : List ℕ) (r : ℕ) (f : ℚ) (lower upper : List (Option ℚ)) (remainder : ℚ) → IsMdp m → IsPolicy m policy → IsFactor f
+    → DiscountBetween dir (chain_of m policy) r f lower upper remainder other → OwnDiscountBetween m r f policy lower upper remainder

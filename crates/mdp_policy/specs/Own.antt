@@ -4,6 +4,7 @@ use Rattle.mdp_math.specs.{Rational.{ℚ, of_int, ◌+ℚ◌, ◌*ℚ◌, ◌≤
 use Rattle.mdp_spec.specs.{Mdp.{Mdp, states_of, choices_at, choice_at, value_at}, Labels.{marks_of}, Tree.{Tree, IsStrategy, unfolded}, Hit.{hit}}
 use Rattle.mdp_spec.specs.{Pay.{pay, total}, Bounds.{part, whole, reward_at}}
 use Rattle.mdp_spec.specs.Until.{until}
+use Rattle.mdp_horizon.specs.{Between.{Claimed}, Objective.{Objective, value_of}}
 use Rattle.mdp_discount_rules.specs.{Disc.{disc}, Rules.{IsFactor}}
 
 -- ---- the chain itself: it has the names, the labels and the states of the model, and a state has its labels and the policy's choice alone
@@ -37,10 +38,10 @@ pub record OwnReach (m : Mdp) (goals : List Bool) (policy : List ℕ) (lower upp
 
 -- ---- the reward of name r until a goal
 
--- at a state with a finite lower value the policy arrives with probability 1, and comes close to it
+-- at a state with a finite lower value the policy arrives with probability 1, and comes close to it and stays so
 pub record OwnAtLeast (m : Mdp) (r : ℕ) (goals : List Bool) (policy : List ℕ) (s : ℕ) (x : ℚ) : Type 0 where
   pub arrives : (k : ℕ) → 1 ≤ k → (n : ℕ) × (of_int (pos 1) ≤ℚ hit m goals 1 n (unfolded m policy n s) s +ℚ part k)
-  pub close : (k : ℕ) → 1 ≤ k → (n : ℕ) × (x ≤ℚ pay m r goals 1 n (unfolded m policy n s) s +ℚ part k)
+  pub close : (k : ℕ) → 1 ≤ k → (n : ℕ) × ((d : ℕ) → n ≤ d → x ≤ℚ pay m r goals 1 d (unfolded m policy d s) s +ℚ part k)
 
 -- at one with an infinite lower value it misses the goals with some chance
 abbrev pub OwnInfinite : Mdp → List Bool → List ℕ → ℕ → Type 0
@@ -68,7 +69,22 @@ pub record OwnMean (m : Mdp) (r : ℕ) (policy : List ℕ) (lower upper : List �
 abbrev pub OwnBounded : Mdp → List Bool → List Bool → List ℕ → ℕ → List ℚ → Type 0
 OwnBounded m stay goals policy n z = (s : ℕ) → s < states_of m → until m stay goals 1 n (unfolded m policy n s) s ≡ value_at z s
 
+-- ---- the total reward within n steps
+abbrev pub OwnTotal : Mdp → ℕ → List ℕ → ℕ → List ℚ → Type 0
+OwnTotal m r policy n z = (s : ℕ) → s < states_of m → total m r 1 n (unfolded m policy n s) s ≡ value_at z s
+
+-- ---- what the policy comes to within n steps lies between two values; a value that is missing claims nothing
+abbrev pub OwnWithin : Mdp → Objective → List ℕ → ℕ → List (Option ℚ) → List (Option ℚ) → Type 0
+OwnWithin m o policy n lower upper =
+    (s : ℕ) → s < states_of m
+    → Claimed (reward_at lower s) (λ x. x ≤ℚ value_of m o 1 n (unfolded m policy n s) s) × Claimed (reward_at upper s) (λ y. value_of m o 1 n (unfolded m policy n s) s ≤ℚ y)
+
 -- ---- the discounted reward: what the policy earns in n steps differs from its value by at most what is left
 pub record OwnDiscount (m : Mdp) (r : ℕ) (f : ℚ) (policy : List ℕ) (v : List ℚ) (remainder : ℚ) : Type 0 where
   pub above : (n s : ℕ) → s < states_of m → value_at v s ≤ℚ disc m r f 1 n (unfolded m policy n s) s +ℚ pow_ℚ f n *ℚ remainder
   pub below : (n s : ℕ) → s < states_of m → disc m r f 1 n (unfolded m policy n s) s ≤ℚ value_at v s +ℚ pow_ℚ f n *ℚ remainder
+
+-- and lies between two values by as much; a value that is missing claims nothing
+pub record OwnDiscountBetween (m : Mdp) (r : ℕ) (f : ℚ) (policy : List ℕ) (lower upper : List (Option ℚ)) (remainder : ℚ) : Type 0 where
+  pub above : (n s : ℕ) → s < states_of m → Claimed (reward_at lower s) (λ x. x ≤ℚ disc m r f 1 n (unfolded m policy n s) s +ℚ pow_ℚ f n *ℚ remainder)
+  pub below : (n s : ℕ) → s < states_of m → Claimed (reward_at upper s) (λ y. disc m r f 1 n (unfolded m policy n s) s ≤ℚ y +ℚ pow_ℚ f n *ℚ remainder)

@@ -27,3 +27,4 @@ mod ExamplesBounds
 mod ExamplesRules
 mod ExamplesBetween
 mod ExamplesUntil
+mod ExamplesSigns

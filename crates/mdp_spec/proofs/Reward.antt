@@ -104,15 +104,16 @@ module _ (m : Mdp) (r : ℕ) (goals : List Bool) (lower upper : List (Option ℚ
               (near.0, λ d u t l tree. near.1 d u t s l tree.mixes (at, keeps_of_Fits m u d t s tree.fits));
           close = λ k hk.
               let enough = near_enough (greatest_finite lower) k (greatest_finite-nonneg lower) hk in
-              let near = arrives m r goals lower ranks known_ rules.lower_values (Follows policy) (λ s c at ok i. rules.stays s c at i) (λ s c at ok i. rules.falls s c at i) enough.0 enough.1 in
-              let ok : KeepsFinite m lower (Follows policy) 1 near.0 (unfolded m policy near.0 s) s = (at, keeps_unfolded m policy near.0 s known_ rules.choices h) in (
+              let near = arrives m r goals lower ranks known_ rules.lower_values (Follows policy) (λ s c at ok i. rules.stays s c at i) (λ s c at ok i. rules.falls s c at i) enough.0 enough.1 in (
                 near.0,
-                subst (λ (w : ℚ). w ≤ℚ pay m r goals 1 near.0 (unfolded m policy near.0 s) s +ℚ part k) (part_of_some lower s x e)
-                    (enough.2 (value_at (finite_part lower) s) (pay m r goals 1 near.0 (unfolded m policy near.0 s) s) (hit m goals 1 near.0 (unfolded m policy near.0 s) s)
+                λ d l.
+                    let ok : KeepsFinite m lower (Follows policy) 1 d (unfolded m policy d s) s = (at, keeps_unfolded m policy d s known_ rules.choices h) in
+                    subst (λ (w : ℚ). w ≤ℚ pay m r goals 1 d (unfolded m policy d s) s +ℚ part k) (part_of_some lower s x e)
+                    (enough.2 (value_at (finite_part lower) s) (pay m r goals 1 d (unfolded m policy d s) s) (hit m goals 1 d (unfolded m policy d s) s)
                     (earns_at_least m r goals lower ranks known_ rules.lower_values (Follows policy) (λ s c at ok i. rules.stays s c at i)
-                    (of_policy m goals lower policy (λ s c. value_at (finite_part lower) s ≤ℚ backup m r s c (finite_part lower)) rules.reached) near.0 1 (unfolded m policy near.0 s) s (omega arith)
+                    (of_policy m goals lower policy (λ s c. value_at (finite_part lower) s ≤ℚ backup m r s c (finite_part lower)) rules.reached) d 1 (unfolded m policy d s) s (omega arith)
                     ok)
-                    (near.1 near.0 1 (unfolded m policy near.0 s) s (omega arith) (omega arith) ok)),
+                    (near.1 d 1 (unfolded m policy d s) s l (omega arith) ok)),
               );
         }
     max_lower s None h e =

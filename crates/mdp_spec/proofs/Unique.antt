@@ -54,7 +54,7 @@ module _ (m : Mdp) (r : ℕ) (goals : List Bool) (known_ : IsMdp m) where
       (λ k hk.
       let c = one.close k hk in
       let a = two c.0 1 (unfolded m policy c.0 s) (unfolded_is_strategy m policy c.0 s known_ choice h) in
-      linear 4 (λ x y p q. x) (λ x y p q. y ⊕ q) (λ x y p q. known x (p ⊕ q) ∷ known p y ∷ []) refl x y (pay m r goals 1 c.0 (unfolded m policy c.0 s) s) (part k) c.1 a)
+      linear 4 (λ x y p q. x) (λ x y p q. y ⊕ q) (λ x y p q. known x (p ⊕ q) ∷ known p y ∷ []) refl x y (pay m r goals 1 c.0 (unfolded m policy c.0 s) s) (part k) (c.1 c.0 (omega arith)) a)
 
   max_clash : (policy other : List ℕ) (s : ℕ) (x : ℚ) → IsPolicy m other → s < states_of m → MaxAtLeast m r goals policy s x → MaxInfinite m r goals other s → ⊥
   max_clash policy other s x choice h one two =

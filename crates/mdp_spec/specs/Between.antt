@@ -29,10 +29,10 @@ AtMost None (Some y) = ⊥
 AtMost (Some x) (Some y) = x ≤ℚ y
 
 module _ (m : Mdp) (r : ℕ) (goals : List Bool) (policy : List ℕ) where
-  -- the greatest reward at a state with the finite lower value x is finite: each deep tree arrives, and the policy comes close to x
+  -- the greatest reward at a state with the finite lower value x is finite: each deep tree arrives, and the policy comes close to x and stays so
   pub record MaxAtLeast (s : ℕ) (x : ℚ) : Type 0 where
     pub arrives : (k : ℕ) → 1 ≤ k → (n : ℕ) × ((d u : ℕ) (t : Tree) → n ≤ d → IsStrategy m u d t s → of_int (pos 1) ≤ℚ hit m goals u d t s +ℚ part k)
-    pub close : (k : ℕ) → 1 ≤ k → (n : ℕ) × (x ≤ℚ pay m r goals 1 n (unfolded m policy n s) s +ℚ part k)
+    pub close : (k : ℕ) → 1 ≤ k → (n : ℕ) × ((d : ℕ) → n ≤ d → x ≤ℚ pay m r goals 1 d (unfolded m policy d s) s +ℚ part k)
 
   abbrev pub MaxLower : ℕ → Option ℚ → Type 0
   MaxLower s (Some x) = MaxAtLeast s x

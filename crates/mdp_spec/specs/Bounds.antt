@@ -60,11 +60,11 @@ abbrev pub infinite : List (Option ℚ) → List Bool
 infinite v = map (λ x. not (is_some x)) v
 
 module _ (m : Mdp) (r : ℕ) (goals : List Bool) (policy : List ℕ) where
-  -- at a state with the finite value x: no tree earns more, each deep tree arrives, and the policy comes close
+  -- at a state with the finite value x: no tree earns more, each deep tree arrives, and the policy comes close and stays so
   pub record MaxFinite (s : ℕ) (x : ℚ) : Type 0 where
     pub above : (n u : ℕ) (t : Tree) → IsStrategy m u n t s → pay m r goals u n t s ≤ℚ x
     pub arrives : (k : ℕ) → 1 ≤ k → (n : ℕ) × ((d u : ℕ) (t : Tree) → n ≤ d → IsStrategy m u d t s → of_int (pos 1) ≤ℚ hit m goals u d t s +ℚ part k)
-    pub close : (k : ℕ) → 1 ≤ k → (n : ℕ) × (x ≤ℚ pay m r goals 1 n (unfolded m policy n s) s +ℚ part k)
+    pub close : (k : ℕ) → 1 ≤ k → (n : ℕ) × ((d : ℕ) → n ≤ d → x ≤ℚ pay m r goals 1 d (unfolded m policy d s) s +ℚ part k)
 
   -- at a state with an infinite value the policy misses the goals with some chance
   pub record MaxInfinite (s : ℕ) : Type 0 where

@@ -5,7 +5,7 @@ pub returns-clause-answer : goal.returns-clause-answer
 returns-clause-answer g c = answered _ _ _ _ _ _ c.decided-answer.ensures c.written.ensures
 
 pub returns-clause-done : goal.returns-clause-done
-returns-clause-done g c is = yes_true _ _ _ _ _ _ c.decided-answer.ensures c.written.ensures is
+returns-clause-done g c is = yes_true _ _ _ _ c.model_law.ensures _ _ c.decided-answer.ensures c.written.ensures is
 
 pub returns-clause-complete : goal.returns-clause-complete
 returns-clause-complete g c = complete _ _ _ _ c.check_law.ensures.accepted _ (returns-clause-answer g c)
