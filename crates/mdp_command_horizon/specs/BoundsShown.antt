@@ -1,9 +1,10 @@
 -- What is shown of the text that answers `bounds` of a bounded until, or of a total reward.
-use Rattle.std.specs.Prelude.{◌≡◌, ℕ, List, Bool, Option, Some, Ok}
-use Rattle.mdp_spec.specs.{Labels.{place_of}, Mdp.{Mdp}}
+use Rattle.std.specs.Prelude.{◌≡◌, ℕ, ◌*◌, ◌≤◌, ◌^◌, List, Bool, Option, Some, Ok, pos}
+use Rattle.mdp_spec.specs.{Labels.{place_of}, Mdp.{Mdp, states_of}}
 use Rattle.mdp_rows.specs.{declared.dir.Dir.{Dir}, declared.dir.Dir.TheVariants.{Max, Min}, declared.rule.RowRule.{RowRule}}
 use Rattle.mdp_horizon.specs.{Between.{MaxBetween, MinBetween}, Objective.{Objective}, Objective.Objective.{until as until_objective, total as total_objective}}
-use Rattle.mdp_horizon.specs.{Columns.{Bounds}, BoundsSpelling.{bounds_text}, BoundsSpelling.PlainClaim.{until as until_claim, total as total_claim}}
+use Rattle.mdp_horizon.specs.{Columns.{Bounds}, Gap.{NoneIsWide, AreNearBounds}, Finer.{unit_of}, Finite.{AreProbabilities}}
+use Rattle.mdp_horizon.specs.{BoundsSpelling.{PlainClaim, bounds_text}, BoundsSpelling.PlainClaim.{until as until_claim, total as total_claim}}
 use Rattle.mdp_command.specs.{Read.{IsWorkOnModel}, Said.{Said}, Streams.{Input}}
 use Rattle.mdp_command_horizon.specs.{BoundsDue.{IsUntilBoundsDue, IsTotalBoundsDue}, Due.{states_with, states_that_stay, stay_word}, Shown.{IsShownOf}}
 
@@ -12,35 +13,40 @@ abbrev pub AreBetween : Dir → Mdp → Objective → ℕ → Bounds → Type 0
 AreBetween Max m o steps b = MaxBetween m o steps b.lower b.upper b.steps
 AreBetween Min m o steps b = MinBetween m o steps b.lower b.upper b.steps
 
--- the text of such bounds, by way of the states that stay to the states with the label
-pub record AreUntilBoundsPrinted (dir : Dir) (stay : Option (List ℕ)) (label : List ℕ) (steps : ℕ) (m : Mdp) (text : List ℕ) : Type 0 where
+-- the text of such bounds. Where no row is wide and the unit is as fine as the steps cost, lower and upper values are at most 10^-digits apart
+pub record AreBoundsPrinted (dir : Dir) (asked : PlainClaim) (o : Objective) (steps digits : ℕ) (m : Mdp) (text : List ℕ) : Type 0 where
+  pub bounds : Bounds
+  pub spelled : text ≡ bounds_text dir asked m bounds
+  pub between : AreBetween dir m o steps bounds
+  pub near : NoneIsWide dir (pos (unit_of m o digits steps)) m o steps → steps * 10 ^ digits ≤ unit_of m o digits steps
+      → AreNearBounds (10 ^ digits) m bounds
+
+-- by way of the states that stay to the states with the label: each value is there, from 0 to 1
+pub record AreUntilBoundsPrinted (dir : Dir) (stay : Option (List ℕ)) (label : List ℕ) (steps digits : ℕ) (m : Mdp) (text : List ℕ) : Type 0 where
   pub stays : List Bool
   pub stays_are : states_that_stay m stay ≡ Ok stays
   pub goals : List Bool
   pub goals_are : states_with m label ≡ Ok goals
-  pub bounds : Bounds
-  pub spelled : text ≡ bounds_text dir (until_claim (stay_word stay) label) m bounds
-  pub between : AreBetween dir m (until_objective stays goals) steps bounds
+  pub printed : AreBoundsPrinted dir (until_claim (stay_word stay) label) (until_objective stays goals) steps digits m text
+  pub finite : AreProbabilities (states_of m) printed.bounds.lower × AreProbabilities (states_of m) printed.bounds.upper
 
 -- the same for the reward name
-pub record AreTotalBoundsPrinted (dir : Dir) (name : List ℕ) (steps : ℕ) (m : Mdp) (text : List ℕ) : Type 0 where
+pub record AreTotalBoundsPrinted (dir : Dir) (name : List ℕ) (steps digits : ℕ) (m : Mdp) (text : List ℕ) : Type 0 where
   pub place : ℕ
   pub place_is : place_of name m.names ≡ Some place
-  pub bounds : Bounds
-  pub spelled : text ≡ bounds_text dir (total_claim name) m bounds
-  pub between : AreBetween dir m (total_objective place) steps bounds
+  pub printed : AreBoundsPrinted dir (total_claim name) (total_objective place) steps digits m text
 
 -- the same of the model that the bytes read as
-abbrev pub AreUntilBoundsShown : RowRule → Dir → Option (List ℕ) → List ℕ → ℕ → List ℕ → List ℕ → Type 0
-AreUntilBoundsShown rule dir stay label steps = IsShownOf (AreUntilBoundsPrinted dir stay label steps) rule
+abbrev pub AreUntilBoundsShown : RowRule → Dir → Option (List ℕ) → List ℕ → ℕ → ℕ → List ℕ → List ℕ → Type 0
+AreUntilBoundsShown rule dir stay label steps digits = IsShownOf (AreUntilBoundsPrinted dir stay label steps digits) rule
 
-abbrev pub AreTotalBoundsShown : RowRule → Dir → List ℕ → ℕ → List ℕ → List ℕ → Type 0
-AreTotalBoundsShown rule dir name steps = IsShownOf (AreTotalBoundsPrinted dir name steps) rule
+abbrev pub AreTotalBoundsShown : RowRule → Dir → List ℕ → ℕ → ℕ → List ℕ → List ℕ → Type 0
+AreTotalBoundsShown rule dir name steps digits = IsShownOf (AreTotalBoundsPrinted dir name steps digits) rule
 
 -- bounds of the model of a source: what is due to the bytes that it had, and what is shown of a text; or a fault, or want of memory
 abbrev pub AreUntilBoundsRead : RowRule → Dir → Option (List ℕ) → List ℕ → ℕ → ℕ → Input → Said → Type 0
 AreUntilBoundsRead rule dir stay label steps digits =
-    IsWorkOnModel rule (IsUntilBoundsDue dir stay label steps digits) (AreUntilBoundsShown rule dir stay label steps)
+    IsWorkOnModel rule (IsUntilBoundsDue dir stay label steps digits) (AreUntilBoundsShown rule dir stay label steps digits)
 
 abbrev pub AreTotalBoundsRead : RowRule → Dir → List ℕ → ℕ → ℕ → Input → Said → Type 0
-AreTotalBoundsRead rule dir name steps digits = IsWorkOnModel rule (IsTotalBoundsDue dir name steps digits) (AreTotalBoundsShown rule dir name steps)
+AreTotalBoundsRead rule dir name steps digits = IsWorkOnModel rule (IsTotalBoundsDue dir name steps digits) (AreTotalBoundsShown rule dir name steps digits)

@@ -1,6 +1,6 @@
 -- What the bounds mean.
-use Rattle.std.proofs.Common.{◌≡◌, ◌∙◌, ℕ, zero, suc, ◌<◌, List, length, map, Option, Some, refl, sym, ap, subst, arith, ℤ, pos, negsuc, ◌<ℤ◌}
-use Rattle.std.proofs.{lemmas.Int.{ints}, lemmas.List.{get_or-map, length-map}}
+use Rattle.std.proofs.Common.{◌≡◌, ◌∙◌, ℕ, zero, suc, ◌<◌, List, length, map, Option, Some, refl, sym, ap, subst, arith, ℤ, pos}
+use Rattle.std.proofs.{lemmas.List.{get_or-map, length-map}}
 use Rattle.mdp_math.specs.Rational.{ℚ}
 use Rattle.mdp_math.proofs.Order.{0ℚ}
 use Rattle.mdp_spec.specs.{Mdp.{Mdp, states_of}, Row.{IsMdp}, Bounds.{reward_at}}
@@ -65,21 +65,19 @@ bounds-min one m o n h k =
     min_between_of_halves m o k n (map (shown (pos one)) (cover Min (pos one) m o n)) (map (shown (pos one)) (follow Min (pos one) m o n)) (table Min (pos one) m o n)
     (cover_shown_length one h m o k Min n) (follow_shown_length one h m o k Min n) (covering_shown one h m o k Min n) (following_shown one h m o k Min n)
 
--- the same of what the code answers, for a direction and a number of units that are known
-pub bounds-max_by : (dir : Dir) (one : ℤ) (m : Mdp) (o : Objective) (n : ℕ) (b : Bounds) → dir ≡ Max → pos 0 <ℤ one → IsMdp m
-    → b ≡ bounds_of dir one m o n → MaxBetween m o n b.lower b.upper b.steps
-bounds-max_by dir (pos one) m o n b e h k q =
-    subst (λ (b : Bounds). MaxBetween m o n b.lower b.upper b.steps) (sym (q ∙ ap (λ (d : Dir). bounds_of d (pos one) m o n) e)) (bounds-max one m o n (omega (arith, ints)) k)
-bounds-max_by dir (negsuc one) m o n b e h k q = absurd (omega (arith, ints))
+-- the same of what the code answers, for a direction that is known
+pub bounds-max_by : (dir : Dir) (one : ℕ) (m : Mdp) (o : Objective) (n : ℕ) (b : Bounds) → dir ≡ Max → 0 < one → IsMdp m
+    → b ≡ bounds_of dir (pos one) m o n → MaxBetween m o n b.lower b.upper b.steps
+bounds-max_by dir one m o n b e h k q =
+    subst (λ (b : Bounds). MaxBetween m o n b.lower b.upper b.steps) (sym (q ∙ ap (λ (d : Dir). bounds_of d (pos one) m o n) e)) (bounds-max one m o n h k)
 
-pub bounds-min_by : (dir : Dir) (one : ℤ) (m : Mdp) (o : Objective) (n : ℕ) (b : Bounds) → dir ≡ Min → pos 0 <ℤ one → IsMdp m
-    → b ≡ bounds_of dir one m o n → MinBetween m o n b.lower b.upper b.steps
-bounds-min_by dir (pos one) m o n b e h k q =
-    subst (λ (b : Bounds). MinBetween m o n b.lower b.upper b.steps) (sym (q ∙ ap (λ (d : Dir). bounds_of d (pos one) m o n) e)) (bounds-min one m o n (omega (arith, ints)) k)
-bounds-min_by dir (negsuc one) m o n b e h k q = absurd (omega (arith, ints))
+pub bounds-min_by : (dir : Dir) (one : ℕ) (m : Mdp) (o : Objective) (n : ℕ) (b : Bounds) → dir ≡ Min → 0 < one → IsMdp m
+    → b ≡ bounds_of dir (pos one) m o n → MinBetween m o n b.lower b.upper b.steps
+bounds-min_by dir one m o n b e h k q =
+    subst (λ (b : Bounds). MinBetween m o n b.lower b.upper b.steps) (sym (q ∙ ap (λ (d : Dir). bounds_of d (pos one) m o n) e)) (bounds-min one m o n h k)
 
 -- and there is one of each for each state
-pub bounds-each : (dir : Dir) (one : ℤ) (m : Mdp) (o : Objective) (n : ℕ) (b : Bounds) → pos 0 <ℤ one → IsMdp m → b ≡ bounds_of dir one m o n
+pub bounds-each : (dir : Dir) (one : ℕ) (m : Mdp) (o : Objective) (n : ℕ) (b : Bounds) → 0 < one → IsMdp m → b ≡ bounds_of dir (pos one) m o n
     → (length b.lower ≡ states_of m) × (length b.upper ≡ states_of m)
 bounds-each Max one m o n b h k q = let r = bounds-max_by Max one m o n b refl h k q in (r.one_each, r.one_above)
 bounds-each Min one m o n b h k q = let r = bounds-min_by Min one m o n b refl h k q in (r.one_each, r.one_above)

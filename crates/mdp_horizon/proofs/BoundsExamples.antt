@@ -1,5 +1,5 @@
 -- Small models, computed.
-use Rattle.std.proofs.{Common.{◌≡◌, ℕ, zero, suc, ◌*◌, Bool, true, false, List, [], ◌∷◌, Option, Some, None, refl, arith, ℤ, pos, negsuc, ◌<ℤ◌}, lemmas.Int.{ints}}
+use Rattle.std.proofs.{Common.{◌≡◌, ℕ, zero, suc, Bool, true, false, List, [], ◌∷◌, Option, Some, None, refl, arith, ℤ, pos, negsuc, ◌<ℤ◌}, lemmas.Int.{ints}}
 use Rattle.std.specs.{Prelude.{codes}, Fmt.{digits}}
 use Rattle.mdp_math.specs.{Gcd.{gcd, gcd_with_fuel}, Rational.{ℚ, of_int, ratio}, Written.{narrow, narrow_ℚ}}
 use Rattle.mdp_math.proofs.Options.{Some_same}
@@ -86,8 +86,8 @@ not_there h = let p = (h 0 (omega arith)).1 in cc
 
 -- ---- how near the columns come
 
--- in two steps 6 tenths cover 5/9 and 5 follow it: 1 apart, at most 2 for each step
-near : MeetWithin Max (pos 10) thirds (until all goal) 2 (2 * 2) 0
+-- in two steps 6 tenths cover 5/9 and 5 follow it: 1 apart, at most 1 for each step
+near : MeetWithin Max (pos 10) thirds (until all goal) 2 2 0
 unfolding rounded_sum narrow narrow_ℚ ratio of_int gcd gcd_with_fuel
 near = (pos 6, pos 5, refl, refl, (omega (arith, ints), omega (arith, ints)))
 

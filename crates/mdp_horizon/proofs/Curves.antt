@@ -1,16 +1,16 @@
 -- What a curve says at each number of steps.
-use Rattle.std.proofs.Common.{◌≡◌, ◌∙◌, ℕ, suc, ◌+◌, ◌*◌, ◌<◌, ◌≤◌, ◌^◌, Bool, List, [], ◌∷◌, length, Option, Some, refl, sym, ap, subst, arith, ℤ, pos}
+use Rattle.std.proofs.Common.{◌≡◌, ◌∙◌, ℕ, suc, ◌+◌, ◌*◌, ◌<◌, ◌≤◌, ◌^◌, Bool, List, length, Option, Some, sym, ap, subst, arith, ℤ, pos}
 use Rattle.std.proofs.{lemmas.List.{get_or-map}, lemmas.List.FromFn.{get_or-map-range_with_len, length-map-range_with_len}}
-use Rattle.std.proofs.Math.Nat.{one-le-pow, mul-le-mul_right}
-use Rattle.mdp_math.specs.Rational.{ℚ, ratio, ◌+ℚ◌, ◌≤ℚ◌}
-use Rattle.mdp_math.proofs.{Linear.{linear, known}, Order.{0ℚ, ratio-le}, Ring.{◌⊕◌}}
+use Rattle.std.proofs.Math.Nat.{one-le-pow}
+use Rattle.mdp_math.specs.Rational.{ℚ, ◌≤ℚ◌}
+use Rattle.mdp_math.proofs.{Order.{0ℚ}}
 use Rattle.mdp_spec.specs.{Mdp.{Mdp, states_of}, Row.{IsMdp}}
 use Rattle.mdp_rows.specs.{declared.dir.Dir.{Dir}, declared.dir.Dir.TheVariants.{Max, Min}}
 use Rattle.mdp_horizon.specs.{declared.point.Point.{Point}, Objective.{Objective, value_of}, Objective.Objective.{until}, Between.{Claimed}}
 use Rattle.mdp_horizon.specs.{Columns.{cover, follow, shown, Bounds, bounds_of}, Gap.{NoneIsWide}, Table.{unfolded_steps}}
 use Rattle.mdp_horizon.specs.Curve.{point_of, curve_of, no_point, point_at, MaxLies, MinLies, IsMaxCurve, IsMinCurve, IsFinite, IsFiniteCurve}
 use Rattle.mdp_horizon.specs.Curve.{IsNearPoint, IsNearCurve, IsPointOf, IsCurveOfBounds}
-use Rattle.mdp_horizon.proofs.{Between.{bounds-max, bounds-min}, Finite.{finite_is}, Gap.{meet, shown_near}, StepsLemmas.{cover_states, follow_states}}
+use Rattle.mdp_horizon.proofs.{Between.{bounds-max, bounds-min}, Finite.{finite_is}, Gap.{units_apart, near_by_units}, StepsLemmas.{cover_states, follow_states}}
 
 -- ---- the point of each number of steps
 
@@ -71,29 +71,12 @@ module _ (one : ℕ) (above : 0 < one) (m : Mdp) (known_ : IsMdp m) (s : ℕ) (h
       let high = f.1 s h in
       record { low = low.0; high = high.0; lower = is.0 ∙ low.1; upper = is.1 ∙ high.1; from_0 = (low.2, high.2); to_1 = (low.3, high.3) }
 
-  -- with k steps at most k units apart
-  near_units : (dir : Dir) (o : Objective) (k : ℕ) (low high : ℚ) → NoneIsWide dir (pos one) m o k
-      → Point.lower (point_of dir (pos one) m o s k) ≡ Some low → Point.upper (point_of dir (pos one) m o s k) ≡ Some high → high ≤ℚ low +ℚ ratio (pos k) one
-  near_units Max o k low high wide p q =
-      let r = meet one m o known_ Max k wide s h in
-      let is = bounds_point Max (pos one) m o s k h in
-      shown_near one k (follow Max (pos one) m o k) (cover Max (pos one) m o k) s r.1 r.0 low high above (omega (arith, follow_states Max (pos one) m o k))
-      (omega (arith, cover_states Max (pos one) m o k)) r.3 r.2 r.4
-      (get_or-map (shown (pos one)) (follow Max (pos one) m o k) s (Some (pos 0)) (Some 0ℚ) (omega (arith, follow_states Max (pos one) m o k)) ∙ p)
-      (get_or-map (shown (pos one)) (cover Max (pos one) m o k) s (Some (pos 0)) (Some 0ℚ) (omega (arith, cover_states Max (pos one) m o k)) ∙ q)
-  near_units Min o k low high wide p q =
-      let r = meet one m o known_ Min k wide s h in
-      shown_near one k (cover Min (pos one) m o k) (follow Min (pos one) m o k) s r.0 r.1 low high above (omega (arith, cover_states Min (pos one) m o k))
-      (omega (arith, follow_states Min (pos one) m o k)) r.2 r.3 r.4
-      (get_or-map (shown (pos one)) (cover Min (pos one) m o k) s (Some (pos 0)) (Some 0ℚ) (omega (arith, cover_states Min (pos one) m o k)) ∙ p)
-      (get_or-map (shown (pos one)) (follow Min (pos one) m o k) s (Some (pos 0)) (Some 0ℚ) (omega (arith, follow_states Min (pos one) m o k)) ∙ q)
-
-  -- so at most 1/u apart, where the unit is fine enough
+  -- at most 1/u apart, where no row is wide and the unit is fine enough
   near_point : (dir : Dir) (o : Objective) (u n k : ℕ) → 0 < u → k ≤ n → n * u ≤ one → NoneIsWide dir (pos one) m o n → IsNearPoint u (point_of dir (pos one) m o s k)
   near_point dir o u n k some l fine wide low high p q =
-      let less : ratio (pos k) one ≤ℚ ratio (pos 1) u = ratio-le k 1 one u above some (let a = mul-le-mul_right u l in omega (arith, a, fine)) in
-      linear 4 (λ x y a b. y) (λ x y a b. x ⊕ b) (λ x y a b. known y (x ⊕ a) ∷ known a b ∷ []) refl low high (ratio (pos k) one) (ratio (pos 1) u)
-      (near_units dir o k low high (λ left s c i. wide left s c (omega (arith, i, l))) p q) less
+      let is = bounds_point dir (pos one) m o s k h in
+      near_by_units u one n k low high some above l fine
+      (units_apart dir one m o k s low high above known_ (λ left s c i. wide left s c (omega (arith, i, l))) h (sym is.0 ∙ p) (sym is.1 ∙ q))
 
 -- ---- of what the code answers
 

@@ -1,7 +1,7 @@
 -- Values of a bounded until are there, from 0 to 1, whatever rows are wide.
-use Rattle.std.proofs.Common.{◌≡◌, ◌∙◌, ℕ, zero, suc, ◌+◌, ◌*◌, ◌<◌, ◌≤◌, ◌^◌, Bool, true, refl, sym, ap, subst, arith, ℤ, pos, negsuc, int_lt, ◌+ℤ◌, ◌≤ℤ◌}
+use Rattle.std.proofs.Common.{◌≡◌, ◌∙◌, ℕ, zero, suc, ◌+◌, ◌*◌, ◌<◌, ◌^◌, Bool, true, refl, sym, ap, subst, arith, ℤ, pos, negsuc, int_lt, ◌+ℤ◌, ◌≤ℤ◌}
 use Rattle.std.proofs.{Common.{false, if◌then◌else◌, List, [], ◌∷◌, map, length, slice_index_or, Option, Some, None, unwrap_or}, lemmas.Int.{ints}}
-use Rattle.std.proofs.{lemmas.List.{get_or-map}, Math.Nat.{one-le-pow, pow-le-pow_right}}
+use Rattle.std.proofs.{lemmas.List.{get_or-map}}
 use Rattle.mdp_math.specs.{Rational.{ℚ, of_int, ratio, ◌+ℚ◌, ◌*ℚ◌, ◌≤ℚ◌, ◌<ℚ◌}, Sum.{EachAt}, Written.{narrow, ◌>>=◌}}
 use Rattle.mdp_math.proofs.{Laws.{of_int-+ℤ}, Linear.{linear, linear_lt, known}, Options.{Some_same}, Order.{0ℚ, 1ℚ, of_int-le, ratio-nonneg, sub-pos}}
 use Rattle.mdp_math.proofs.{Ring.{◌⊕◌, ◌⊗◌, ⊖, lit}, SumsAt.{sum_at-sum_of, EachAt_mono}, Written.{narrow-kept}}
@@ -196,9 +196,7 @@ finite_is Min one m stay goals n above small known_ = (
 )
 
 -- the same of what the code answers
-pub finite_by : (dir : Dir) (digits : ℕ) (m : Mdp) (stay goals : List Bool) (n : ℕ) (b : Bounds) → digits ≤ 30 → IsMdp m → b ≡ bounds_of dir (pos (10 ^ digits)) m (until stay goals) n
+pub finite_by : (dir : Dir) (one : ℕ) (m : Mdp) (stay goals : List Bool) (n : ℕ) (b : Bounds) → 0 < one → one < 2 ^ 127 → IsMdp m → b ≡ bounds_of dir (pos one) m (until stay goals) n
     → AreProbabilities (states_of m) b.lower × AreProbabilities (states_of m) b.upper
-finite_by dir digits m stay goals n b few known_ e =
-    let most : 10 ^ digits ≤ 10 ^ 30 = pow-le-pow_right {n = 10} (omega arith) few in
-    subst (λ (b : Bounds). AreProbabilities (states_of m) b.lower × AreProbabilities (states_of m) b.upper) (sym e)
-    (finite_is dir (10 ^ digits) m stay goals n (omega (arith, one-le-pow digits 10 (omega arith))) (omega (arith, most)) known_)
+finite_by dir one m stay goals n b above small known_ e =
+    subst (λ (b : Bounds). AreProbabilities (states_of m) b.lower × AreProbabilities (states_of m) b.upper) (sym e) (finite_is dir one m stay goals n above small known_)

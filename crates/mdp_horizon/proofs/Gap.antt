@@ -1,9 +1,10 @@
 -- Where no row is wide, the covering and the following column come near.
-use Rattle.std.proofs.Common.{◌≡◌, ◌∙◌, ℕ, zero, suc, ◌+◌, ◌*◌, ◌<◌, Bool, true, false, if◌then◌else◌, List, [], ◌∷◌, map, length, Option, Some, None, unwrap_or}
+use Rattle.std.proofs.Common.{◌≡◌, ◌∙◌, ℕ, zero, suc, ◌+◌, ◌*◌, ◌<◌, ◌≤◌, ◌^◌, Bool, true, false, if◌then◌else◌, List, [], ◌∷◌, map, length, Option, Some, None, unwrap_or}
 use Rattle.std.proofs.{Common.{refl, sym, ap, subst, arith, ℤ, pos, neg_ℤ, int_lt, ◌+ℤ◌, ◌<ℤ◌, ◌≤ℤ◌}, lemmas.Int.{ints}, lemmas.List.{get_or-map}}
+use Rattle.std.proofs.Math.Nat.{one-le-pow, mul-le-mul_right}
 use Rattle.mdp_math.specs.{Rational.{ℚ, of_int, ratio, ◌+ℚ◌, ◌-ℚ◌, ◌*ℚ◌, neg_ℚ, ◌≤ℚ◌, ◌<ℚ◌}, Written.{◌>>=◌}}
 use Rattle.mdp_math.proofs.{Laws.{of_int-+ℤ, is_of_int, rat_ring}, Linear.{linear, linear_lt, known}}
-use Rattle.mdp_math.proofs.{Order.{0ℚ, 1ℚ, of_int-le, is_le, ≤ℚ_of_lt, sub-pos, positive, strict_to}, Ring.{◌⊕◌, ◌⊗◌, ⊖, lit, ring}}
+use Rattle.mdp_math.proofs.{Order.{0ℚ, 1ℚ, of_int-le, is_le, ratio-le, ≤ℚ_of_lt, sub-pos, positive, strict_to}, Ring.{◌⊕◌, ◌⊗◌, ⊖, lit, ring}}
 use Rattle.mdp_math.proofs.{SumsAt.{sum_at-sum_of, EachAt_mono}, Whole.{of_nat-add}, Written.{narrow_ℚ-some}}
 use Rattle.mdp_spec.specs.{Mdp.{Entry, Mdp, states_of, choices_at, choice_at, row_at}, Row.{IsRow, IsMdp}, Bounds.{reward_at}}
 use Rattle.mdp_spec.proofs.Rows.{row_weigh, row_weigh-const, row_weigh-line, targets_at}
@@ -11,7 +12,7 @@ use Rattle.mdp_rows.specs.{declared.dir.Dir.{Dir}, declared.dir.Dir.TheVariants.
 use Rattle.mdp_horizon.specs.{Objective.{Objective, earns}, Whole.{in_units, whole_at, rounded, farther}}
 use Rattle.mdp_horizon.specs.Scaled.{Scaled, scaled, total_of, divided, trivial, or_else, rounded_sum}
 use Rattle.mdp_horizon.specs.{Columns.{ended, scaled_choice, cover, follow, shown, Bounds, bounds_of}, Exact.{HasRoom}}
-use Rattle.mdp_horizon.specs.Gap.{NoneIsWide, IsNear, AreNear, MeetWithin, GapIsWithin}
+use Rattle.mdp_horizon.specs.Gap.{NoneIsWide, IsNear, AreNear, MeetWithin, AreNearBounds}
 use Rattle.mdp_horizon.proofs.{Directions.{row_sum-no_better}, Both.{SumsAreBoth, next_both, ended_both}, ExactSums.{if_true}, Rounding.{of_int-neg}}
 use Rattle.mdp_horizon.proofs.{StepsLemmas.{cover_states, follow_states}, Totals.{number_at, weighed, IsRounded, divided-is}}
 use Rattle.mdp_horizon.proofs.Units.{unit, in_units-is, no_better_in_units}
@@ -21,10 +22,6 @@ use Rattle.mdp_horizon.proofs.Units.{unit, in_units-is, no_better_in_units}
 same_near : (dir : Dir) (u : ℕ) (k : ℤ) → AreNear dir u k k
 same_near Max u k = (omega (arith, ints), omega (arith, ints))
 same_near Min u k = (omega (arith, ints), omega (arith, ints))
-
-wider_near : (dir : Dir) (u v : ℕ) (k j : ℤ) → u < suc v → AreNear dir u k j → AreNear dir v k j
-wider_near Max u v k j l h = (h.0, let p = h.1 in omega (arith, ints))
-wider_near Min u v k j l h = (h.0, let p = h.1 in omega (arith, ints))
 
 le_of_test : (x y : ℤ) → int_lt x y ≡ true → x ≤ℤ y
 le_of_test x y e = grind (arith, ints)
@@ -170,11 +167,6 @@ module _ (one : ℕ) (m : Mdp) (o : Objective) (known_ : IsMdp m) where
         next_both dir (AreNear dir (suc n)) (farther_near dir (suc n)) (pos one) m o known_ n s h (λ k e. same_near dir (suc n) k)
         (λ c l. let room = wide n s c (omega arith) h l in choice_near dir n n s c h l (meet n (λ left s c l. wide left s c (omega arith))) room.0 room.1)
 
-pub columns_near : (dir : Dir) (one : ℕ) (m : Mdp) (o : Objective) (n s : ℕ) → 0 < one → IsMdp m → NoneIsWide dir (pos one) m o n → s < states_of m → MeetWithin dir (pos one) m o n (2 * n) s
-columns_near dir one m o n s above known_ wide h =
-    let r = meet one m o known_ dir n wide s h in
-    (r.0, r.1, r.2, r.3, wider_near dir n (2 * n) r.0 r.1 (omega arith) r.4)
-
 -- ---- as fractions
 
 shown_is : (one : ℕ) (column : List (Option ℤ)) (s : ℕ) (k : ℤ) (x : ℚ) → s < length column → whole_at column s ≡ Some k
@@ -194,25 +186,38 @@ units_near one u a b h l =
     (subst (λ (x : ℚ). x ≤ℚ in_units (pos one) (a +ℤ pos u)) (sym (in_units-is one b h)) (no_better_in_units Max one (of_int b) (a +ℤ pos u) h (of_int-le b (a +ℤ pos u) l)))
 
 -- a lower and an upper column
-pub shown_near : (one u : ℕ) (low high : List (Option ℤ)) (s : ℕ) (a b : ℤ) (x y : ℚ) → 0 < one → s < length low → s < length high
+shown_near : (one u : ℕ) (low high : List (Option ℤ)) (s : ℕ) (a b : ℤ) (x y : ℚ) → 0 < one → s < length low → s < length high
     → whole_at low s ≡ Some a → whole_at high s ≡ Some b → IsNear u a b
     → reward_at (map (shown (pos one)) low) s ≡ Some x → reward_at (map (shown (pos one)) high) s ≡ Some y → y ≤ℚ x +ℚ ratio (pos u) one
 shown_near one u low high s a b x y above inside within e f near p q =
     subst (λ (x : ℚ). y ≤ℚ x +ℚ ratio (pos u) one) (sym (shown_is one low s a x inside e p))
     (subst (λ (y : ℚ). y ≤ℚ in_units (pos one) a +ℚ ratio (pos u) one) (sym (shown_is one high s b y within f q)) (units_near one u a b above near.1))
 
-gap_is : (dir : Dir) (one : ℕ) (m : Mdp) (o : Objective) (n : ℕ) → 0 < one → IsMdp m → NoneIsWide dir (pos one) m o n → GapIsWithin one (2 * n) m (bounds_of dir (pos one) m o n)
+-- with n steps at most n units apart
+pub units_apart : (dir : Dir) (one : ℕ) (m : Mdp) (o : Objective) (n s : ℕ) (low high : ℚ) → 0 < one → IsMdp m → NoneIsWide dir (pos one) m o n → s < states_of m
+    → reward_at (Bounds.lower (bounds_of dir (pos one) m o n)) s ≡ Some low → reward_at (Bounds.upper (bounds_of dir (pos one) m o n)) s ≡ Some high
+    → high ≤ℚ low +ℚ ratio (pos n) one
 unfolding bounds_of
-gap_is Max one m o n above known_ wide s x y h p q =
-    let r = columns_near Max one m o n s above known_ wide h in
-    shown_near one (2 * n) (follow Max (pos one) m o n) (cover Max (pos one) m o n) s r.1 r.0 x y above
+units_apart Max one m o n s low high above known_ wide h p q =
+    let r = meet one m o known_ Max n wide s h in
+    shown_near one n (follow Max (pos one) m o n) (cover Max (pos one) m o n) s r.1 r.0 low high above
     (omega (arith, follow_states Max (pos one) m o n)) (omega (arith, cover_states Max (pos one) m o n)) r.3 r.2 r.4 p q
-gap_is Min one m o n above known_ wide s x y h p q =
-    let r = columns_near Min one m o n s above known_ wide h in
-    shown_near one (2 * n) (cover Min (pos one) m o n) (follow Min (pos one) m o n) s r.0 r.1 x y above
+units_apart Min one m o n s low high above known_ wide h p q =
+    let r = meet one m o known_ Min n wide s h in
+    shown_near one n (cover Min (pos one) m o n) (follow Min (pos one) m o n) s r.0 r.1 low high above
     (omega (arith, cover_states Min (pos one) m o n)) (omega (arith, follow_states Min (pos one) m o n)) r.2 r.3 r.4 p q
 
+-- so at most 1/u apart, where the unit is fine enough
+pub near_by_units : (u one n k : ℕ) (low high : ℚ) → 0 < u → 0 < one → k ≤ n → n * u ≤ one → high ≤ℚ low +ℚ ratio (pos k) one → high ≤ℚ low +ℚ ratio (pos 1) u
+near_by_units u one n k low high some above l fine apart =
+    let less : ratio (pos k) one ≤ℚ ratio (pos 1) u = ratio-le k 1 one u above some (let a = mul-le-mul_right u l in omega (arith, a, fine)) in
+    linear 4 (λ x y a b. y) (λ x y a b. x ⊕ b) (λ x y a b. known y (x ⊕ a) ∷ known a b ∷ []) refl low high (ratio (pos k) one) (ratio (pos 1) u) apart less
+
 -- the same of what the code answers
-pub gap_by : (dir : Dir) (one : ℕ) (m : Mdp) (o : Objective) (n : ℕ) (b : Bounds) → pos 0 <ℤ pos one → IsMdp m → b ≡ bounds_of dir (pos one) m o n
-    → NoneIsWide dir (pos one) m o n → GapIsWithin one (2 * n) m b
-gap_by dir one m o n b above known_ e wide = subst (GapIsWithin one (2 * n) m) (sym e) (gap_is dir one m o n (omega (arith, ints)) known_ wide)
+pub near_by : (dir : Dir) (digits one : ℕ) (m : Mdp) (o : Objective) (n : ℕ) (b : Bounds) → 0 < one → IsMdp m → b ≡ bounds_of dir (pos one) m o n
+    → NoneIsWide dir (pos one) m o n → n * 10 ^ digits ≤ one → AreNearBounds (10 ^ digits) m b
+near_by dir digits one m o n b above known_ e wide fine =
+    subst (AreNearBounds (10 ^ digits) m) (sym e)
+    (λ s low high h p q.
+    near_by_units (10 ^ digits) one n n low high (let a = one-le-pow digits 10 (omega arith) in omega (arith, a)) above (omega arith) fine
+    (units_apart dir one m o n s low high above known_ wide h p q))

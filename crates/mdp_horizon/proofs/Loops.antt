@@ -1,9 +1,10 @@
 -- One step of the loops over a choice's terms and over a state's choices.
-use Rattle.std.proofs.Common.{◌≡◌, ◌∙◌, ℕ, suc, ◌+◌, ◌<◌, ◌^◌, List, [], ◌∷◌, ◌++◌, append_assoc, length, drop, get_or, Option, sym, ap, arith}
+use Rattle.std.proofs.Common.{◌≡◌, ◌∙◌, ℕ, suc, ◌+◌, ◌<◌, ◌^◌, List, [], ◌∷◌, ◌++◌, append_assoc, length, drop, get_or, Option, Some, None, IfSome, sym, ap, subst, arith}
 use Rattle.std.proofs.{Common.{ℤ, unsigned_abs, to_z-of_z}, Math.Seq.{drop-cons}, lemmas.Int.{fits_signed_from_abs}}
 use mir.Syntax.{w128}
 use mir.Val.{to_z, of_z}
-use Rattle.mdp_math.specs.{Rational.{ℚ}, Written.{◌>>=◌}}
+use Rattle.mdp_math.specs.{Rational.{ℚ}, Written.{narrow, ◌>>=◌}}
+use Rattle.mdp_math.proofs.Written.{narrow-some}
 use Rattle.mdp_spec.specs.Row.{entries}
 use Rattle.mdp_rows.specs.declared.dir.Dir.{Dir}
 use Rattle.mdp_horizon.specs.{declared.choice.Term.{Term}, Whole.{opposite}, declared.leader.Leader.{Leader}}
@@ -13,6 +14,10 @@ use Rattle.mdp_horizon.specs.Scaled.{Scaled, common_with, common_in, term_of, te
 -- a number in width is what its bits say
 pub back : (z : ℤ) → unsigned_abs z < 2 ^ 127 → to_z w128 (of_z w128 z) ≡ z
 back z h = to_z-of_z (fits_signed_from_abs w128 z h)
+
+pub narrow_part : (z : ℤ) (o : Option ℤ) → o ≡ narrow z → IfSome o (λ w. unsigned_abs w < 2 ^ 127)
+narrow_part z None e = tt
+narrow_part z (Some w) e = let r = narrow-some z w e in subst (λ (v : ℤ). unsigned_abs v < 2 ^ 127) (sym r.0) r.1
 
 -- the rest from place i on
 pub rest_of : {A : Type 0} (xs : List A) (i : ℕ) (d : A) → i < length xs → drop i xs ≡ get_or xs i d ∷ drop (i + 1) xs

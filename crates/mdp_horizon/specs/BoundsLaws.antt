@@ -1,5 +1,5 @@
 -- What rounded sums say of exact ones.
-use Rattle.std.specs.Prelude.{◌≡◌, ℕ, ◌*◌, ◌<◌, ◌^◌, Bool, List, Option, Some, ℤ, pos}
+use Rattle.std.specs.Prelude.{◌≡◌, ℕ, ◌<◌, ◌^◌, Bool, List, Option, Some, ℤ, pos}
 use Rattle.mdp_spec.specs.{Mdp.{Mdp, states_of}, Row.{IsMdp}}
 use Rattle.mdp_rows.specs.declared.dir.Dir.{Dir}
 use Rattle.mdp_horizon.specs.{Objective.{Objective}, Objective.Objective.{until}, Exact.{SumLiesBeyond, HasRoom, SumIsWithin}, Gap.{NoneIsWide, RowsHaveRoom, MeetWithin}, Scaled.{Scaled, rounded_sum}}
@@ -12,9 +12,9 @@ SumsLieBeyond = (side : Dir) (column : List (Option ℤ)) (x : Scaled) (k : ℤ)
 abbrev pub SumsAreWithin : Type 0
 SumsAreWithin = (side : Dir) (column : List (Option ℤ)) (x : Scaled) (k : ℤ) → HasRoom column x → rounded_sum side column x ≡ Some k → SumIsWithin column x k
 
--- where no row is wide, the two columns come at most 2 units a step apart
+-- where no row is wide, the two columns come at most one unit a step apart
 abbrev pub ColumnsAreNear : Type 0
-ColumnsAreNear = (dir : Dir) (one : ℕ) (m : Mdp) (o : Objective) (n s : ℕ) → 0 < one → IsMdp m → NoneIsWide dir (pos one) m o n → s < states_of m → MeetWithin dir (pos one) m o n (2 * n) s
+ColumnsAreNear = (dir : Dir) (one : ℕ) (m : Mdp) (o : Objective) (n s : ℕ) → 0 < one → IsMdp m → NoneIsWide dir (pos one) m o n → s < states_of m → MeetWithin dir (pos one) m o n n s
 
 -- where the rows have room, none is wide for a bounded until, whatever the columns are
 abbrev pub RoomIsEnough : Type 0

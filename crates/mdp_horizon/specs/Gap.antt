@@ -31,6 +31,6 @@ abbrev pub MeetWithin : Dir → ℤ → Mdp → Objective → ℕ → ℕ → �
 MeetWithin dir one m o n u s =
     (covering : ℤ) × (following : ℤ) × (whole_at (cover dir one m o n) s ≡ Some covering) × (whole_at (follow dir one m o n) s ≡ Some following) × AreNear dir u covering following
 
--- where a lower and an upper value of a state are there, the upper one is at most u units more
-abbrev pub GapIsWithin : ℕ → ℕ → Mdp → Bounds → Type 0
-GapIsWithin one u m b = (s : ℕ) (low high : ℚ) → s < states_of m → reward_at b.lower s ≡ Some low → reward_at b.upper s ≡ Some high → high ≤ℚ low +ℚ ratio (pos u) one
+-- where a lower and an upper value of a state are there, the upper one is at most 1/u more
+abbrev pub AreNearBounds : ℕ → Mdp → Bounds → Type 0
+AreNearBounds u m b = (s : ℕ) (low high : ℚ) → s < states_of m → reward_at b.lower s ≡ Some low → reward_at b.upper s ≡ Some high → high ≤ℚ low +ℚ ratio (pos 1) u

@@ -1,14 +1,13 @@
-ghost use Rattle.std.specs.Prelude.{◌≡◌, ◌*◌, ◌<◌, ◌≤◌, ◌^◌, ◌<ℤ◌, length, map, pos, unsigned_abs, IfOk};
+ghost use Rattle.std.specs.Prelude.{◌≡◌, ◌*◌, ◌<◌, ◌≤◌, ◌^◌, ◌<ℤ◌, length, map, pos, IfOk};
 ghost use Rattle.mdp_spec.specs.Mdp.{states_of};
 ghost use Rattle.mdp_rows.specs.declared.dir.Dir.TheVariants.{Max, Min};
 ghost use Rattle.mdp_horizon.specs.{Between.{MaxBetween, MinBetween}, Objective.Objective.{until, total}, Answer.{lists}};
-ghost use Rattle.mdp_horizon.specs.{Columns.{shown, cover, follow, table, bounds_of}, Gap.{NoneIsWide, GapIsWithin}, Finite.{AreProbabilities}};
+ghost use Rattle.mdp_horizon.specs.{Columns.{shown, cover, follow, table, bounds_of}, Gap.{NoneIsWide, AreNearBounds}, Finer.{unit_of}, Finite.{AreProbabilities}};
 ghost use Rattle.mdp_horizon.specs.{BoundsCode.{plain_objective, IsAsked}, BoundsAnswer.{plain}};
 
 use crate::bounds::HorizonBounds;
 use crate::bounds_objective::Objective;
 use crate::columns::{Columns, Query};
-use crate::whole::power_of_ten;
 use mdp_num::{Frac, Memory};
 use mdp_rows::{Dir, Marks, Model};
 use std::alloc::{AllocError, Global};
@@ -101,10 +100,26 @@ fn bounded(alloc: Global, query: Query<'_>, steps: u32) -> Result<HorizonBounds,
     }
 }
 
-/// Lower and upper values of the greatest or the least probability of coming to a goal within so many steps by way of states that stay, in units of
-/// 10^-digits, by backward induction in whole numbers that are rounded outward, and a choice of each state for each step, whose policy does no worse
-/// than the lower values (`Max`), or than the upper ones (`Min`). Where no row is wide, lower and upper values are at most 2 units apart for each step.
-/// Each value is there, from 0 to 1.
+/// The same in a unit that is as fine as so many steps need.
+fn finer_bounds(
+    alloc: Global,
+    query: Query<'_>,
+    steps: u32,
+    digits: u32,
+) -> Result<HorizonBounds, Memory>
+    requires digits { digits ≤ 30 }
+    requires asked { IsAsked query.model.now (plain_objective query.objective) }
+    ensures { let o = plain_objective query.entry.objective in
+        IfOk result (λ found. plain found ≡ bounds_of query.entry.dir (pos (unit_of query.entry.model.now o digits steps)) query.entry.model.now o steps) }
+{
+    let one = query.unit_of(digits, steps);
+    bounded(alloc, Query { one, ..query }, steps)
+}
+
+/// Lower and upper values of the greatest or the least probability of coming to a goal within so many steps by way of states that stay, by backward
+/// induction in whole numbers that are rounded outward, and a choice of each state for each step, whose policy does no worse than the lower values
+/// (`Max`), or than the upper ones (`Min`). The unit is finer than 10^-digits by the least power of ten that isn't below `steps`, or by less where a
+/// row has no room for that: so where no row is wide, the two values of each state are at most 10^-digits apart. Each value is there, from 0 to 1.
 pub fn until_bounds(
     alloc: Global,
     model: &Model,
@@ -118,22 +133,25 @@ pub fn until_bounds(
     requires goals_each { length goals.now ≡ states_of model.now }
     requires digits { digits ≤ 30 }
     requires table { steps * states_of model.now ≤ 2 ^ 22 }
-    ensures written { IfOk result (λ found. plain found ≡ bounds_of dir (pos (10 ^ digits)) model.now (until stay.now goals.now) steps) }
+    ensures written { let o = until stay.now goals.now in
+        IfOk result (λ found. plain found ≡ bounds_of dir (pos (unit_of model.now o digits steps)) model.now o steps) }
     ensures lower { IfOk result (λ found. length found.lower.items ≡ states_of model.now) }
     ensures upper { IfOk result (λ found. length found.upper.items ≡ states_of model.now) }
     ensures max { dir ≡ Max → IfOk result (λ found. MaxBetween model.now (until stay.now goals.now) steps (plain found).lower (plain found).upper (plain found).steps) }
     ensures min { dir ≡ Min → IfOk result (λ found. MinBetween model.now (until stay.now goals.now) steps (plain found).lower (plain found).upper (plain found).steps) }
     ensures finite { IfOk result (λ found. AreProbabilities (states_of model.now) (plain found).lower × AreProbabilities (states_of model.now) (plain found).upper) }
-    ensures gap { IfOk result (λ found. NoneIsWide dir (pos (10 ^ digits)) model.now (until stay.now goals.now) steps → GapIsWithin (10 ^ digits) (2 * steps) model.now (plain found)) }
+    ensures gap { let o = until stay.now goals.now in
+        IfOk result (λ found. NoneIsWide dir (pos (unit_of model.now o digits steps)) model.now o steps
+        → steps * 10 ^ digits ≤ unit_of model.now o digits steps → AreNearBounds (10 ^ digits) model.now (plain found)) }
 {
     model.known();
     let query = Query {
         dir,
         model,
         objective: Objective::Until(stay, goals),
-        one: power_of_ten(digits),
+        one: 1,
     };
-    bounded(alloc, query, steps)
+    finer_bounds(alloc, query, steps, digits)
 }
 
 /// The same of the greatest or the least total reward of the name of place `name` within so many steps. A value that is too wide is missing.
@@ -148,19 +166,22 @@ pub fn total_bounds(
     requires name { name < length model.now.names }
     requires digits { digits ≤ 30 }
     requires table { steps * states_of model.now ≤ 2 ^ 22 }
-    ensures written { IfOk result (λ found. plain found ≡ bounds_of dir (pos (10 ^ digits)) model.now (total name) steps) }
+    ensures written { let o = total name in
+        IfOk result (λ found. plain found ≡ bounds_of dir (pos (unit_of model.now o digits steps)) model.now o steps) }
     ensures lower { IfOk result (λ found. length found.lower.items ≡ states_of model.now) }
     ensures upper { IfOk result (λ found. length found.upper.items ≡ states_of model.now) }
     ensures max { dir ≡ Max → IfOk result (λ found. MaxBetween model.now (total name) steps (plain found).lower (plain found).upper (plain found).steps) }
     ensures min { dir ≡ Min → IfOk result (λ found. MinBetween model.now (total name) steps (plain found).lower (plain found).upper (plain found).steps) }
-    ensures gap { IfOk result (λ found. NoneIsWide dir (pos (10 ^ digits)) model.now (total name) steps → GapIsWithin (10 ^ digits) (2 * steps) model.now (plain found)) }
+    ensures gap { let o = total name in
+        IfOk result (λ found. NoneIsWide dir (pos (unit_of model.now o digits steps)) model.now o steps
+        → steps * 10 ^ digits ≤ unit_of model.now o digits steps → AreNearBounds (10 ^ digits) model.now (plain found)) }
 {
     model.known();
     let query = Query {
         dir,
         model,
         objective: Objective::Total(name),
-        one: power_of_ten(digits),
+        one: 1,
     };
-    bounded(alloc, query, steps)
+    finer_bounds(alloc, query, steps, digits)
 }

@@ -6,7 +6,7 @@ pub fn rounding_law()
     ensures within { SumsAreWithin }
 {}
 
-/// Where no row is wide, the covering and the following value of each state are there, and come at most 2 units apart for each step.
+/// Where no row is wide, the covering and the following value of each state are there, and come at most one unit apart for each step.
 pub fn gap_law()
     ensures { ColumnsAreNear }
 {}
@@ -16,7 +16,7 @@ pub fn room_law()
     ensures { RoomIsEnough }
 {}
 
-/// Where there is room for it, the unit of a curve is as fine as its steps cost.
+/// Where there is room for it, the unit of bounds and of curves is as fine as their steps cost.
 pub fn unit_law()
     ensures { UnitIsFine }
 {}

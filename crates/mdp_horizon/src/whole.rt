@@ -1,4 +1,5 @@
 ghost use Rattle.std.specs.Prelude.{◌≡◌, ◌<◌, ◌≤◌, ◌^◌, pos, ◌+ℤ◌, ◌*ℤ◌, ◌<ℤ◌, unsigned_abs, IfSome};
+ghost use Rattle.std.specs.Int.{int_div_euclid};
 ghost use Rattle.mdp_math.specs.Written.{narrow};
 ghost use Rattle.mdp_horizon.specs.Whole.{rounded, farther, opposite};
 
@@ -9,10 +10,7 @@ pub(crate) fn times(a: i128, b: i128) -> Option<i128>
     ensures value { result ≡ narrow (a *ℤ b) }
     ensures narrow { IfSome result (λ product. unsigned_abs product < 2 ^ 127) }
 {
-    match a.checked_mul(b) {
-        Some(product) if product != i128::MIN => Some(product),
-        _ => None,
-    }
+    mdp_num::times(a, b).ok()
 }
 
 /// The sum, where its magnitude is at most 2 ^ 127 - 1.
@@ -20,9 +18,17 @@ pub(crate) fn plus(a: i128, b: i128) -> Option<i128>
     ensures value { result ≡ narrow (a +ℤ b) }
     ensures narrow { IfSome result (λ sum. unsigned_abs sum < 2 ^ 127) }
 {
-    match a.checked_add(b) {
-        Some(sum) if sum != i128::MIN => Some(sum),
-        _ => None,
+    mdp_num::plus(a, b).ok()
+}
+
+/// n/d, rounded down. Numbers of 64 bits are divided as such.
+fn quotient(n: i128, d: i128) -> i128
+    requires { pos 0 <ℤ d }
+    ensures { result ≡ int_div_euclid n d }
+{
+    match (i64::try_from(n), i64::try_from(d)) {
+        (Ok(short), Ok(divisor)) => i128::from(short.div_euclid(divisor)),
+        _ => n.div_euclid(d),
     }
 }
 
@@ -33,8 +39,8 @@ pub(crate) fn rounded(side: Dir, n: i128, d: i128) -> i128
     ensures { result ≡ rounded side n d }
 {
     match side {
-        Dir::Max => -(-n).div_euclid(d),
-        Dir::Min => n.div_euclid(d),
+        Dir::Max => -quotient(-n, d),
+        Dir::Min => quotient(n, d),
     }
 }
 

@@ -1,50 +1,55 @@
-use Rattle.std.proofs.{Common.{sym, ap, subst, ◌∙◌, ℤ, pos, ◌<ℤ◌, ◌^◌}, lemmas.Result.{IfOk-weaker}}
-use Rattle.mdp_horizon.specs.{Columns.{bounds_of}, Objective.Objective.{until}}
-use mir.Syntax.{w128}
-use mir.Val.{to_z, of_z}
-use Rattle.mdp_num.proofs.Values.{result-bits}
-use Rattle.mdp_horizon.proofs.{Finite.{finite_by}, Gap.{gap_by}, Between.{bounds-max_by, bounds-min_by, bounds-each}}
+use Rattle.std.proofs.lemmas.Result.{IfOk-weaker}
+use Rattle.mdp_horizon.specs.{Finer.{unit_of}, Objective.Objective.{until}}
+use Rattle.mdp_horizon.proofs.{Finite.{finite_by}, Gap.{near_by}, Between.{bounds-max_by, bounds-min_by, bounds-each}, Fineness.{unit-positive, unit-narrow}}
 use Rattle.mdp_horizon.proofs.bounds_induction.until_bounds.Goals as goal
 
-pub returns-clause-max : goal.returns-clause-max
-returns-clause-max c = λ e. IfOk-weaker c.bounded.result _ _
-    (λ found h. bounds-max_by c.args.dir (to_z w128 (of_z w128 c.power_of_ten.result)) c.args.model.now (until c.args.stay.now c.args.goals.now) c.args.steps _ e
-    (subst (λ (z : ℤ). pos 0 <ℤ z) (sym (result-bits c.power_of_ten.result c.power_of_ten.type_inv)) c.power_of_ten.ensures.positive) c.known.ensures.mdp h) c.bounded.ensures
-
-pub returns-clause-min : goal.returns-clause-min
-returns-clause-min c = λ e. IfOk-weaker c.bounded.result _ _
-    (λ found h. bounds-min_by c.args.dir (to_z w128 (of_z w128 c.power_of_ten.result)) c.args.model.now (until c.args.stay.now c.args.goals.now) c.args.steps _ e
-    (subst (λ (z : ℤ). pos 0 <ℤ z) (sym (result-bits c.power_of_ten.result c.power_of_ten.type_inv)) c.power_of_ten.ensures.positive) c.known.ensures.mdp h) c.bounded.ensures
-
-pub returns-clause-written : goal.returns-clause-written
-returns-clause-written c = IfOk-weaker c.bounded.result _ _
-    (λ found h.
-    h ∙ ap (λ (one : ℤ). bounds_of c.args.dir one c.args.model.now (until c.args.stay.now c.args.goals.now) c.args.steps)
-    (result-bits c.power_of_ten.result c.power_of_ten.type_inv ∙ c.power_of_ten.ensures.value)) c.bounded.ensures
-
 pub returns-clause-lower : goal.returns-clause-lower
-returns-clause-lower c = IfOk-weaker c.bounded.result _ _
-    (λ found h.
-    (bounds-each c.args.dir (to_z w128 (of_z w128 c.power_of_ten.result)) c.args.model.now (until c.args.stay.now c.args.goals.now) c.args.steps _
-    (subst (λ (z : ℤ). pos 0 <ℤ z) (sym (result-bits c.power_of_ten.result c.power_of_ten.type_inv)) c.power_of_ten.ensures.positive) c.known.ensures.mdp h).0) c.bounded.ensures
+returns-clause-lower c =
+    let m = c.args.model.now in
+    let o = until c.args.stay.now c.args.goals.now in
+    let d = c.args.digits in
+    let n = c.args.steps in
+    IfOk-weaker c.finer_bounds.result _ _ (λ found h. (bounds-each c.args.dir (unit_of m o d n) m o n _ (unit-positive m o d n) c.known.ensures.mdp h).0) c.finer_bounds.ensures
 
 pub returns-clause-upper : goal.returns-clause-upper
-returns-clause-upper c = IfOk-weaker c.bounded.result _ _
-    (λ found h.
-    (bounds-each c.args.dir (to_z w128 (of_z w128 c.power_of_ten.result)) c.args.model.now (until c.args.stay.now c.args.goals.now) c.args.steps _
-    (subst (λ (z : ℤ). pos 0 <ℤ z) (sym (result-bits c.power_of_ten.result c.power_of_ten.type_inv)) c.power_of_ten.ensures.positive) c.known.ensures.mdp h).1) c.bounded.ensures
+returns-clause-upper c =
+    let m = c.args.model.now in
+    let o = until c.args.stay.now c.args.goals.now in
+    let d = c.args.digits in
+    let n = c.args.steps in
+    IfOk-weaker c.finer_bounds.result _ _ (λ found h. (bounds-each c.args.dir (unit_of m o d n) m o n _ (unit-positive m o d n) c.known.ensures.mdp h).1) c.finer_bounds.ensures
+
+pub returns-clause-max : goal.returns-clause-max
+returns-clause-max c =
+    let m = c.args.model.now in
+    let o = until c.args.stay.now c.args.goals.now in
+    let d = c.args.digits in
+    let n = c.args.steps in
+    λ e. IfOk-weaker c.finer_bounds.result _ _ (λ found h. bounds-max_by c.args.dir (unit_of m o d n) m o n _ e (unit-positive m o d n) c.known.ensures.mdp h) c.finer_bounds.ensures
+
+pub returns-clause-min : goal.returns-clause-min
+returns-clause-min c =
+    let m = c.args.model.now in
+    let o = until c.args.stay.now c.args.goals.now in
+    let d = c.args.digits in
+    let n = c.args.steps in
+    λ e. IfOk-weaker c.finer_bounds.result _ _ (λ found h. bounds-min_by c.args.dir (unit_of m o d n) m o n _ e (unit-positive m o d n) c.known.ensures.mdp h) c.finer_bounds.ensures
 
 pub returns-clause-gap : goal.returns-clause-gap
-returns-clause-gap c = IfOk-weaker c.bounded.result _ _
-    (λ found h. gap_by c.args.dir (10 ^ c.args.digits) c.args.model.now (until c.args.stay.now c.args.goals.now) c.args.steps _
-    (subst (λ (z : ℤ). pos 0 <ℤ z) c.power_of_ten.ensures.value c.power_of_ten.ensures.positive) c.known.ensures.mdp
-    (h ∙ ap (λ (one : ℤ). bounds_of c.args.dir one c.args.model.now (until c.args.stay.now c.args.goals.now) c.args.steps)
-    (result-bits c.power_of_ten.result c.power_of_ten.type_inv ∙ c.power_of_ten.ensures.value)))
-    c.bounded.ensures
+returns-clause-gap c =
+    let m = c.args.model.now in
+    let o = until c.args.stay.now c.args.goals.now in
+    let d = c.args.digits in
+    let n = c.args.steps in
+    IfOk-weaker c.finer_bounds.result _ _ (λ found h. near_by c.args.dir d (unit_of m o d n) m o n _ (unit-positive m o d n) c.known.ensures.mdp h) c.finer_bounds.ensures
 
 pub returns-clause-finite : goal.returns-clause-finite
-returns-clause-finite c = IfOk-weaker c.bounded.result _ _
-    (λ found h. finite_by c.args.dir c.args.digits c.args.model.now c.args.stay.now c.args.goals.now c.args.steps _ c.requires.digits c.known.ensures.mdp
-    (h ∙ ap (λ (one : ℤ). bounds_of c.args.dir one c.args.model.now (until c.args.stay.now c.args.goals.now) c.args.steps)
-    (result-bits c.power_of_ten.result c.power_of_ten.type_inv ∙ c.power_of_ten.ensures.value)))
-    c.bounded.ensures
+returns-clause-finite c =
+    let m = c.args.model.now in
+    let o = until c.args.stay.now c.args.goals.now in
+    let d = c.args.digits in
+    let n = c.args.steps in
+    IfOk-weaker c.finer_bounds.result _ _
+    (λ found h.
+    finite_by c.args.dir (unit_of m o d n) m c.args.stay.now c.args.goals.now n _ (unit-positive m o d n) (unit-narrow m o d n c.requires.digits) c.known.ensures.mdp h)
+    c.finer_bounds.ensures
