@@ -1,5 +1,5 @@
 use crate::convert::{nearest, to_float};
-use crate::lists::{Groups, append, float_at, item_at, number, number_at, part_of, put, sum_over};
+use crate::lists::{Groups, append, float_at, item_at, number, number_at, part_of, put};
 use crate::outside::Outside;
 use crate::rows::{Rows, WholeRow};
 use crate::strong::Components;
@@ -43,6 +43,8 @@ pub(crate) struct Component {
     starts: Vec<usize>,
     pub(crate) entries: Vec<(u32, f64)>,
     pub(crate) outside: Outside,
+    /// With which probability each step ends, whatever its row.
+    pub(crate) ending: f64,
 }
 
 /// What the rows of a component are gathered from.
@@ -125,6 +127,21 @@ fn moved(value: Option<i128>, steps: f64, unit: i128) -> Option<i128> {
     value?.checked_add(more)
 }
 
+/// What a row that earns so much has over the value of its node, `own`. It goes by differences, so that what is alike in all values costs no digits.
+pub(crate) fn over(
+    earned: f64,
+    exit: f64,
+    entries: &[(u32, f64)],
+    own: f64,
+    values: &[f64],
+) -> f64 {
+    let mut total = earned - exit * own;
+    for entry in entries {
+        total += entry.1 * (float_at(values, entry.0) - own);
+    }
+    total
+}
+
 impl Component {
     /// The sum of a first number and of the probabilities of the entries from a place on, and what rounding of the values to their units may cost in
     /// such a row of the node at a place; that isn't rounded itself where it is exact.
@@ -202,6 +219,7 @@ impl Component {
             starts: Vec::new(alloc),
             entries: Vec::with_capacity(alloc, most_entries)?,
             outside: Outside::empty(),
+            ending: 0.0,
         })
     }
 
@@ -214,7 +232,7 @@ impl Component {
         values: &[Value],
     ) -> Result<Component, AllocError> {
         let mut found = Component::empty(alloc, rows, components.nodes_of(component))?;
-        found.rescale(rows);
+        found.take_units(rows);
         let source = Source {
             rows,
             components,
@@ -225,8 +243,17 @@ impl Component {
         Ok(found)
     }
 
-    /// Takes the units of its nodes from rows, which may be written for another scale. What rounding may cost stays that of the first scale.
-    pub(crate) fn rescale(&mut self, rows: &Rows) {
+    /// Has each step end with this probability more: each row's `exit` and `total` become so much greater.
+    pub(crate) fn end_with(&mut self, chance: f64) {
+        self.ending += chance;
+        for row in self.rows.iter_mut() {
+            row.exit += chance;
+            row.total += chance;
+        }
+    }
+
+    /// Takes the units of its nodes from rows.
+    fn take_units(&mut self, rows: &Rows) {
         for place in 0..self.units.len().min(self.nodes.len()) {
             self.units[place] = to_float(rows.unit_of(self.nodes[place]));
         }
@@ -304,54 +331,10 @@ impl Component {
         least
     }
 
-    /// The greatest unit of a node.
-    pub(crate) fn greatest_unit(&self) -> f64 {
-        let mut greatest = 0.0f64;
-        for unit in &self.units {
-            greatest = greatest.max(*unit);
-        }
-        greatest
-    }
-
     /// What a row that earns so much over the gain has over the value of its node, from values within the component.
     pub(crate) fn over(&self, row: &FloatRow, earned: f64, values: &[f64]) -> f64 {
-        let made = sum_over(earned, self.entries_of(row), values);
-        made - row.total * float_at(values, row.node)
-    }
-
-    /// What the row at a place has over the value of its node, where the rows earn this, from values within the component.
-    pub(crate) fn gained(&self, place: usize, gains: &[f64], values: &[f64]) -> f64 {
-        self.over(&self.row_at(place), item_at(gains, place, 0.0), values)
-    }
-
-    /// The row of the node at a place, but for this one, that has most over the value of its node, times `sense`, if that is more than `least`.
-    pub(crate) fn better_row(
-        &self,
-        place: usize,
-        chosen: usize,
-        gains: &[f64],
-        values: &[f64],
-        sense: f64,
-        least: f64,
-    ) -> Option<usize> {
-        let mut best = least;
-        let mut better = None;
-        let (from, to) = self.range_of(place);
-        for at in from..to {
-            let more = self.gained(at, gains, values) * sense;
-            if at != chosen && more > best {
-                best = more;
-                better = Some(at);
-            }
-        }
-        better
-    }
-
-    /// Adds to the gain of each row what it has over the value of its node, where it earns this.
-    pub(crate) fn add_over(&self, gains: &mut [f64], earned: f64, values: &[f64]) {
-        for at in 0..gains.len().min(self.rows.len()) {
-            gains[at] += self.over(&self.rows[at], earned, values);
-        }
+        let own = float_at(values, row.node);
+        over(earned, row.exit, self.entries_of(row), own, values)
     }
 
     /// Picks for each of its nodes the whole row of a policy's.

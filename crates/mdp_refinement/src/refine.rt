@@ -12,19 +12,24 @@ use crate::value::{Value, value_at};
 use std::alloc::{AllocError, Global};
 
 /// How many corrections are made at most.
-const MOST_ROUNDS: u32 = 14;
+const MOST_ROUNDS: u32 = 30;
 
-/// From which correction on the rows are given more room, and need not be near.
-const FIRST_ROOMY: u32 = 5;
+/// After how many corrections that don't halve what rows are wrong by they are given more room, and need not be near; after how many there are no more.
+const FEW_STALE: u32 = 3;
+
+const MOST_STALE: u32 = 12;
 
 /// The room that rows are given first, as a multiple of what rounding may cost.
 const FIRST_ROOM: f64 = 1.01;
 
-/// By how much the room grows with each correction.
+/// By how much the room grows with each such correction.
 const GROWTH: f64 = 1.5;
 
 /// A policy's row that has more over or under its node's value than this multiple of what rounding may cost isn't near enough.
 const LOOSE: f64 = 4.0;
+
+/// A row that gains less units isn't taken where the bound is asked of the policy's rows alone.
+const POLICY_GAIN: f64 = 0.05;
 
 /// How the values of a component lie to its rows.
 #[derive(Clone, Copy)]
@@ -35,6 +40,32 @@ enum Held {
     Loosely,
     /// All hold, and the policy's are near.
     Tightly,
+}
+
+/// How the rows are held, and what those of the policy are wrong by at most.
+#[derive(Clone, Copy)]
+struct Measured {
+    held: Held,
+    error: f64,
+}
+
+/// The least that rows were wrong by, and how many rounds came to no less than half of it since.
+#[derive(Clone, Copy)]
+struct Progress {
+    least: f64,
+    stale: u32,
+}
+
+impl Progress {
+    /// Takes in a round at whose begin rows are wrong by so much.
+    fn take(&mut self, error: f64) {
+        if error < self.least / 2.0 {
+            self.least = error;
+            self.stale = 0;
+        } else {
+            self.stale = self.stale.saturating_add(1);
+        }
+    }
 }
 
 /// How many moves are tried of all values of a component.
@@ -80,23 +111,28 @@ impl Setting<'_> {
         before
     }
 
-    /// Puts the gain of each row: what it has over its node's value, and room for rounding. How the rows are held. None past 128 bits.
+    /// Puts the gain of each row: what it has over its node's value, and room for rounding. How the rows are held, and what the policy's are wrong by.
+    /// None past 128 bits.
     fn measure(
         self,
         policy: &[usize],
         values: &[Value],
         room: f64,
         gains: &mut [f64],
-    ) -> Option<Held> {
+    ) -> Option<Measured> {
         let mut held = Held::Tightly;
+        let mut error = 0.0f64;
         for at in 0..self.component.rows.len().min(gains.len()) {
             let row = self.component.rows[at];
             let gap = self.gap(&row, values)?;
             let is_chosen = takes(policy, row.node, at);
             held = self.judge(held, &row, gap, is_chosen);
+            if is_chosen {
+                error = error.max(gap.size.abs());
+            }
             gains[at] = gap.size + self.task.side() * room * row.slack;
         }
-        Some(held)
+        Some(Measured { held, error })
     }
 
     /// How a row's value lies to that of its node. None past 128 bits.
@@ -182,13 +218,12 @@ enum End {
 }
 
 impl End {
-    /// How a round ends that finds the rows held so.
-    fn of(held: Option<Held>, round: u32) -> End {
+    /// How a round ends that finds the rows held so, behind others.
+    fn of(held: Held, round: u32, stale: u32) -> End {
         match held {
-            None => End::Failed,
-            Some(Held::Tightly) if round > 0 => End::Held,
-            Some(Held::Loosely) if round >= FIRST_ROOMY => End::Held,
-            Some(_) => End::Open,
+            Held::Tightly if round > 0 => End::Held,
+            Held::Loosely if stale >= FEW_STALE => End::Held,
+            _ => End::Open,
         }
     }
 }
@@ -221,14 +256,21 @@ impl Setting<'_> {
         values: &mut [Value],
     ) -> Result<End, AllocError> {
         let mut room = FIRST_ROOM;
+        let mut progress = Progress {
+            least: f64::INFINITY,
+            stale: 0,
+        };
         for round in 0..MOST_ROUNDS {
-            if round >= FIRST_ROOMY {
-                room *= GROWTH;
-            }
-            let held = self.measure(&corrector.policy, values, room, gains);
-            match End::of(held, round) {
-                End::Open => {}
+            let Some(measured) = self.measure(&corrector.policy, values, room, gains) else {
+                return Ok(End::Failed);
+            };
+            progress.take(measured.error);
+            match End::of(measured.held, round, progress.stale) {
+                End::Open if progress.stale <= MOST_STALE => {}
                 end => return Ok(end),
+            }
+            if progress.stale >= FEW_STALE {
+                room *= GROWTH;
             }
             match self.correct(alloc, corrector, gains, values)? {
                 End::Open => {}
@@ -255,6 +297,9 @@ pub(crate) fn refine(
         component,
         task,
     };
+    if !task.is_each() {
+        corrector.small_gain = POLICY_GAIN;
+    }
     let mut gains = vec![in alloc; 0.0; component.rows.len()]?;
     setting.begin(first, values);
     match setting.rounds(alloc, corrector, &mut gains, values)? {

@@ -356,7 +356,7 @@ impl Rows {
     }
 
     /// Writes all rows for values of another scale. There is to be none that stops.
-    pub(crate) fn rescale(&mut self, scale: Scale) {
+    pub fn rescale(&mut self, scale: Scale) {
         let digits = self.scale.digits;
         self.scale = scale;
         self.one = power_of_ten(scale.digits);
@@ -389,6 +389,20 @@ impl Rows {
     /// Whether a row of the node was too wide to be kept.
     pub fn has_wide(&self, node: u32) -> bool {
         flag_at(&self.has_wide, node)
+    }
+
+    /// How many nodes there are.
+    pub(crate) fn count(&self) -> usize {
+        self.node_digits.len()
+    }
+
+    /// How many digits the node keeps that keeps the fewest.
+    pub fn least_digits(&self) -> u32 {
+        let mut least = self.scale.digits;
+        for digits in &self.node_digits {
+            least = least.min(*digits);
+        }
+        least
     }
 
     /// Where the rows of a node begin and end.

@@ -7,5 +7,6 @@ pub mod Greatest
 pub mod Least
 pub mod TrivialBounds
 pub mod Means
+pub mod Sizes
 pub mod Accepted
 mod Examples

@@ -1,21 +1,23 @@
 ghost use Rattle.std.specs.Prelude.{◌≡◌, ◌<◌, length, IfOk, IfSome};
 ghost use Rattle.mdp_spec.specs.Mdp.{states_of};
-ghost use Rattle.mdp_discount_rules.specs.Rules.{IsFactor};
+ghost use Rattle.mdp_discount_rules.specs.{Rules.{IsFactor}, Checks.{IsDiscount}};
 ghost use Rattle.mdp_discount_bounds.specs.Checks.{IsDiscountBounds};
 ghost use Rattle.mdp_search_bounds.specs.DiscountHeld.{HasDiscountSizes, IsHeldDiscount};
 
 use crate::finite::finite_bounds;
+use crate::gap::Gap;
+use crate::ladder::{Search, bounds_by};
 use crate::missing::missing_discount;
+use mdp_discount::solve_discount;
 use mdp_discount_bounds::{
     DiscountBounds, Verdict, discount_bounds_at_state, greatest_magnitude, holds_bounds_discount,
 };
-use mdp_ladder::{
-    MOST_DIGITS, Search, all_capped, bounds_by, listed, most_lacking_rewards, numbers,
-    simplest_rewards,
-};
-use mdp_near::{NearDiscount, near_discount};
+use mdp_discount_rules::DiscountCert;
 use mdp_num::{Frac, Memory};
+use mdp_proposals::{all_capped, listed, numbers, simplest_rewards};
+use mdp_reach_search::{ProposedDiscount, propose_discount};
 use mdp_rows::{Dir, Model};
+use mdp_wide::SolveError;
 use std::alloc::{AllocError, Global};
 
 /// The search for bounds of the discounted reward of a name.
@@ -62,7 +64,30 @@ fn are_there(values: &[Option<Frac>]) -> bool {
     true
 }
 
+/// A value for each state, all of them there.
+fn some_values(alloc: Global, values: &[Frac]) -> Result<Vec<Option<Frac>>, AllocError>
+    ensures { IfOk result (λ list. length list.items ≡ length values.now) }
+{
+    values.iter().map(|value| Some(*value)).collect(alloc)
+}
+
 impl Discounting<'_> {
+    /// An exact answer as bounds: its values are lower and upper ones.
+    fn bounds_of(self, alloc: Global, answer: DiscountCert) -> Result<DiscountBounds, AllocError>
+        requires { IsDiscount self.dir self.model.now self.name self.factor.now answer.values.items answer.remainder answer.choices.items }
+        ensures { IfOk result (HasDiscountSizes self.entry.model.now) }
+    {
+        let lower = some_values(alloc, &answer.values)?;
+        let upper = lower.clone()?;
+        let remainder = greatest_magnitude(&lower, &upper);
+        Ok(DiscountBounds {
+            lower,
+            upper,
+            choices: answer.choices,
+            remainder,
+        })
+    }
+
     /// The bounds by one number for all states, where the rules say yes to them.
     fn finite(self, alloc: Global) -> Result<Option<DiscountBounds>, Memory>
         ensures { IfOk result (λ found. IfSome found (IsHeldDiscount self.entry.dir self.entry.model.now self.entry.name self.entry.factor.now)) }
@@ -87,7 +112,7 @@ impl Discounting<'_> {
 }
 
 impl Search for Discounting<'_> {
-    type Near = NearDiscount;
+    type Proposal = ProposedDiscount;
 
     type Cert = DiscountBounds;
 
@@ -99,11 +124,11 @@ impl Search for Discounting<'_> {
         self.model
     }
 
-    fn near(&self, alloc: Global, digits: u32) -> Result<NearDiscount, Memory> {
-        near_discount(alloc, self.model, self.name, self.dir, self.factor, digits)
+    fn propose(&self, alloc: Global, digits: u32) -> Result<ProposedDiscount, Memory> {
+        propose_discount(alloc, self.model, self.name, self.dir, self.factor, digits)
     }
 
-    fn proposed(&self, alloc: Global, near: &NearDiscount) -> Result<DiscountBounds, Memory> {
+    fn proposed(&self, alloc: Global, near: &ProposedDiscount) -> Result<DiscountBounds, Memory> {
         let model = self.model;
         let lower = listed(alloc, model.states(), &near.lower)?;
         let upper = listed(alloc, model.states(), &near.upper)?;
@@ -123,7 +148,7 @@ impl Search for Discounting<'_> {
     fn simplest(
         &self,
         alloc: Global,
-        near: &NearDiscount,
+        near: &ProposedDiscount,
         is_sought: &[bool],
     ) -> Result<DiscountBounds, Memory> {
         let bounds = self.proposed(alloc, near)?;
@@ -153,11 +178,21 @@ impl Search for Discounting<'_> {
         )
     }
 
-    fn lacking(&self, bounds: &DiscountBounds, digits: u32) -> u32 {
+    fn exact(&self, alloc: Global) -> Result<Option<DiscountBounds>, Memory> {
+        let model = self.model;
+        let name = model.name(self.name);
+        match solve_discount(alloc, model, self.name, name, self.dir, *self.factor) {
+            Ok(answer) => Ok(Some(self.bounds_of(alloc, answer)?)),
+            Err(SolveError::TooWide(_)) => Ok(None),
+            Err(SolveError::Memory) => Err(Memory),
+        }
+    }
+
+    fn gap(&self, bounds: &DiscountBounds) -> Gap {
         if are_there(&bounds.lower) {
-            most_lacking_rewards(&bounds.lower, &bounds.upper, digits)
+            Gap::between(&bounds.lower, &bounds.upper)
         } else {
-            MOST_DIGITS
+            Gap::WIDEST
         }
     }
 
@@ -174,9 +209,9 @@ impl Search for Discounting<'_> {
 }
 
 /// Bounds of the greatest or the least sum of rewards of the name of place `name` where a step later counts `factor` times as much, with a policy and a
-/// remainder: exact values, where the simplest fractions between the bounds that the search proposes, with so many digits or with the most, are such; else
-/// these bounds, with so many digits, with more where they aren't as near, or with fewer; else one number that no reward passes; else no value at all. They
-/// always meet the rules. An `Err` is want of memory.
+/// remainder: exact values, where the simplest fractions between the bounds that the search proposes are such; else these bounds, in as few digits as
+/// come as near as `digits` say: at most 10^-`digits` apart, or that times an upper value above 1; where none do, the exact answer, if it isn't too wide;
+/// else what was found, at last one number that no reward passes, or no value at all. They always meet the rules. An `Err` is want of memory.
 pub fn bounds_discount(
     alloc: Global,
     model: &Model,

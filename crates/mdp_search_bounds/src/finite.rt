@@ -2,18 +2,32 @@
 
 ghost use Rattle.std.specs.Prelude.{◌≡◌, ◌<◌, length, IfOk};
 
+use crate::extent::extreme;
 use mdp_discount_bounds::{DiscountBounds, greatest_magnitude};
-use mdp_near::extent_of;
 use mdp_num::Frac;
-use mdp_rows::Model;
+use mdp_rows::{Dir, Model};
 use std::alloc::{AllocError, Global};
 
-/// A fraction that no discounted reward of the name passes, if there is one in width. A row whose targets all have that value takes no arithmetic, and the
-/// factor's product with it is a whole number, so no sum of the rules is past width.
+/// The least whole number that the magnitude of a value doesn't pass. None past 127 bits.
+fn above(value: &Frac) -> Option<i128> {
+    let magnitude = value.num().checked_abs()?;
+    let whole = magnitude.checked_div(value.den())?;
+    if whole.checked_mul(value.den())? == magnitude {
+        Some(whole)
+    } else {
+        whole.checked_add(1)
+    }
+}
+
+/// A number that no discounted reward of the name passes, if there is one in width: the least whole number that the magnitude of no reward passes, over 1 less
+/// the factor. Less the factor times itself it is that whole number, so where all states have this value no term of the rules is past width.
 fn extent(model: &Model, name: u32, factor: &Frac) -> Option<Frac>
     requires { name < length model.now.names }
 {
-    Frac::try_new(extent_of(model, name, factor)?, 1).ok()
+    let greatest = above(&extreme(model, name, Dir::Max))?;
+    let whole = greatest.max(above(&extreme(model, name, Dir::Min))?);
+    let rest = factor.den().checked_sub(factor.num())?;
+    Frac::try_new(whole.checked_mul(factor.den())?, rest).ok()
 }
 
 /// The opposite of a value.

@@ -5,7 +5,10 @@
 
 mod discount;
 mod extent;
+mod few;
 mod finite;
+mod gap;
+mod ladder;
 mod mean;
 mod mean_trivial;
 mod missing;

@@ -1,17 +1,22 @@
 ghost use Rattle.std.specs.Prelude.{◌≡◌, ◌<◌, length, IfOk};
 ghost use Rattle.mdp_spec.specs.Mdp.{states_of};
+ghost use Rattle.mdp_farkas.specs.Mean.{IsMean};
 ghost use Rattle.mdp_bounds.specs.Mean.{IsMeanBounds};
 ghost use Rattle.mdp_search_bounds.specs.Held.{HasMeanSizes, IsHeldMean};
 
+use crate::gap::Gap;
+use crate::ladder::{Search, bounds_by};
 use crate::mean_trivial::trivial_mean;
 use crate::simplest::simplest_mean;
 use mdp_bounds::{MeanBoundsCert, holds_bounds_mean, mean_bounds_at_state};
-use mdp_claims::Verdict;
-use mdp_ladder::{Search, bounds_by, fractions, most_lacking, numbers};
-use mdp_near_mean::{NearMean, near_mean, nearer_mean};
-use mdp_num::Memory;
+use mdp_claims::{MeanCert, Verdict};
+use mdp_mean::solve_mean;
+use mdp_mean_search::{ProposedMean, propose_mean};
+use mdp_num::{Frac, Memory};
+use mdp_proposals::{fractions, numbers};
 use mdp_rows::{Dir, Model};
-use std::alloc::Global;
+use mdp_wide::SolveError;
+use std::alloc::{AllocError, Global};
 
 /// The search for bounds of the mean payoff of a name.
 #[derive(Clone, Copy)]
@@ -22,8 +27,34 @@ struct Averaging<'m> {
     ghost named: { name < length model.now.names },
 }
 
+/// The same values once more.
+fn copied(alloc: Global, values: &[Frac]) -> Result<Vec<Frac>, AllocError>
+    ensures { IfOk result (λ list. length list.items ≡ length values.now) }
+{
+    values.iter().map(|value| *value).collect(alloc)
+}
+
+impl Averaging<'_> {
+    /// An exact answer as bounds: its gains are lower and upper ones.
+    fn bounds_of(self, alloc: Global, answer: MeanCert) -> Result<MeanBoundsCert, AllocError>
+        requires gains { length answer.gains.items ≡ states_of self.model.now }
+        requires rules { IsMean self.dir self.model.now self.name answer.gains.items answer.bound.items answer.bias.items answer.spread answer.choices.items }
+        ensures { IfOk result (HasMeanSizes self.entry.model.now) }
+    {
+        let lower = copied(alloc, &answer.gains)?;
+        Ok(MeanBoundsCert {
+            lower,
+            upper: answer.gains,
+            bound: answer.bound,
+            bias: answer.bias,
+            choices: answer.choices,
+            spread: answer.spread,
+        })
+    }
+}
+
 impl Search for Averaging<'_> {
-    type Near = NearMean;
+    type Proposal = ProposedMean;
 
     type Cert = MeanBoundsCert;
 
@@ -35,20 +66,11 @@ impl Search for Averaging<'_> {
         self.model
     }
 
-    fn near(&self, alloc: Global, digits: u32) -> Result<NearMean, Memory> {
-        near_mean(alloc, self.model, self.name, self.dir, digits)
+    fn propose(&self, alloc: Global, digits: u32) -> Result<ProposedMean, Memory> {
+        propose_mean(alloc, self.model, self.name, self.dir, digits)
     }
 
-    fn nearer(
-        &self,
-        alloc: Global,
-        digits: u32,
-        before: &mut NearMean,
-    ) -> Result<NearMean, Memory> {
-        nearer_mean(alloc, self.model, self.name, self.dir, digits, before)
-    }
-
-    fn proposed(&self, alloc: Global, near: &NearMean) -> Result<MeanBoundsCert, Memory> {
+    fn proposed(&self, alloc: Global, near: &ProposedMean) -> Result<MeanBoundsCert, Memory> {
         let states = self.model.states();
         Ok(MeanBoundsCert {
             lower: fractions(alloc, states, &near.lower, near.one)?,
@@ -63,7 +85,7 @@ impl Search for Averaging<'_> {
     fn simplest(
         &self,
         alloc: Global,
-        near: &NearMean,
+        near: &ProposedMean,
         is_sought: &[bool],
     ) -> Result<MeanBoundsCert, Memory> {
         let exact = simplest_mean(alloc, self.model, near, is_sought)?;
@@ -93,8 +115,16 @@ impl Search for Averaging<'_> {
         )
     }
 
-    fn lacking(&self, cert: &MeanBoundsCert, digits: u32) -> u32 {
-        most_lacking(&cert.lower, &cert.upper, digits)
+    fn exact(&self, alloc: Global) -> Result<Option<MeanBoundsCert>, Memory> {
+        match solve_mean(alloc, self.model, self.name, self.dir) {
+            Ok(answer) => Ok(Some(self.bounds_of(alloc, answer)?)),
+            Err(SolveError::TooWide(_)) => Ok(None),
+            Err(SolveError::Memory) => Err(Memory),
+        }
+    }
+
+    fn gap(&self, cert: &MeanBoundsCert) -> Gap {
+        Gap::between(&cert.lower, &cert.upper)
     }
 
     fn trivial(&self, alloc: Global) -> Result<MeanBoundsCert, Memory> {
@@ -103,9 +133,9 @@ impl Search for Averaging<'_> {
 }
 
 /// Bounds of the greatest or the least mean payoff of the name of place `name`, in units of that reward, with a policy, two relative values for each
-/// state and their spread: exact gains, where the simplest fractions between the bounds that the search proposes, with so many digits or with the most,
-/// are such; else these bounds, with so many digits, with more where they aren't as near, or with fewer; else the least and the greatest reward. They always
-/// meet the rules. An `Err` is want of memory.
+/// state and their spread: exact gains, where the simplest fractions between the bounds that the search proposes are such; else these bounds, in as few
+/// digits as come as near as `digits` say: at most 10^-`digits` apart, or that times an upper value above 1; where none do, the exact answer, if it isn't
+/// too wide; else what was found, at last the least and the greatest reward. They always meet the rules. An `Err` is want of memory.
 pub fn bounds_mean(
     alloc: Global,
     model: &Model,

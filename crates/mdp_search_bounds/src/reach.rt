@@ -3,14 +3,16 @@ ghost use Rattle.mdp_spec.specs.Mdp.{states_of};
 ghost use Rattle.mdp_bounds.specs.Reach.{IsReachBounds};
 ghost use Rattle.mdp_search_bounds.specs.Held.{HasReachSizes, IsHeldReach};
 
+use crate::gap::Gap;
+use crate::ladder::{Search, bounds_by};
 use crate::simplest::simplest_reach;
 use crate::trivial::trivial_reach;
 use mdp_bounds::{ReachBoundsCert, holds_bounds_reach, reach_bounds_at_state};
 use mdp_claims::Verdict;
-use mdp_ladder::{Search, bounds_by, fractions, most_lacking, numbers};
-use mdp_near::{NearReach, near_reach};
 use mdp_num::Memory;
+use mdp_proposals::{fractions, numbers};
 use mdp_reach::solve_reach;
+use mdp_reach_search::{ProposedReach, propose_reach};
 use mdp_rows::{Dir, Marks, Model};
 use mdp_wide::Unfinished;
 use std::alloc::Global;
@@ -25,7 +27,7 @@ struct Reaching<'m, 'g> {
 }
 
 impl Search for Reaching<'_, '_> {
-    type Near = NearReach;
+    type Proposal = ProposedReach;
 
     type Cert = ReachBoundsCert;
 
@@ -37,11 +39,11 @@ impl Search for Reaching<'_, '_> {
         self.model
     }
 
-    fn near(&self, alloc: Global, digits: u32) -> Result<NearReach, Memory> {
-        near_reach(alloc, self.model, self.goals, self.dir, digits)
+    fn propose(&self, alloc: Global, digits: u32) -> Result<ProposedReach, Memory> {
+        propose_reach(alloc, self.model, self.goals, self.dir, digits)
     }
 
-    fn proposed(&self, alloc: Global, near: &NearReach) -> Result<ReachBoundsCert, Memory> {
+    fn proposed(&self, alloc: Global, near: &ProposedReach) -> Result<ReachBoundsCert, Memory> {
         let states = self.model.states();
         Ok(ReachBoundsCert {
             lower: fractions(alloc, states, &near.lower, near.one)?,
@@ -54,7 +56,7 @@ impl Search for Reaching<'_, '_> {
     fn simplest(
         &self,
         alloc: Global,
-        near: &NearReach,
+        near: &ProposedReach,
         is_sought: &[bool],
     ) -> Result<ReachBoundsCert, Memory> {
         let exact = simplest_reach(alloc, self.model, near, is_sought)?;
@@ -99,8 +101,8 @@ impl Search for Reaching<'_, '_> {
         }
     }
 
-    fn lacking(&self, cert: &ReachBoundsCert, digits: u32) -> u32 {
-        most_lacking(&cert.lower, &cert.upper, digits)
+    fn gap(&self, cert: &ReachBoundsCert) -> Gap {
+        Gap::between(&cert.lower, &cert.upper)
     }
 
     fn trivial(&self, alloc: Global) -> Result<ReachBoundsCert, Memory> {
@@ -113,8 +115,9 @@ impl Search for Reaching<'_, '_> {
 }
 
 /// Bounds of the greatest or the least probability to reach a goal, with a policy and ranks: exact values, where the simplest fractions between the
-/// bounds that the search proposes, with so many digits or with the most, are such; else these bounds, with so many digits, with more where they aren't as
-/// near, or with fewer; else 0 and 1. They always meet the rules.
+/// bounds that the search proposes are such; else these bounds, in as few digits as come as near as `digits` say: at most 10^-`digits` apart, or that
+/// times an upper value above 1; where none do, the exact answer, if it isn't too wide; else what was found, at last 0 and 1. They always meet the rules.
+/// An `Err` is want of memory.
 pub fn bounds_reach(
     alloc: Global,
     model: &Model,

@@ -4,14 +4,16 @@ ghost use Rattle.mdp_rows.specs.Negative.{has_negative};
 ghost use Rattle.mdp_bounds.specs.Reward.{IsRewardBounds};
 ghost use Rattle.mdp_search_bounds.specs.Held.{HasRewardSizes, IsHeldReward};
 
+use crate::gap::Gap;
+use crate::ladder::{Search, bounds_by};
 use crate::reward_trivial::trivial_reward;
 use crate::simplest::simplest_rewards_of;
 use mdp_bounds::{RewardBoundsCert, holds_bounds_reward, reward_bounds_at_state};
 use mdp_claims::Verdict;
-use mdp_ladder::{Search, bounds_by, listed, most_lacking_rewards, numbers};
-use mdp_near_reward::{NearReward, near_reward};
 use mdp_num::Memory;
+use mdp_proposals::{listed, numbers};
 use mdp_reward::solve_reward;
+use mdp_reward_search::{ProposedReward, propose_reward};
 use mdp_rows::{Dir, Marks, Model};
 use mdp_wide::Unfinished;
 use std::alloc::Global;
@@ -29,7 +31,7 @@ struct Earning<'m, 'g> {
 }
 
 impl Search for Earning<'_, '_> {
-    type Near = NearReward;
+    type Proposal = ProposedReward;
 
     type Cert = RewardBoundsCert;
 
@@ -41,11 +43,11 @@ impl Search for Earning<'_, '_> {
         self.model
     }
 
-    fn near(&self, alloc: Global, digits: u32) -> Result<NearReward, Memory> {
-        near_reward(alloc, self.model, self.name, self.goals, self.dir, digits)
+    fn propose(&self, alloc: Global, digits: u32) -> Result<ProposedReward, Memory> {
+        propose_reward(alloc, self.model, self.name, self.goals, self.dir, digits)
     }
 
-    fn proposed(&self, alloc: Global, near: &NearReward) -> Result<RewardBoundsCert, Memory> {
+    fn proposed(&self, alloc: Global, near: &ProposedReward) -> Result<RewardBoundsCert, Memory> {
         let states = self.model.states();
         Ok(RewardBoundsCert {
             lower: listed(alloc, states, &near.lower)?,
@@ -58,7 +60,7 @@ impl Search for Earning<'_, '_> {
     fn simplest(
         &self,
         alloc: Global,
-        near: &NearReward,
+        near: &ProposedReward,
         is_sought: &[bool],
     ) -> Result<RewardBoundsCert, Memory> {
         let exact = simplest_rewards_of(alloc, self.model, near, is_sought)?;
@@ -104,8 +106,8 @@ impl Search for Earning<'_, '_> {
         }
     }
 
-    fn lacking(&self, cert: &RewardBoundsCert, digits: u32) -> u32 {
-        most_lacking_rewards(&cert.lower, &cert.upper, digits)
+    fn gap(&self, cert: &RewardBoundsCert) -> Gap {
+        Gap::between(&cert.lower, &cert.upper)
     }
 
     fn trivial(&self, alloc: Global) -> Result<RewardBoundsCert, Memory> {
@@ -114,8 +116,9 @@ impl Search for Earning<'_, '_> {
 }
 
 /// Bounds of the greatest or the least reward of the name of place `name` until a goal, in units of that reward, with a policy and ranks: exact values,
-/// where the simplest fractions between the bounds that the search proposes, with so many digits or with the most, are such; else these bounds, with so
-/// many digits, with more where they aren't as near, or with fewer; else 0 and infinite. They always meet the rules. An `Err` is want of memory.
+/// where the simplest fractions between the bounds that the search proposes are such; else these bounds, in as few digits as come as near as `digits`
+/// say: at most 10^-`digits` apart, or that times an upper value above 1; where none do, the exact answer, if it isn't too wide; else what was found, at
+/// last 0 and infinite. They always meet the rules. An `Err` is want of memory.
 pub fn bounds_reward(
     alloc: Global,
     model: &Model,

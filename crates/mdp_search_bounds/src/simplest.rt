@@ -4,11 +4,11 @@ ghost use Rattle.std.specs.Prelude.{IfOk};
 ghost use Rattle.mdp_search_bounds.specs.Held.{HasReachSizes, HasRewardSizes, HasMeanSizes};
 
 use mdp_bounds::{MeanBoundsCert, ReachBoundsCert, RewardBoundsCert};
-use mdp_ladder::{all_capped, numbers, simplest_near_values, simplest_rewards, simplest_values};
-use mdp_near::NearReach;
-use mdp_near_mean::NearMean;
-use mdp_near_reward::NearReward;
+use mdp_mean_search::ProposedMean;
 use mdp_num::Frac;
+use mdp_proposals::{all_capped, numbers, simplest_near_values, simplest_rewards, simplest_values};
+use mdp_reach_search::ProposedReach;
+use mdp_reward_search::ProposedReward;
 use mdp_rows::Model;
 use std::alloc::{AllocError, Global};
 use std::cmp::Ordering;
@@ -18,7 +18,7 @@ use std::cmp::Ordering;
 pub(crate) fn simplest_reach(
     alloc: Global,
     model: &Model,
-    near: &NearReach,
+    near: &ProposedReach,
     is_sought: &[bool],
 ) -> Result<ReachBoundsCert, AllocError>
     ensures { IfOk result (HasReachSizes model.now) }
@@ -41,7 +41,7 @@ pub(crate) fn simplest_reach(
 pub(crate) fn simplest_rewards_of(
     alloc: Global,
     model: &Model,
-    near: &NearReward,
+    near: &ProposedReward,
     is_sought: &[bool],
 ) -> Result<RewardBoundsCert, AllocError>
     ensures { IfOk result (HasRewardSizes model.now) }
@@ -89,7 +89,7 @@ fn spread_of(bound: &[Frac], bias: &[Frac]) -> Option<Frac> {
 pub(crate) fn simplest_mean(
     alloc: Global,
     model: &Model,
-    near: &NearMean,
+    near: &ProposedMean,
     is_sought: &[bool],
 ) -> Result<MeanBoundsCert, AllocError>
     ensures { IfOk result (HasMeanSizes model.now) }

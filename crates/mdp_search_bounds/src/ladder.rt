@@ -1,0 +1,278 @@
+//! The order in which bounds are tried until the rules say yes: one for every objective.
+
+ghost use Rattle.std.specs.Prelude.{◌≡◌, true, IfOk, IfSome};
+
+use crate::few::{Few, all_flags};
+use crate::gap::Gap;
+use mdp_num::Memory;
+use mdp_proposals::MOST_DIGITS;
+use mdp_rows::Model;
+use std::alloc::Global;
+
+/// How many digits more than were asked for are tried where bounds with the most digits aren't near enough: values have less room before the point with these.
+const SPARE_DIGITS: u32 = 6;
+
+/// The numbers of digits that are tried where more of them came to nothing that meets the rules.
+const FEWER_DIGITS: [u32; 5] = [12, 9, 6, 3, 0];
+
+/// A search for bounds of one model, under one objective and direction.
+pub(crate) trait Search {
+    /// What the search proposes.
+    type Proposal: Drop;
+
+    /// A certificate of such bounds.
+    type Cert: Drop;
+
+    // The certificate has one item of each list for each state.
+    ghost is_sized: { Self → Self.Cert → Type 0 };
+
+    // The certificate has, and meets the rules.
+    ghost is_held: { Self → Self.Cert → Type 0 };
+
+    /// The model.
+    fn model(&self) -> &Model;
+
+    /// What the search proposes with so many digits.
+    fn propose(&self, alloc: Global, digits: u32) -> Result<Self::Proposal, Memory>;
+
+    /// The bounds that it proposed.
+    fn proposed(&self, alloc: Global, near: &Self::Proposal) -> Result<Self::Cert, Memory>
+        ensures { IfOk result (is_sized self.now) };
+
+    /// The simplest fractions between the bounds that it proposed, as exact values, at the flagged states.
+    fn simplest(
+        &self,
+        alloc: Global,
+        near: &Self::Proposal,
+        is_sought: &[bool],
+    ) -> Result<Self::Cert, Memory>
+        ensures { IfOk result (is_sized self.now) };
+
+    /// Whether the rules say yes to a certificate at a state, or there is no such state.
+    fn holds_at(&self, cert: &Self::Cert, s: u32) -> bool
+        requires { is_sized self.now cert.now };
+
+    /// Whether the rules say yes to a certificate.
+    fn holds(&self, cert: &Self::Cert) -> bool
+        requires { is_sized self.now cert.now }
+        ensures { result ≡ true → is_held self.now cert.now };
+
+    /// The exact answer, as a lower and an upper value that are the same, if its search comes to no term past width.
+    fn exact(&self, alloc: Global) -> Result<Option<Self::Cert>, Memory>
+        ensures { IfOk result (λ found. IfSome found (is_sized self.now)) };
+
+    /// How near the bounds of a certificate are.
+    fn gap(&self, cert: &Self::Cert) -> Gap;
+
+    /// The bounds that say nothing. The rules say yes to them.
+    fn trivial(&self, alloc: Global) -> Result<Self::Cert, Memory>
+        ensures { IfOk result (is_held self.now) };
+}
+
+/// A certificate, where the rules say yes to it.
+fn held<S: Search>(search: &S, cert: S::Cert) -> Option<S::Cert>
+    requires { S.is_sized search.now cert }
+    ensures { IfSome result (S.is_held search.now) }
+{
+    if search.holds(&cert) {
+        Some(cert)
+    } else {
+        None
+    }
+}
+
+/// Whether the rules say yes to a certificate at each of these states.
+fn holds_at_each<S: Search>(search: &S, cert: &S::Cert, states: &[u32]) -> bool
+    requires { S.is_sized search.now cert.now }
+{
+    for s in states {
+        if !search.holds_at(cert, *s) {
+            return false;
+        }
+    }
+    true
+}
+
+/// The simplest fractions between the bounds that the search proposed, as exact values, where the rules say yes to them: first at a few states.
+fn held_exact<S: Search>(
+    alloc: Global,
+    search: &S,
+    near: &S::Proposal,
+) -> Result<Option<S::Cert>, Memory>
+    ensures { IfOk result (λ found. IfSome found (S.is_held search.now)) }
+{
+    let few = Few::of(alloc, search.model())?;
+    let first = search.simplest(alloc, near, &few.is_needed)?;
+    if !holds_at_each(search, &first, &few.states) {
+        return Ok(None);
+    }
+    let all = all_flags(alloc, search.model())?;
+    let exact = search.simplest(alloc, near, &all)?;
+    Ok(held(search, exact))
+}
+
+/// The bounds that the search proposed, where the rules say yes to them.
+fn held_proposed<S: Search>(
+    alloc: Global,
+    search: &S,
+    near: &S::Proposal,
+) -> Result<Option<S::Cert>, Memory>
+    ensures { IfOk result (λ found. IfSome found (S.is_held search.now)) }
+{
+    let cert = search.proposed(alloc, near)?;
+    Ok(held(search, cert))
+}
+
+/// What the search proposes with so many digits, where the rules say yes to it: first the simplest fractions between its bounds, as exact values.
+fn held_near<S: Search>(alloc: Global, search: &S, digits: u32) -> Result<Option<S::Cert>, Memory>
+    ensures { IfOk result (λ found. IfSome found (S.is_held search.now)) }
+{
+    let near = search.propose(alloc, digits)?;
+    if let Some(exact) = held_exact(alloc, search, &near)? {
+        return Ok(Some(exact));
+    }
+    held_proposed(alloc, search, &near)
+}
+
+/// How near the bounds of a certificate are, if there is one.
+fn gap_of<S: Search>(search: &S, cert: &Option<S::Cert>) -> Gap {
+    match cert {
+        Some(cert) => search.gap(cert),
+        None => Gap::WIDEST,
+    }
+}
+
+/// What the search proposes with so many digits, where the rules say yes to it and it is nearer than others.
+fn held_nearer<S: Search>(
+    alloc: Global,
+    search: &S,
+    digits: u32,
+    others: Gap,
+) -> Result<Option<S::Cert>, Memory>
+    ensures { IfOk result (λ found. IfSome found (S.is_held search.now)) }
+{
+    let cert = held_near(alloc, search, digits)?;
+    if gap_of(search, &cert).is_nearer(others) {
+        return Ok(cert);
+    }
+    Ok(None)
+}
+
+/// Bounds in as few digits as come as near as `digits` say, where the rules say yes to them. `fine` is the gap of those with the most.
+fn held_short<S: Search>(
+    alloc: Global,
+    search: &S,
+    fine: Gap,
+    digits: u32,
+) -> Result<Option<S::Cert>, Memory>
+    ensures { IfOk result (λ found. IfSome found (S.is_held search.now)) }
+{
+    let enough = fine.enough(digits);
+    if !fine.is_near(digits) || enough >= MOST_DIGITS {
+        return Ok(None);
+    }
+    let near = search.propose(alloc, enough)?;
+    let short = held_proposed(alloc, search, &near)?;
+    if gap_of(search, &short).is_near(digits) {
+        return Ok(short);
+    }
+    Ok(None)
+}
+
+/// What the search finds with the most digits, where the rules say yes to it: exact values, where the simplest fractions between its bounds are such; else its
+/// bounds, in fewer digits where these come as near as `digits` say.
+fn held_with_most<S: Search>(
+    alloc: Global,
+    search: &S,
+    digits: u32,
+) -> Result<Option<S::Cert>, Memory>
+    ensures { IfOk result (λ found. IfSome found (S.is_held search.now)) }
+{
+    let most = search.propose(alloc, MOST_DIGITS)?;
+    if let Some(exact) = held_exact(alloc, search, &most)? {
+        return Ok(Some(exact));
+    }
+    let fine = search.proposed(alloc, &most)?;
+    drop(most);
+    if let Some(short) = held_short(alloc, search, search.gap(&fine), digits)? {
+        return Ok(Some(short));
+    }
+    Ok(held(search, fine))
+}
+
+/// Bounds with fewer digits than the most, where the rules say yes to them and they are nearer than those that were found.
+fn held_between<S: Search>(
+    alloc: Global,
+    search: &S,
+    others: Gap,
+    digits: u32,
+) -> Result<Option<S::Cert>, Memory>
+    ensures { IfOk result (λ found. IfSome found (S.is_held search.now)) }
+{
+    let between = digits.saturating_add(SPARE_DIGITS);
+    if between >= MOST_DIGITS {
+        return Ok(None);
+    }
+    held_nearer(alloc, search, between, others)
+}
+
+/// What the search finds, where the rules say yes to it: with the most digits, or with fewer where these aren't as near as `digits` say and fewer are nearer.
+fn held_found<S: Search>(alloc: Global, search: &S, digits: u32) -> Result<Option<S::Cert>, Memory>
+    ensures { IfOk result (λ found. IfSome found (S.is_held search.now)) }
+{
+    let found = held_with_most(alloc, search, digits)?;
+    let gap = gap_of(search, &found);
+    if gap.is_near(digits) {
+        return Ok(found);
+    }
+    match held_between(alloc, search, gap, digits)? {
+        Some(nearer) => Ok(Some(nearer)),
+        None => Ok(found),
+    }
+}
+
+/// What the search proposes with few digits, the most of them for which the rules say yes to it.
+fn held_with_fewer<S: Search>(alloc: Global, search: &S) -> Result<Option<S::Cert>, Memory>
+    ensures { IfOk result (λ found. IfSome found (S.is_held search.now)) }
+{
+    for fewer in FEWER_DIGITS {
+        if let Some(cert) = held_near(alloc, search, fewer)? {
+            return Ok(Some(cert));
+        }
+    }
+    Ok(None)
+}
+
+/// The exact answer, where the rules say yes to it.
+fn held_answer<S: Search>(alloc: Global, search: &S) -> Result<Option<S::Cert>, Memory>
+    ensures { IfOk result (λ found. IfSome found (S.is_held search.now)) }
+{
+    match search.exact(alloc)? {
+        Some(cert) => Ok(held(search, cert)),
+        None => Ok(None),
+    }
+}
+
+/// Bounds that meet the rules: what the search finds, where that is as near as so many digits say; else the exact answer, if it isn't too wide; else what the
+/// search found, or finds with fewer digits; else the bounds that say nothing.
+pub(crate) fn bounds_by<S: Search>(
+    alloc: Global,
+    search: &S,
+    digits: u32,
+) -> Result<S::Cert, Memory>
+    ensures { IfOk result (S.is_held search.now) }
+{
+    let found = held_found(alloc, search, digits)?;
+    if !gap_of(search, &found).is_near(digits) {
+        if let Some(answer) = held_answer(alloc, search)? {
+            return Ok(answer);
+        }
+    }
+    if let Some(cert) = found {
+        return Ok(cert);
+    }
+    match held_with_fewer(alloc, search)? {
+        Some(cert) => Ok(cert),
+        None => search.trivial(alloc),
+    }
+}
