@@ -35,14 +35,14 @@ def step(counter, process, bound):
 
 
 def choices(state, bound):
-    """The name of each choice with its entries: the processes that may make a step, or a rest where all have decided."""
+    """Each choice, with its name, its reward and its entries: the processes that may make a step, or a rest where all have decided."""
     counter, processes = state
     for i, process in enumerate(processes):
         if process not in DECIDED:
             after = step(counter, process, bound)
-            yield f"process-{i + 1}", [(value, (to, processes[:i] + (now,) + processes[i + 1:])) for value, to, now in after]
+            yield f"process-{i + 1}", [1], [((to, processes[:i] + (now,) + processes[i + 1:]), value) for value, to, now in after]
     if all(process in DECIDED for process in processes):
-        yield "rest", [("1", state)]
+        yield "rest", [0], [(state, "1")]
 
 
 def labels(state):
@@ -57,22 +57,7 @@ def main():
         print(__doc__)
         return
     processes, bound = int(sys.argv[1]), int(sys.argv[1]) * int(sys.argv[2])
-    states = [(0, (FLIP,) * processes)]
-    numbers = {states[0]: 0}
-    lines = []
-    for state in states:
-        marks = ["init"] * (state == states[0]) + labels(state)
-        lines.append(drn.state_line(numbers[state], marks))
-        for name, entries in choices(state, bound):
-            row = []
-            for value, target in entries:
-                if target not in numbers:
-                    numbers[target] = len(states)
-                    states.append(target)
-                row.append((numbers[target], value))
-            lines += drn.choice_lines(row, name, [int(name != "rest")])
-    actions = sum(line.startswith("action") for line in lines)
-    print(*drn.head(["steps"], len(states), actions), sep="\n")
+    lines = drn.explored(["steps"], (0, (FLIP,) * processes), labels, lambda state: choices(state, bound))
     print(*lines, sep="\n")
 
 

@@ -409,7 +409,7 @@ def near_enough(options, states):
         pairs = [(answer.lower[s], answer.upper[s]) for s in states]
         if options.relative:
             return all(low == high or 0 < low and gap(low, high) * 10**options.relative <= low for low, high in pairs)
-        return all(gap(low, high) * 10**options.digits <= 1 for low, high in pairs if gap(low, high) < math.inf)
+        return all(certificates.width(low, high) * 10**options.digits <= 1 for low, high in pairs if gap(low, high) < math.inf)
 
     return is_enough
 

@@ -39,6 +39,13 @@ def number(word):
     return INFINITE[word] if word in INFINITE else Fraction(word)
 
 
+def width(low, high):
+    """How far apart two values are, over the magnitude of the upper one where that is above 1: what DIGITS speaks of."""
+    if low == high:
+        return Fraction(0)
+    return math.inf if math.inf in (abs(low), abs(high)) else (high - low) / max(1, abs(high))
+
+
 def place_of(name, words):
     """From which state, or number of steps, to which one a line speaks, and what it says of them."""
     ends = 2 if name == "run" else 1

@@ -219,6 +219,23 @@ def text_of(model):
     return "".join(line + "\n" for line in lines_to_write(model))
 
 
+def explored(names, start, labels, choices):
+    """The lines of the model of all states to which a first one leads, numbered as they are found; the first one has the label `init` more. `labels` gives
+    the labels of a state, `choices` its choices: of each the name, the rewards, and the entries, each a state and its probability."""
+    states, numbers, lines, actions = [start], {start: 0}, [], 0
+    for state in states:
+        lines.append(state_line(numbers[state], ["init"] * (state == start) + labels(state)))
+        for name, rewards, entries in choices(state):
+            actions += 1
+            for target, _ in entries:
+                if target not in numbers:
+                    numbers[target] = len(states)
+                    states.append(target)
+            lines += choice_lines([(numbers[target], value) for target, value in entries], name, rewards)
+    yield from head(names, len(states), actions)
+    yield from lines
+
+
 def write(path, lines):
     """Writes lines to a file, each with its line feed."""
     with open(path, "w", encoding="utf-8") as file:

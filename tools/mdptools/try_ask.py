@@ -505,6 +505,8 @@ def is_over(files, seconds=10):
 
 def try_break(folder):
     """A break by the user ends bin/ask with 130, and all that it started."""
+    # Behind `&` a shell has a script ignore breaks, and what the script starts would ignore them too.
+    signal.signal(signal.SIGINT, signal.default_int_handler)
     solver = pathlib.Path(folder) / "sleeps"
     solver.write_text(SLEEPS.format(folder))
     solver.chmod(0o755)
@@ -516,7 +518,11 @@ def try_break(folder):
             time.sleep(0.05)
         time.sleep(0.2)
         started.send_signal(signal.SIGINT)
-        _, said = started.communicate(timeout=30)
+        try:
+            _, said = started.communicate(timeout=30)
+        except subprocess.TimeoutExpired:
+            started.kill()
+            _, said = started.communicate()
     if started.returncode != 130 or b"broken off" not in said:
         yield f"a break: status {started.returncode}, {said}"
     if not is_over([f"{folder}/pid", f"{folder}/child"]):
