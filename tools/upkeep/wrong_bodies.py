@@ -115,12 +115,30 @@ def function_at(text, place):
     return before[-1] if before else ""
 
 
+def functions_of(text):
+    """The functions of a source, as the prover names them behind the module: a method behind its type, which has the name of its trait and of that one's
+    types at its end."""
+    found, owner = set(), ""
+    for line in text.split("\n"):
+        head = re.match(r"impl(?:<.*?>)? (?:(\w+)(<.*?>)? for )?(\w+)", line)
+        function = re.match(r" *(?:pub(?:\([a-z]+\))? )?(?:const )?fn (\w+)", line)
+        if head:
+            owner = "".join([head[3], head[1] or "", *re.findall(r"\b[A-Z]\w*", head[2] or "")]) + "::"
+        elif function:
+            found.add(owner + function[1])
+        elif line == "}":
+            owner = ""
+    return found
+
+
 def wrong_with(body, lines):
     """What is wrong with an entry, or nothing."""
     if body.crate not in lines or not body.path().is_file():
         yield f"there is no file {body.path().relative_to(TOP)}"
         return
     text = body.path().read_text()
+    if body.function.split("::", 1)[-1] not in functions_of(text):
+        yield f"there is no function {body.function} in {body.path().relative_to(TOP)}"
     for old, new in body.edits:
         if text.count(old) != 1:
             yield f"its old text stands {text.count(old)} times in {body.path().relative_to(TOP)}: {old}"

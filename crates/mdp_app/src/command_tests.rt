@@ -121,6 +121,13 @@ fn works_until(alloc: Global) -> bool {
         )
 }
 
+/// Each state keeps the choice of the policy alone.
+fn keeps_a_policy(alloc: Global) -> bool {
+    let chain =
+        "@type: MDP\n@parameters\n\n@reward_models\n\n@nr_states\n3\n@nr_choices\n3\n@model\nstate 0 [0] \"init\"\n\taction 0 [0]\n\t\t1 : 1/3\n\t\t2 : 2/3\nstate 1 ";
+    writes(alloc, "chain M exact P", COIN, COIN_POLICY, chain)
+}
+
 /// With no step the goal isn't reached.
 fn draws_a_curve(alloc: Global) -> bool {
     let curve = "mdp-curve 1\nclaim max until \"-\" \"goal\"\ninit 0\nsteps 2\nstep 0 0 0\n";
@@ -134,6 +141,7 @@ fn works_on_the_coin(rt: HostRuntime) {
     assert!(rt; solves_the_coin(alloc) && finds_subsystems(alloc));
     assert!(rt; accepts(alloc) && bounds_the_coin(alloc) && works_otherwise(alloc));
     assert!(rt; solves_until(alloc) && works_until(alloc) && draws_a_curve(alloc));
+    assert!(rt; keeps_a_policy(alloc));
 }
 
 /// Whether a command on the model with rewards writes a text that begins so.
@@ -154,6 +162,13 @@ fn solves_means(alloc: Global) -> bool {
     let least = "mdp-certificate 2\nclaim min mean \"cost\"\nstates 2\ninit 0 1\n";
     pays(alloc, "solve M exact max mean cost", most)
         && pays(alloc, "solve M exact min mean cost", least)
+}
+
+fn bounds_rewards(alloc: Global) -> bool {
+    let reward = "mdp-bounds 1\nclaim min reward \"cost\" \"goal\"\nstates 2\ninit 0 ";
+    let mean = "mdp-bounds 1\nclaim max mean \"cost\"\nstates 2\ninit 0 ";
+    pays(alloc, "bounds M exact min reward cost goal 6", reward)
+        && pays(alloc, "bounds M exact max mean cost 6", mean)
 }
 
 fn earns_within_steps(alloc: Global) -> bool {
@@ -179,7 +194,7 @@ fn discounts(alloc: Global) -> bool {
 #[test]
 fn works_on_rewards(rt: HostRuntime) {
     let alloc = rt.alloc();
-    assert!(rt; solves_rewards(alloc) && solves_means(alloc));
+    assert!(rt; solves_rewards(alloc) && solves_means(alloc) && bounds_rewards(alloc));
     assert!(rt; earns_within_steps(alloc) && discounts(alloc));
 }
 

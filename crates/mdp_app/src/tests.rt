@@ -1,11 +1,11 @@
 //! What the rows in data/ can't say: pieces, faults and stores.
 
+use crate::opened;
 use crate::run::{run, run_on_files};
-use mdp_edge::{ListSink, ListSource, Source, StdSource};
+use mdp_edge::{ListSink, ListSource, Source};
 use mdp_job::Status;
 use std::alloc::{AllocError, Global};
 use std::fs;
-use std::fs::File;
 use std::test::Fail;
 
 /// 0 init: [0 1] [1 1/3, 2 2/3]; 1 goal: [1 1]; 2: [2 1]
@@ -172,9 +172,10 @@ fn answers_write_faults(rt: HostRuntime) {
     assert!(rt; write_faults(alloc, 3, 16, &[], "yes"));
 }
 
-/// How a check ends on the files that these open, and a sink.
+/// How a command ends on the files that these open, and a sink.
 fn ended_on_files<F: Source + Drop, M: FnOnce(&str) -> F, O: FnOnce(&str) -> F>(
     alloc: Global,
+    command: &str,
     open_model: M,
     open_second: O,
     out: &mut ListSink,
@@ -182,15 +183,16 @@ fn ended_on_files<F: Source + Drop, M: FnOnce(&str) -> F, O: FnOnce(&str) -> F>(
     requires model { M.IsAlwaysCallable open_model }
     requires second { O.IsAlwaysCallable open_second }
 {
-    let Ok(words) = words_of(alloc, CHECK) else {
+    let Ok(words) = words_of(alloc, command) else {
         return None;
     };
     Some(run_on_files(alloc, &words, open_model, open_second, out))
 }
 
-/// Whether a check ends so on the files that these open, and what it writes.
+/// Whether a command ends so on the files that these open, and what it writes.
 fn files_end<F: Source + Drop, M: FnOnce(&str) -> F, O: FnOnce(&str) -> F>(
     alloc: Global,
+    command: &str,
     open_model: M,
     open_second: O,
     status: Status,
@@ -202,23 +204,24 @@ fn files_end<F: Source + Drop, M: FnOnce(&str) -> F, O: FnOnce(&str) -> F>(
     let Ok(mut out) = sink(alloc, &ROOM) else {
         return false;
     };
-    let Some(end) = ended_on_files(alloc, open_model, open_second, &mut out) else {
+    let Some(end) = ended_on_files(alloc, command, open_model, open_second, &mut out) else {
         return false;
     };
     end.code() == status.code() && out.bytes() == taken
 }
 
-/// The files that the words name, opened and read through the adapters over std.
+/// The files that the words name, opened as `main` opens them.
 #[test]
 fn opens_files(rt: HostRuntime) -> Result<(), Fail> {
     fs::write(&rt, "MODEL", COIN.as_bytes())?;
     fs::write(&rt, "CERT", UPPER.as_bytes())?;
-    let open = |path: &str| StdSource::new(File::open(&rt, path).ok());
-    assert!(rt; files_end(rt.alloc(), open, open, Status::Done, b"yes\n"));
+    let open = |path: &str| opened(&rt, path, Some(1));
+    assert!(rt; files_end(rt.alloc(), CHECK, open, open, Status::Done, b"yes\n"));
     fs::remove_file(&rt, "MODEL")?;
     assert!(rt;
         files_end(
             rt.alloc(),
+            CHECK,
             open,
             open,
             Status::ReadFault,
@@ -227,4 +230,14 @@ fn opens_files(rt: HostRuntime) -> Result<(), Fail> {
     );
     fs::remove_file(&rt, "CERT")?;
     Ok(())
+}
+
+/// What `main` opens where no word names a file has ended: it has no byte, and reading it is no fault. `drill` needs no more.
+#[test]
+fn opens_what_has_ended(rt: HostRuntime) {
+    let open = |path: &str| opened(&rt, path, None);
+    let line = b"model line 1 end\n";
+    let drilled = b"drill 7 2 2 states 6 choices 10 value 1/2 yes\n";
+    assert!(rt; files_end(rt.alloc(), CHECK, open, open, Status::Model, line));
+    assert!(rt; files_end(rt.alloc(), "drill 7 2 2", open, open, Status::Done, drilled));
 }

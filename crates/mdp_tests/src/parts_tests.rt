@@ -6,7 +6,7 @@ use crate::models::model_of;
 use bumpalo::Bump;
 use mdp_num::Memory;
 use mdp_parts::{Allowed, Ends, components, end_components};
-use mdp_quot::Quotient;
+use mdp_quot::{Exit, Quotient};
 use mdp_rows::{Model, Row};
 use std::alloc::{AllocError, Global};
 
@@ -64,12 +64,17 @@ fn push_row(row: Row<'_>, out: &mut String) -> Result<(), AllocError> {
     Ok(())
 }
 
+/// Appends an exit of node `q`.
+fn push_exit(q: u32, exit: &Exit, out: &mut String) -> Result<(), AllocError> {
+    write!(out, ", node {q} by {}/{}:", exit.state, exit.choice)
+}
+
 /// Appends the exits of node `q` and their rows.
 fn push_exits(quotient: &Quotient<'_>, q: u32, out: &mut String) -> Result<(), AllocError>
     requires { q < length quotient.now.exits }
 {
     for (i, exit) in quotient.exits(q).iter().enumerate() {
-        write!(out, ", node {q} by {}/{}:", exit.state, exit.choice)?;
+        push_exit(q, exit, out)?;
         if let Ok(i) = u32::try_from(i) {
             push_row(quotient.row(q, i), out)?;
         }
