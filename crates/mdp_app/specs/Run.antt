@@ -2,20 +2,26 @@
 use Rattle.std.specs.{Prelude.{◌≡◌, ◌⊎◌, ℕ, List, Ok, Err, IsTrue, IsFalse}, Io.KnownBytes.{IsAtEnd}}
 use Rattle.mdp_drn.specs.FromSource.{HadLeft}
 use Rattle.mdp_edge.specs.Faults.{FaultCounted}
-use Rattle.mdp_job.specs.{Job.{Asked, reads_model, reads_second}, Refusal.{read_model, read_certificate, no_memory}, declared.status.Status.{Status}}
+use Rattle.mdp_job.specs.{Job.{Asked, reads_model, reads_second}, Refusal.{read_model, long_model, read_certificate, long_certificate, no_memory}, declared.status.Status.{Status}}
 use Rattle.mdp_job.specs.declared.status.Status.TheVariants.{Done, ReadFault, WriteFault, Memory}
 use Rattle.mdp_command.specs.{Read.{is_of_model}, Said.{Said}, Streams.{Input, HasFailed, IsStill, Told, Output}, Written.{WroteAll, Wrote}}
 use Rattle.mdp_app.specs.{Due.{IsDue, IsModelRead}, Shown.{IsShown}}
 
 -- ---- why an answer may come
 
--- it is due to the bytes that the sources had left, and neither failed
+-- the sources that the job reads were read to their ends, but one with too many bytes; behind a model that is refused the second one isn't read
+pub record AreReadToEnd (asked : Asked) (model second : Input) (said : Said) : Type 0 where
+  pub model_end : IsTrue (reads_model asked) → (said ≡ Err long_model) ⊎ IsAtEnd model.after
+  pub second_end : IsTrue (reads_second asked) → IsFalse (is_of_model said) → (said ≡ Err long_certificate) ⊎ IsAtEnd second.after
+
+-- it is due to the bytes that the sources had left, which were read to their ends, and neither failed
 pub record IsFromBytes (asked : Asked) (model second : Input) (said : Said) : Type 0 where
   pub model_bytes : List ℕ
   pub second_bytes : List ℕ
   pub had_model : HadLeft model.before model_bytes
   pub had_second : HadLeft second.before second_bytes
   pub is_due : IsDue asked model_bytes second_bytes said
+  pub ends : AreReadToEnd asked model second said
   pub model_still : IsStill model
   pub second_still : IsStill second
 
@@ -25,7 +31,7 @@ pub record ModelFailed (asked : Asked) (model : Input) (said : Said) : Type 0 wh
   pub fault : HasFailed model
   pub says : said ≡ Err read_model
 
--- the job reads the second source, and that failed, behind a model that was read
+-- the job reads the second source, and that failed, behind a model that was read to its end
 pub record SecondFailed (asked : Asked) (model second : Input) (said : Said) : Type 0 where
   pub reads : IsTrue (reads_second asked)
   pub fault : HasFailed second
@@ -33,6 +39,7 @@ pub record SecondFailed (asked : Asked) (model second : Input) (said : Said) : T
   pub model_bytes : List ℕ
   pub had_model : HadLeft model.before model_bytes
   pub model_read : IsModelRead asked model_bytes
+  pub model_end : IsAtEnd model.after
   pub model_still : IsStill model
 
 -- or memory is wanting

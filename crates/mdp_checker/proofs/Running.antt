@@ -1,5 +1,5 @@
 -- What a run answers, from what was decided and what was written.
-use Rattle.std.proofs.Common.{◌≡◌, ◌⊎◌, ℕ, inl, inr, List, Option, Some, None, Result, Ok, Err, OnOk, IsTrue, refl, sym, ap, subst, ◌∙◌}
+use Rattle.std.proofs.Common.{◌≡◌, ◌⊎◌, ℕ, inl, inr, List, Option, Some, None, Result, Ok, Err, OnOk, IsTrue, IsFalse, refl, sym, ap, subst, ◌∙◌}
 use Rattle.std.specs.Io.KnownBytes.{IsAtEnd}
 use Rattle.mdp_spec.specs.Mdp.{Mdp}
 use Rattle.mdp_rows.specs.declared.rule.RowRule.{RowRule}
@@ -7,8 +7,8 @@ use Rattle.mdp_rows.specs.Limits.{IsModel}
 use Rattle.mdp_drn.specs.{FromSource.{HadLeft}, Laws.{ReadsAsModel}}
 use Rattle.mdp_job.specs.{Refusal.{PlainRefusal, no_job, no_memory}, declared.status.Status.{Status}, declared.words_error.WordsError.{WordsError}}
 use Rattle.mdp_job.specs.declared.status.Status.TheVariants as status
-use Rattle.mdp_command.proofs.Statuses.{done_text, ends_as}
-use Rattle.mdp_command.specs.{Accepted.{IsTrueClaimBy}, Answered.{yes_text}, Files.{model_due, IsDueToModel}, Meaning.{ClaimsTruly}, Read.{is_of_model}}
+use Rattle.mdp_command.proofs.{Ends.{end_of_read, end_of_second}, Statuses.{done_text, ends_as}}
+use Rattle.mdp_command.specs.{Accepted.{IsTrueClaimBy}, Answered.{yes_text}, Files.{model_due, IsDueToModel}, Meaning.{ClaimsTruly}, Read.{IsModelReadToEnd, IsSecondReadToEnd, is_of_model}}
 use Rattle.mdp_command.specs.{Said.{Said, said_status}, Streams.{Input, Output}, Written.{WroteAll, Wrote, EndsWith}, CheckDue.{IsCheckDue}, Kinds.{checker_of}}
 use Rattle.mdp_command.specs.{Meanings.{kind_of, meaning_of}, CheckLaws.{YesIsAccepted}, CheckShown.{IsCheckRead}}
 use Rattle.mdp_command.specs.declared.kind.CertificateKind.{CertificateKind}
@@ -21,15 +21,17 @@ pub words_decided : (asked : Asked) (e : WordsError) (model cert : Input) → Er
 words_decided asked e model cert is no_model no_cert =
     subst (λ (x : Asked). IsDecided x model cert (Err (no_job e))) is (record { cause = record { says = inl refl; no_model = no_model; no_cert = no_cert }; ends = tt })
 
-both_ends : (said : Said) (P Q : Type 0) → OnOk said P → OnOk said Q → OnOk said (P × Q)
-both_ends (Ok text) P Q p q = (p, q)
-both_ends (Err r) P Q p q = tt
+both_ends : (said : Said) (model cert : Input) → IsModelReadToEnd model said → (IsFalse (is_of_model said) → IsSecondReadToEnd cert said) → OnOk said (IsAtEnd model.after × IsAtEnd cert.after)
+both_ends (Ok text) model cert model_end cert_end = (end_of_read _ _ model text model_end, end_of_second cert text (cert_end refl))
+both_ends (Err r) model cert model_end cert_end = tt
 
 pub check_decided : (asked : Asked) (rule : RowRule) (model cert : Input) (said : Said) → Ok rule ≡ asked → IsCheckRead None rule model cert said → (IsTrue (is_of_model said) → cert.same)
-    → OnOk said (IsAtEnd model.after) → OnOk said (IsAtEnd cert.after) → IsDecided asked model cert said
+    → IsModelReadToEnd model said → (IsFalse (is_of_model said) → IsSecondReadToEnd cert said) → IsDecided asked model cert said
 check_decided asked rule model cert said is read unread model_end cert_end =
-    subst (λ (x : Asked). IsDecided x model cert said) is
-    (record { cause = record { read = read; unread = unread }; ends = both_ends said (IsAtEnd model.after) (IsAtEnd cert.after) model_end cert_end })
+    subst (λ (x : Asked). IsDecided x model cert said) is (record {
+      cause = record { read = read; unread = unread; model_end = inr model_end; cert_end = cert_end };
+      ends = both_ends said model cert model_end cert_end;
+    })
 
 -- ---- what an accepted certificate means
 
@@ -79,7 +81,7 @@ claims_truly kept DiscountedBounds rule model cert t = record {
 
 module _ (model cert : Input) (out : Output) (ended : Status) where
   memory_cause : (asked : Asked) (said : Said) → HasCause asked model cert said → HasCause asked model cert (Err no_memory)
-  memory_cause (Ok rule) said cause = record { read = inr (inr (inr refl)); unread = λ h. cc }
+  memory_cause (Ok rule) said cause = record { read = inr (inr (inr refl)); unread = λ h. cc; model_end = inl refl; cert_end = λ h. inl refl }
   memory_cause (Err e) said cause = record { says = inr refl; no_model = cause.no_model; no_cert = cause.no_cert }
 
   pub answered : (asked : Asked) (said : Said) → IsDecided asked model cert said → EndsWith ended out said → IsAnswered asked model cert out ended

@@ -1,11 +1,11 @@
 -- What a run answers and why, and what is true where it says yes.
-use Rattle.std.specs.{Prelude.{◌≡◌, ◌⊎◌, ℕ, List, Some, None, Ok, Err, OnOk, IsTrue}, Io.KnownBytes.{IsAtEnd}}
+use Rattle.std.specs.{Prelude.{◌≡◌, ◌⊎◌, ℕ, List, Some, None, Ok, Err, OnOk, IsTrue, IsFalse}, Io.KnownBytes.{IsAtEnd}}
 use Rattle.mdp_rows.specs.declared.rule.RowRule.{RowRule}
 use Rattle.mdp_drn.specs.FromSource.{HadLeft}
 use Rattle.mdp_edge.specs.Faults.{FaultCounted}
 use Rattle.mdp_job.specs.{Refusal.{no_job, no_memory}, declared.status.Status.{Status}}
 use Rattle.mdp_job.specs.{declared.status.Status.TheVariants.{Done, ReadFault, WriteFault, Memory}, declared.words_error.WordsError.{WordsError}}
-use Rattle.mdp_command.specs.{Accepted.{AcceptedBy}, Answered.{yes_text}, Meaning.{ClaimsTruly}, Read.{is_of_model}, Said.{Said}}
+use Rattle.mdp_command.specs.{Accepted.{AcceptedBy}, Answered.{yes_text}, Meaning.{ClaimsTruly}, Read.{IsModelReadToEnd, IsSecondReadToEnd, is_of_model}, Said.{Said}}
 use Rattle.mdp_command.specs.{Streams.{Input, HasFailed, Output}, Written.{WroteAll, Wrote}, Kinds.{checker_of}, Meanings.{kind_of, meaning_of}}
 use Rattle.mdp_command.specs.CheckShown.{IsCheckRead}
 use Rattle.mdp_checker.specs.Words.{Asked}
@@ -19,10 +19,12 @@ pub record IsRefused (e : WordsError) (model cert : Input) (said : Said) : Type 
   pub no_cert : cert.same
 
 -- what is due to the bytes of the two sources, by the kind that the certificate's first line names; or a fault that was counted, or want of memory.
--- Where the model is refused, the certificate isn't read
+-- Where the model is refused, the certificate isn't read. What is read is read to its end, but for a fault, too many bytes and want of memory
 pub record IsChecked (rule : RowRule) (model cert : Input) (said : Said) : Type 0 where
   pub read : IsCheckRead None rule model cert said
   pub unread : IsTrue (is_of_model said) → cert.same
+  pub model_end : (said ≡ Err no_memory) ⊎ IsModelReadToEnd model said
+  pub cert_end : IsFalse (is_of_model said) → IsSecondReadToEnd cert said
 
 abbrev pub HasCause : Asked → Input → Input → Said → Type 0
 HasCause (Ok rule) model cert said = IsChecked rule model cert said

@@ -1,5 +1,6 @@
 pub mod FileBytes
 pub mod Working
+pub mod Ends
 pub mod Statuses
 pub mod HeadLengths
 pub mod TrueClaims

@@ -1,9 +1,9 @@
 -- What was made of the sources of a run, whatever the command.
-use Rattle.std.specs.Prelude.{◌≡◌, ◌⊎◌, Bool, true, false, List, ℕ, Option, Result, Err, IfOk, IsOk}
+use Rattle.std.specs.{Prelude.{◌≡◌, ◌⊎◌, Bool, true, false, List, ℕ, Option, Result, Err, IfOk, IsOk}, Io.KnownBytes.{IsAtEnd}}
 use Rattle.mdp_spec.specs.Mdp.{Mdp}
 use Rattle.mdp_rows.specs.declared.rule.RowRule.{RowRule}
 use Rattle.mdp_drn.specs.FromSource.{HadLeft}
-use Rattle.mdp_job.specs.Refusal.{PlainRefusal, model_text, read_model, long_model, read_certificate, no_memory}
+use Rattle.mdp_job.specs.Refusal.{PlainRefusal, model_text, read_model, long_model, read_certificate, long_certificate, no_memory}
 use Rattle.mdp_command.specs.{Files.{model_due, IsDueToModel}, Said.{Said}, Streams.{Input, HasFailed, IsStill}}
 
 -- ---- one source
@@ -27,6 +27,18 @@ pub record IsSaidOfBytes (told : Option (List ℕ)) (due : List ℕ → Said →
 -- a file, where this is due to its bytes; or a fault that was counted, or want of memory
 abbrev pub IsReadAs : Input → (List ℕ → Said → Type 0) → PlainRefusal → Said → Type 0
 IsReadAs file due fault said = (IsSaidOfBytes file.before due said × IsStill file) ⊎ (((said ≡ Err fault) × HasFailed file) ⊎ (said ≡ Err no_memory))
+
+-- a file was read to its end, but where it failed or had too many bytes
+abbrev pub IsReadToEnd : {A : Type 0} → PlainRefusal → PlainRefusal → Input → Result A PlainRefusal → Type 0
+IsReadToEnd fault long file result = ((result ≡ Err fault) × HasFailed file) ⊎ ((result ≡ Err long) ⊎ IsAtEnd file.after)
+
+-- the model's file
+abbrev pub IsModelReadToEnd : {A : Type 0} → Input → Result A PlainRefusal → Type 0
+IsModelReadToEnd model result = IsReadToEnd read_model long_model model result
+
+-- the second file, or memory was wanting
+abbrev pub IsSecondReadToEnd : Input → Said → Type 0
+IsSecondReadToEnd second said = (said ≡ Err no_memory) ⊎ IsReadToEnd read_certificate long_certificate second said
 
 -- ---- a command that reads the model alone
 

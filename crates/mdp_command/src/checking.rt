@@ -1,5 +1,5 @@
-ghost use Rattle.std.specs.Prelude.{◌≡◌, ◌⊎◌, false, Err, OnOk, IsTrue};
-ghost use Rattle.mdp_command.specs.{Prelude.{IsAtEnd, no_memory, read_certificate, said, input}, Accepted.{exact}, Read.{IsReadAs, is_of_model}};
+ghost use Rattle.std.specs.Prelude.{◌≡◌, ◌⊎◌, false, Err, IsTrue, IsFalse};
+ghost use Rattle.mdp_command.specs.{Prelude.{IsModelReadToEnd, IsSecondReadToEnd, no_memory, read_certificate, said, input}, Accepted.{exact}, Read.{IsReadAs, is_of_model}};
 ghost use Rattle.mdp_command.specs.{CheckDue.{said_to_text, IsCheckDue}, Kinds.{as_answer, discounted, between, discounted_between, checker_for}};
 ghost use Rattle.mdp_command.specs.CheckShown.{IsCheckRead};
 
@@ -93,7 +93,7 @@ fn of_source<C: Source>(
 ) -> Result<Vec<u8>, Refusal>
     ensures read { IsReadAs (input C.left C.faults second.old second.new) (IsCheckDue wanted model.now) read_certificate (said result) }
     ensures not_of_model { is_of_model (said result) ≡ false }
-    ensures end { OnOk (said result) (IsAtEnd (C.left second.new)) }
+    ensures end { IsSecondReadToEnd (input C.left C.faults second.old second.new) (said result) }
 {
     let bytes = read_second(alloc, second)?;
     of_text(alloc, wanted, model, &bytes)
@@ -110,8 +110,8 @@ pub fn check_files<S: Source, C: Source>(
 ) -> Result<Vec<u8>, Refusal>
     ensures read { IsCheckRead wanted rule (input S.left S.faults model.old model.new) (input C.left C.faults second.old second.new) (said result) }
     ensures unread { IsTrue (is_of_model (said result)) → second.new ≡ second.old }
-    ensures model_end { OnOk (said result) (IsAtEnd (S.left model.new)) }
-    ensures second_end { OnOk (said result) (IsAtEnd (C.left second.new)) }
+    ensures model_end { IsModelReadToEnd (input S.left S.faults model.old model.new) (said result) }
+    ensures second_end { IsFalse (is_of_model (said result)) → IsSecondReadToEnd (input C.left C.faults second.old second.new) (said result) }
 {
     check_law();
     let model = read_model(alloc, model, rule)?;

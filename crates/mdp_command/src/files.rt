@@ -1,7 +1,7 @@
-ghost use Rattle.std.specs.{Prelude.{◌≡◌, ◌⊎◌, Err, OnOk, IfOk}, Io.KnownBytes.{IsAtEnd}};
+ghost use Rattle.std.specs.Prelude.{◌≡◌, ◌⊎◌, Err, IfOk};
 ghost use Rattle.mdp_spec.specs.Row.{IsMdp};
 ghost use Rattle.mdp_job.specs.Refusal.{read_model, read_certificate};
-ghost use Rattle.mdp_command.specs.{Files.{model_due, second_due}, Read.{IsRead}, Said.{said, plain_error}, Streams.{input}};
+ghost use Rattle.mdp_command.specs.{Files.{model_due, second_due}, Read.{IsRead, IsModelReadToEnd, IsSecondReadToEnd}, Said.{said, plain_error}, Streams.{input}};
 
 use mdp_drn::{FromError, read_from};
 use mdp_edge::{InError, Source, read_all};
@@ -15,7 +15,7 @@ const MOST_BYTES: usize = 1 << 30;
 /// The model that a source's bytes read as. The source is read in pieces and to its end, also where the text is refused.
 pub fn read_model<S: Source>(alloc: Global, source: &mut S, rule: RowRule) -> Result<Model, Refusal>
     ensures read { IsRead (input S.left S.faults source.old source.new) (model_due rule) read_model (plain_error result) }
-    ensures end { OnOk result (IsAtEnd (S.left source.new)) }
+    ensures end { IsModelReadToEnd (input S.left S.faults source.old source.new) (plain_error result) }
     ensures mdp { IfOk result IsMdp }
 {
     match read_from(alloc, source, rule, MOST_BYTES) {
@@ -34,7 +34,7 @@ pub fn read_model<S: Source>(alloc: Global, source: &mut S, rule: RowRule) -> Re
 /// length are those of a certificate.
 pub fn read_second<S: Source>(alloc: Global, source: &mut S) -> Result<Vec<u8>, Refusal>
     ensures read { IsRead (input S.left S.faults source.old source.new) second_due read_certificate (said result) }
-    ensures end { OnOk result (IsAtEnd (S.left source.new)) }
+    ensures end { IsSecondReadToEnd (input S.left S.faults source.old source.new) (said result) }
 {
     match read_all(alloc, source, MOST_BYTES) {
         Ok(bytes) => Ok(bytes),

@@ -1,5 +1,5 @@
-ghost use Rattle.std.specs.Prelude.{◌≡◌, ◌⊎◌, Ok, Err, OnOk, IfOk};
-ghost use Rattle.mdp_command.specs.Prelude.{IsAtEnd, no_memory, said, input};
+ghost use Rattle.std.specs.Prelude.{◌≡◌, ◌⊎◌, Ok, Err, IfOk};
+ghost use Rattle.mdp_command.specs.Prelude.{IsModelReadToEnd, no_memory, said, input};
 ghost use Rattle.mdp_discount_rules.specs.Rules.{IsFactor};
 ghost use Rattle.mdp_discount_bounds.specs.Plain.{plain};
 ghost use Rattle.mdp_discount_text.specs.BoundsSpelling.{text_of};
@@ -69,7 +69,7 @@ pub fn bounds_discount_file<S: Source>(
 ) -> Result<Vec<u8>, Refusal>
     requires { IsFactor factor }
     ensures read { IsDiscountBoundsRead rule dir name.now factor (input S.left S.faults model.old model.new) (said result) }
-    ensures end { OnOk (said result) (IsAtEnd (S.left model.new)) }
+    ensures end { IsModelReadToEnd (input S.left S.faults model.old model.new) (said result) }
 {
     match read_model(alloc, model, rule) {
         Ok(model) => bounds_named(alloc, &model, dir, name, factor, digits),

@@ -1,5 +1,5 @@
-ghost use Rattle.std.specs.Prelude.{◌≡◌, ◌⊎◌, Ok, Err, OnOk, IfOk};
-ghost use Rattle.mdp_command.specs.Prelude.{IsAtEnd, plain_query, no_memory, said, input};
+ghost use Rattle.std.specs.Prelude.{◌≡◌, ◌⊎◌, Ok, Err, IfOk};
+ghost use Rattle.mdp_command.specs.Prelude.{IsModelReadToEnd, plain_query, no_memory, said, input};
 ghost use Rattle.mdp_cert.specs.{BoundsPlain.{plain}, BoundsSpelling.{text_of}};
 ghost use Rattle.mdp_command_bounds_search.specs.{Due.{claim_of, IsBoundsDue}, Shown.{IsBoundsPrinted, IsBoundsRead}};
 
@@ -61,7 +61,7 @@ pub fn bounds_file<S: Source>(
     model: &mut S,
 ) -> Result<Vec<u8>, Refusal>
     ensures read { IsBoundsRead rule dir (plain_query query.entry) (input S.left S.faults model.old model.new) (said result) }
-    ensures end { OnOk (said result) (IsAtEnd (S.left model.new)) }
+    ensures end { IsModelReadToEnd (input S.left S.faults model.old model.new) (said result) }
 {
     match read_model(alloc, model, rule) {
         Ok(model) => bounds_text(alloc, &model, dir, query, digits),

@@ -1,5 +1,5 @@
-ghost use Rattle.std.specs.Prelude.{◌≡◌, ◌⊎◌, ◌≤◌, ◌*◌, ◌^◌, length, true, replicate, Ok, Err, OnOk, IfOk};
-ghost use Rattle.mdp_command.specs.{Prelude.{IsAtEnd, no_memory, said, input}, Said.{plain_error}};
+ghost use Rattle.std.specs.Prelude.{◌≡◌, ◌⊎◌, ◌≤◌, ◌*◌, ◌^◌, length, true, replicate, Ok, Err, IfOk};
+ghost use Rattle.mdp_command.specs.{Prelude.{IsModelReadToEnd, no_memory, said, input}, Said.{plain_error}};
 ghost use Rattle.mdp_spec.specs.Mdp.{states_of};
 ghost use Rattle.mdp_horizon.specs.{Answer.{plain}, Spelling.{until_text}};
 ghost use Rattle.mdp_command_horizon.specs.Due.{states_with, states_that_stay, stay_word, said_of_marks, IsHorizonDue};
@@ -142,7 +142,7 @@ pub fn horizon_file<S: Source>(
     model: &mut S,
 ) -> Result<Vec<u8>, Refusal>
     ensures read { IsHorizonRead rule dir (names_of stay.entry) label.now steps (input S.left S.faults model.old model.new) (said result) }
-    ensures end { OnOk (said result) (IsAtEnd (S.left model.new)) }
+    ensures end { IsModelReadToEnd (input S.left S.faults model.old model.new) (said result) }
 {
     let asked = Asked {
         dir,

@@ -1,5 +1,5 @@
-ghost use Rattle.std.specs.Prelude.{◌≡◌, ◌⊎◌, ◌<◌, ◌≤◌, length, Ok, Err, OnOk};
-ghost use Rattle.mdp_command.specs.Prelude.{IsAtEnd, no_memory, said, input};
+ghost use Rattle.std.specs.Prelude.{◌≡◌, ◌⊎◌, ◌<◌, ◌≤◌, length, Ok, Err};
+ghost use Rattle.mdp_command.specs.Prelude.{IsModelReadToEnd, no_memory, said, input};
 ghost use Rattle.mdp_spec.specs.{Mdp.{states_of}, Labels.{initial_of}};
 ghost use Rattle.mdp_horizon.specs.Objective.Objective.{until as until_objective, total as total_objective};
 ghost use Rattle.mdp_horizon.specs.{CurveSpelling.{curve_text}, BoundsSpelling.{plain_claim}, BoundsSpelling.PlainClaim.{until as until_claim, total as total_claim}};
@@ -148,7 +148,7 @@ pub fn until_curve_file<S: Source>(
 ) -> Result<Vec<u8>, Refusal>
     requires { digits ≤ 30 }
     ensures read { IsUntilCurveRead rule dir (names_of stay.entry) label.now steps digits (input S.left S.faults model.old model.new) (said result) }
-    ensures end { OnOk (said result) (IsAtEnd (S.left model.new)) }
+    ensures end { IsModelReadToEnd (input S.left S.faults model.old model.new) (said result) }
 {
     let wanted = Wanted { dir, steps, digits };
     match read_model(alloc, model, rule) {
@@ -169,7 +169,7 @@ pub fn total_curve_file<S: Source>(
 ) -> Result<Vec<u8>, Refusal>
     requires { digits ≤ 30 }
     ensures read { IsTotalCurveRead rule dir name.now steps digits (input S.left S.faults model.old model.new) (said result) }
-    ensures end { OnOk (said result) (IsAtEnd (S.left model.new)) }
+    ensures end { IsModelReadToEnd (input S.left S.faults model.old model.new) (said result) }
 {
     let wanted = Wanted { dir, steps, digits };
     match read_model(alloc, model, rule) {

@@ -1,5 +1,5 @@
-ghost use Rattle.std.specs.Prelude.{◌≡◌, ◌⊎◌, ◌<◌, length, Ok, Err, OnOk, IfOk};
-ghost use Rattle.mdp_command.specs.Prelude.{IsAtEnd, no_memory, said, input};
+ghost use Rattle.std.specs.Prelude.{◌≡◌, ◌⊎◌, ◌<◌, length, Ok, Err, IfOk};
+ghost use Rattle.mdp_command.specs.Prelude.{IsModelReadToEnd, no_memory, said, input};
 ghost use Rattle.mdp_spec.specs.Mdp.{states_of};
 ghost use Rattle.mdp_horizon.specs.{Answer.{plain}, Spelling.{total_text}};
 ghost use Rattle.mdp_command_horizon.specs.{Due.{said_of_name, IsTotalDue}, Shown.{IsTotalPrinted, IsTotalRead}};
@@ -72,7 +72,7 @@ pub fn total_file<S: Source>(
     model: &mut S,
 ) -> Result<Vec<u8>, Refusal>
     ensures read { IsTotalRead rule dir name.now steps (input S.left S.faults model.old model.new) (said result) }
-    ensures end { OnOk (said result) (IsAtEnd (S.left model.new)) }
+    ensures end { IsModelReadToEnd (input S.left S.faults model.old model.new) (said result) }
 {
     let wanted = Wanted { dir, name, steps };
     match read_model(alloc, model, rule) {

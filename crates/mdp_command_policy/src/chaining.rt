@@ -1,5 +1,5 @@
-ghost use Rattle.std.specs.Prelude.{◌≡◌, ◌⊎◌, ◌==◌, length, false, Ok, Err, OnOk, IsTrue};
-ghost use Rattle.mdp_command.specs.{Prelude.{IsAtEnd, no_memory, read_certificate, said, input}, Read.{IsReadAs, is_of_model}};
+ghost use Rattle.std.specs.Prelude.{◌≡◌, ◌⊎◌, ◌==◌, length, false, Ok, Err, IsTrue, IsFalse};
+ghost use Rattle.mdp_command.specs.{Prelude.{IsModelReadToEnd, IsSecondReadToEnd, no_memory, read_certificate, said, input}, Read.{IsReadAs, is_of_model}};
 ghost use Rattle.mdp_spec.specs.Mdp.{states_of};
 ghost use Rattle.mdp_drn.specs.Writing.{text_of};
 ghost use Rattle.mdp_command_policy.specs.{ChainDue.{choices_in, IsSizeDue, IsTextDue, IsChainDue}, ChainShown.{IsChainRead}};
@@ -55,7 +55,7 @@ fn of_text(alloc: Global, model: &Model, bytes: &[u8]) -> Result<Vec<u8>, Refusa
 fn of_source<C: Source>(alloc: Global, model: &Model, second: &mut C) -> Result<Vec<u8>, Refusal>
     ensures read { IsReadAs (input C.left C.faults second.old second.new) (IsChainDue model.now) read_certificate (said result) }
     ensures not_of_model { is_of_model (said result) ≡ false }
-    ensures end { OnOk (said result) (IsAtEnd (C.left second.new)) }
+    ensures end { IsSecondReadToEnd (input C.left C.faults second.old second.new) (said result) }
 {
     match read_second(alloc, second) {
         Ok(bytes) => of_text(alloc, model, &bytes),
@@ -73,8 +73,8 @@ pub fn chain_file<S: Source, C: Source>(
 ) -> Result<Vec<u8>, Refusal>
     ensures read { IsChainRead rule (input S.left S.faults model.old model.new) (input C.left C.faults second.old second.new) (said result) }
     ensures unread { IsTrue (is_of_model (said result)) → second.new ≡ second.old }
-    ensures model_end { OnOk (said result) (IsAtEnd (S.left model.new)) }
-    ensures second_end { OnOk (said result) (IsAtEnd (C.left second.new)) }
+    ensures model_end { IsModelReadToEnd (input S.left S.faults model.old model.new) (said result) }
+    ensures second_end { IsFalse (is_of_model (said result)) → IsSecondReadToEnd (input C.left C.faults second.old second.new) (said result) }
 {
     command_chain_law();
     model_law();

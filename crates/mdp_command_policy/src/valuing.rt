@@ -1,5 +1,5 @@
-ghost use Rattle.std.specs.Prelude.{◌≡◌, ◌⊎◌, ◌==◌, length, option_copied, true, false, Ok, Err, OnOk, IfOk, IfSome, IsTrue};
-ghost use Rattle.mdp_command.specs.{Prelude.{IsAtEnd, no_memory, read_certificate, said, input}, Read.{IsReadAs, is_of_model}};
+ghost use Rattle.std.specs.Prelude.{◌≡◌, ◌⊎◌, ◌==◌, length, option_copied, true, false, Ok, Err, IfOk, IfSome, IsTrue, IsFalse};
+ghost use Rattle.mdp_command.specs.{Prelude.{IsModelReadToEnd, IsSecondReadToEnd, no_memory, read_certificate, said, input}, Read.{IsReadAs, is_of_model}};
 ghost use Rattle.mdp_spec.specs.{Mdp.{states_of}, Tree.{IsPolicy}};
 ghost use Rattle.mdp_policy.specs.{Answer.{plain}, Spelling.{value_text}, Text.{policy_outcome}};
 ghost use Rattle.mdp_command_policy.specs.{Due.{choices_or_refusal, TakesNoChoice, IsValueDue, IsSizeDue, IsTextDue, IsPolicyDue}, Shown.{IsPolicyRead}};
@@ -121,7 +121,7 @@ fn of_source<C: Source>(
 ) -> Result<Vec<u8>, Refusal>
     ensures read { IsReadAs (input C.left C.faults second.old second.new) (IsPolicyDue (option_copied stay.entry) label.now model.now) read_certificate (said result) }
     ensures not_of_model { is_of_model (said result) ≡ false }
-    ensures end { OnOk (said result) (IsAtEnd (C.left second.new)) }
+    ensures end { IsSecondReadToEnd (input C.left C.faults second.old second.new) (said result) }
 {
     match read_second(alloc, second) {
         Ok(bytes) => of_text(alloc, model, stay, label, &bytes),
@@ -142,8 +142,8 @@ pub fn policy_file<S: Source, C: Source>(
 ) -> Result<Vec<u8>, Refusal>
     ensures read { IsPolicyRead rule (option_copied stay.entry) label.now (input S.left S.faults model.old model.new) (input C.left C.faults second.old second.new) (said result) }
     ensures unread { IsTrue (is_of_model (said result)) → second.new ≡ second.old }
-    ensures model_end { OnOk (said result) (IsAtEnd (S.left model.new)) }
-    ensures second_end { OnOk (said result) (IsAtEnd (C.left second.new)) }
+    ensures model_end { IsModelReadToEnd (input S.left S.faults model.old model.new) (said result) }
+    ensures second_end { IsFalse (is_of_model (said result)) → IsSecondReadToEnd (input C.left C.faults second.old second.new) (said result) }
 {
     policy_law();
     match read_model(alloc, model, rule) {

@@ -1,5 +1,5 @@
-ghost use Rattle.std.specs.Prelude.{◌≡◌, ◌⊎◌, ◌<◌, Err, OnOk, IfOk};
-ghost use Rattle.mdp_command.specs.Prelude.{IsAtEnd, no_memory, said, input};
+ghost use Rattle.std.specs.Prelude.{◌≡◌, ◌⊎◌, ◌<◌, Err, IfOk};
+ghost use Rattle.mdp_command.specs.Prelude.{IsModelReadToEnd, no_memory, said, input};
 ghost use Rattle.mdp_discount_rules.specs.{Cert.{IsInitNarrow, Fits}, Plain.{plain}, Rules.{IsFactor}};
 ghost use Rattle.mdp_discount_text.specs.Spelling.{text_of};
 ghost use Rattle.mdp_command_solve.specs.{DiscountDue.{IsDiscountDue}, DiscountShown.{IsDiscountPrinted, IsDiscountRead}};
@@ -86,7 +86,7 @@ pub fn discount_file<S: Source>(
 ) -> Result<Vec<u8>, Refusal>
     requires { IsFactor factor }
     ensures read { IsDiscountRead rule dir name.now factor (input S.left S.faults model.old model.new) (said result) }
-    ensures end { OnOk (said result) (IsAtEnd (S.left model.new)) }
+    ensures end { IsModelReadToEnd (input S.left S.faults model.old model.new) (said result) }
 {
     match read_model(alloc, model, rule) {
         Ok(model) => solve_named(alloc, &model, dir, name, factor),

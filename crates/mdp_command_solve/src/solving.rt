@@ -1,5 +1,5 @@
-ghost use Rattle.std.specs.Prelude.{◌≡◌, ◌⊎◌, Err, OnOk, IfOk};
-ghost use Rattle.mdp_command.specs.Prelude.{IsAtEnd, plain_query, no_memory, said, input};
+ghost use Rattle.std.specs.Prelude.{◌≡◌, ◌⊎◌, Err, IfOk};
+ghost use Rattle.mdp_command.specs.Prelude.{IsModelReadToEnd, plain_query, no_memory, said, input};
 ghost use Rattle.mdp_command_solve.specs.{Due.{IsQueryDue}, Solved.{IsPrinted, IsSolveRead}};
 
 use crate::averaging::solve_payoff;
@@ -33,7 +33,7 @@ pub fn solve_file<S: Source>(
     model: &mut S,
 ) -> Result<Vec<u8>, Refusal>
     ensures read { IsSolveRead rule dir (plain_query query.entry) (input S.left S.faults model.old model.new) (said result) }
-    ensures end { OnOk (said result) (IsAtEnd (S.left model.new)) }
+    ensures end { IsModelReadToEnd (input S.left S.faults model.old model.new) (said result) }
 {
     match read_model(alloc, model, rule) {
         Ok(model) => solve_query(alloc, &model, dir, query),

@@ -1,5 +1,5 @@
-ghost use Rattle.std.specs.Prelude.{◌≡◌, ◌⊎◌, Some, Err, OnOk, IfOk, pos};
-ghost use Rattle.mdp_command.specs.Prelude.{IsAtEnd, no_memory, plain_refusal, said, input};
+ghost use Rattle.std.specs.Prelude.{◌≡◌, ◌⊎◌, Some, Err, IfOk, pos};
+ghost use Rattle.mdp_command.specs.Prelude.{IsModelReadToEnd, no_memory, plain_refusal, said, input};
 ghost use Rattle.mdp_math.specs.Rational.{◌≤ℚ◌, of_int};
 ghost use Rattle.mdp_spec.specs.Labels.{marks_of, initial_of};
 ghost use Rattle.mdp_check.specs.Check.{way_by};
@@ -128,7 +128,7 @@ pub fn witness_file<S: Source>(
 ) -> Result<Vec<u8>, Refusal>
     requires { of_int (pos 0) ≤ℚ threshold }
     ensures read { IsWitnessRead rule dir (name_of stay.entry) label.now threshold (input S.left S.faults model.old model.new) (said result) }
-    ensures end { OnOk (said result) (IsAtEnd (S.left model.new)) }
+    ensures end { IsModelReadToEnd (input S.left S.faults model.old model.new) (said result) }
 {
     let asked = Asked {
         dir,
