@@ -99,7 +99,7 @@ floor_shape m states kept wide values ranks size fits =
 -- ---- the initial state
 
 -- rule 1 holds only where the line has the value, and names the model's one initial state
-state_yes : (s : ℕ) (initial : Option ℕ) (valued : Bool) → state_check s initial valued ≡ verdict.Yes → (initial ≡ Some s) × (valued ≡ true)
+pub state_yes : (s : ℕ) (initial : Option ℕ) (valued : Bool) → state_check s initial valued ≡ verdict.Yes → (initial ≡ Some s) × (valued ≡ true)
 state_yes s None valued e = cc e
 state_yes s (Some t) valued e = by (eqb s t) refl valued e
   where

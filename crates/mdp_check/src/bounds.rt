@@ -10,7 +10,7 @@ use crate::checking::{goal_marks, reward_place};
 use crate::until::until_bounds_verdict;
 use mdp_bounds::{holds_bounds_mean, holds_bounds_reach, holds_bounds_reward};
 use mdp_cert::{BoundsBody, BoundsCert, Claim};
-use mdp_farkas::{Verdict, init_denied};
+use mdp_farkas::Verdict;
 use mdp_num::Memory;
 use mdp_rows::{Marks, Model};
 use std::alloc::Global;
@@ -43,7 +43,7 @@ fn bounds_verdict(
         (Claim::Mean { dir, .. }, BoundsBody::Mean(mean)) => {
             Ok(holds_bounds_mean(model, reward, *dir, mean))
         }
-        _ => Ok(init_denied(None)),
+        _ => unreachable!(),
     }
 }
 

@@ -8,7 +8,7 @@ use crate::answer::{Answer, answer_of};
 use crate::initial::{init_verdict, start_of};
 use crate::until::{floor_verdict, flow_verdict, until_verdict};
 use mdp_cert::{Body, Cert, Claim};
-use mdp_farkas::{Verdict, holds_mean, holds_reach, holds_reward, holds_upper, init_denied};
+use mdp_farkas::{Verdict, holds_mean, holds_reach, holds_reward, holds_upper};
 use mdp_num::Memory;
 use mdp_rows::{Dir, Marks, Model};
 use std::alloc::Global;
@@ -112,7 +112,7 @@ fn body_verdict(
             },
             Body::Floor(floor),
         ) => floor_verdict(alloc, model, goals, start, stay, *threshold, floor),
-        _ => Ok(init_denied(None)),
+        _ => unreachable!(),
     }
 }
 

@@ -12,4 +12,4 @@ mod until;
 pub use answer::Answer;
 pub use bounds::check_bounds;
 pub use checking::check;
-pub use laws::{bounds_checking_law, checking_law};
+pub use laws::{bounds_checking_law, bounds_start_law, checking_law, start_law};

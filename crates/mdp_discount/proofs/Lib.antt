@@ -5,5 +5,6 @@ pub mod Products
 pub mod Solving
 pub mod Ending
 pub mod OneEnd
+pub mod AnEnd
 pub mod Reading
 mod Examples

@@ -9,16 +9,21 @@ use Rattle.mdp_discount.specs.Query.{EndsSo}
 
 -- ---- the query
 
--- it has one end at most
-abbrev pub HasOneEnd : Type 0
-HasOneEnd =
-    (dir : Dir) (m : Mdp) (r : ℕ) (name : List ℕ) (f : ℚ) (p q : Result Certificate WideTerm) → EndsSo dir m r name f p → EndsSo dir m r name f q → q ≡ p
-
 -- a model with reward name r, and a discount factor
 pub record CanAsk (m : Mdp) (r : ℕ) (f : ℚ) : Type 0 where
   pub model : IsMdp m
   pub named : r < length m.names
   pub discount : IsFactor f
+
+-- it has one end at most
+abbrev pub HasOneEnd : Type 0
+HasOneEnd =
+    (dir : Dir) (m : Mdp) (r : ℕ) (name : List ℕ) (f : ℚ) (p q : Result Certificate WideTerm) → EndsSo dir m r name f p → EndsSo dir m r name f q → q ≡ p
+
+-- it has one for each such model and factor
+abbrev pub HasAnEnd : Type 0
+HasAnEnd =
+    (dir : Dir) (m : Mdp) (r : ℕ) (name : List ℕ) (f : ℚ) → CanAsk m r f → (q : Result Certificate WideTerm) × EndsSo dir m r name f q
 
 -- an answer meets the rules of certificates, and no term of its check is past width
 abbrev pub AnswersMeetRules : Type 0

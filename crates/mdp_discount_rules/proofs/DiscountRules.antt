@@ -44,7 +44,7 @@ module _ (dir : Dir) (m : Mdp) (r : ℕ) (f : ℚ) (v : List ℚ) where
       stands_of dir (value_at v s) (discounted m r f s c v)
       (asked_holds (stands dir (value_at v s)) (discounted m r f s c v) (written_discounted m r f s c v) (λ w e. written_discounted-some m r f s c v w e) h)
 
-  of_covers : (s c : ℕ) → IsAsGood dir (value_at v s) (discounted m r f s c v) → Sound (covers_check dir m r f v s c)
+  pub of_covers : (s c : ℕ) → IsAsGood dir (value_at v s) (discounted m r f s c v) → Sound (covers_check dir m r f v s c)
   of_covers s c good w =
       asked_sound (stands dir (value_at v s)) (discounted m r f s c v) (written_discounted m r f s c v) (λ w e. written_discounted-some m r f s c v w e)
       (λ i. of_stands dir (value_at v s) (discounted m r f s c v) good i) w
@@ -54,7 +54,7 @@ module _ (dir : Dir) (m : Mdp) (r : ℕ) (f : ℚ) (v : List ℚ) where
       same_of_equal (value_at v s) (discounted m r f s c v)
       (asked_holds (is_equal (value_at v s)) (discounted m r f s c v) (written_discounted m r f s c v) (λ w e. written_discounted-some m r f s c v w e) h)
 
-  of_reached : (s c : ℕ) → value_at v s ≡ discounted m r f s c v → Sound (reached_check m r f v s c)
+  pub of_reached : (s c : ℕ) → value_at v s ≡ discounted m r f s c v → Sound (reached_check m r f v s c)
   of_reached s c same w =
       asked_sound (is_equal (value_at v s)) (discounted m r f s c v) (written_discounted m r f s c v) (λ w e. written_discounted-some m r f s c v w e)
       (λ i. equal_of_same (value_at v s) (discounted m r f s c v) same i) w
@@ -65,7 +65,7 @@ module _ (v : List ℚ) (remainder : ℚ) where
       same_of_equal remainder (greatest (map magnitude v))
       (asked_holds (is_equal remainder) (greatest (map magnitude v)) (written_greatest v) (λ w e. written_greatest-some v w e) h)
 
-  of_remainder : remainder ≡ greatest (map magnitude v) → Sound (remainder_check v remainder)
+  pub of_remainder : remainder ≡ greatest (map magnitude v) → Sound (remainder_check v remainder)
   of_remainder same w =
       asked_sound (is_equal remainder) (greatest (map magnitude v)) (written_greatest v) (λ w e. written_greatest-some v w e) (λ i. equal_of_same remainder (greatest (map magnitude v)) same i) w
 

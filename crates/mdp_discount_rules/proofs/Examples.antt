@@ -1,6 +1,6 @@
 -- Verdicts on discounted rewards, computed. `wait` stays at 0 for 1 in each step, or moves to 1, which earns 3 in each step. `puterman` is the example
 -- with two states of Puterman 1994, section 3.1: 5 at 0, where half the time one stays, or 10 at once, and -1 in each step at 1.
-use Rattle.std.proofs.Common.{◌≡◌, ℕ, List, [], ◌∷◌, refl, pos, Some, None}
+use Rattle.std.proofs.Common.{◌≡◌, ℕ, List, [], ◌∷◌, refl, pos, Option, Some, None, arith}
 use Rattle.mdp_math.specs.{Gcd.{gcd, gcd_with_fuel}, Rational.{ℚ, of_int, ratio, neg_ℚ, ◌+ℚ◌, ◌*ℚ◌, le_ℚ}}
 use Rattle.mdp_math.specs.Written.{narrow, narrow_ℚ, written_add, written_mul, written_compare}
 use Rattle.mdp_math.proofs.Tables.{AreEqual}
@@ -8,9 +8,11 @@ use Rattle.mdp_spec.specs.Mdp.{Mdp}
 use Rattle.mdp_spec.proofs.Small.{entry, model, number, over, state, to, wait}
 use Rattle.mdp_farkas.specs.Verdict.{verdict_of}
 use Rattle.mdp_claims.specs.{declared.verdict.Verdict.{Verdict}, declared.verdict.Verdict.TheVariants.{Yes, No}}
+use Rattle.mdp_claims.specs.{declared.rule.Rule.{Rule}, declared.verdict.Fault.{Fault}}
 use Rattle.mdp_claims.specs.declared.rule.Rule.TheVariants.{ChoiceExists, DiscountedOnEachChoice, DiscountedOnPolicy, RemainderIsGreatest}
 use Rattle.mdp_rows.specs.{declared.dir.Dir.{Dir}, declared.dir.Dir.TheVariants.{Max, Min}}
-use Rattle.mdp_discount_rules.specs.Checks.{discount_checks}
+use Rattle.mdp_discount_rules.specs.{Checks.{discount_checks}, Says.{DiscountSays}}
+use Rattle.mdp_discount_rules.proofs.Telling.{discount_refuted}
 
 abbrev minus : ℕ → ℚ
 minus n = neg_ℚ (of_int (pos n))
@@ -58,3 +60,22 @@ least_judged : AreEqual (
     )
 unfolding gcd gcd_with_fuel of_int ratio neg_ℚ le_ℚ ◌+ℚ◌ ◌*ℚ◌ narrow narrow_ℚ written_add written_mul written_compare
 least_judged = refl
+
+-- ---- what a no says of the policy's choice at state 0: it doesn't come to 4
+
+abbrev four_says : Rule → Option ℕ → Option ℕ → Type 0
+four_says = DiscountSays Max wait 0 (over 1 2) (number 4 ∷ number 6 ∷ []) (number 6) (1 ∷ 0 ∷ [])
+
+abbrev moves : Fault
+moves = record { rule = DiscountedOnPolicy; state = Some 0; choice = Some 1 }
+
+four_denied : says Max wait (over 1 2) (number 4 ∷ number 6 ∷ []) (number 6) (1 ∷ 0 ∷ []) ≡ No moves
+unfolding gcd gcd_with_fuel of_int ratio neg_ℚ le_ℚ ◌+ℚ◌ ◌*ℚ◌ narrow narrow_ℚ written_add written_mul written_compare
+four_denied = refl
+
+four_refuted : four_says DiscountedOnPolicy (Some 0) (Some 1) → ⊥
+four_refuted = (discount_refuted Max wait 0 (over 1 2) (number 4 ∷ number 6 ∷ []) (number 6) (1 ∷ 0 ∷ []) moves four_denied).1
+
+-- nothing is said of a choice that the policy doesn't take
+not_taken : four_says DiscountedOnPolicy (Some 0) (Some 0)
+not_taken = λ l e. absurd (omega (arith, e))

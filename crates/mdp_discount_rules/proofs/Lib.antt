@@ -5,6 +5,8 @@ pub mod Discount
 pub mod Greatest
 pub mod Magnitudes
 pub mod DiscountRules
+pub mod Telling
+pub mod Saying
 pub mod Names
 pub mod Accepting
 pub mod OneValue

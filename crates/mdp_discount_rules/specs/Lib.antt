@@ -2,6 +2,7 @@ pub mod Disc
 pub mod Rules
 pub mod Bounds
 pub mod Checks
+pub mod Says
 pub mod Cert
 pub mod Plain
 pub mod Check

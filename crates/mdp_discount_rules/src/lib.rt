@@ -14,7 +14,7 @@ pub use cert::DiscountCert;
 pub use checking::check_discount;
 pub use earning::earned;
 pub use holds::holds_discount;
-pub use laws::discount_rules_law;
+pub use laws::{discount_no_law, discount_rules_law};
 pub use mdp_farkas::Verdict;
 pub use mdp_text::Init;
 pub use remainder::{greatest_magnitude, magnitude};

@@ -5,6 +5,7 @@ pub mod Solving
 pub mod Choosing
 pub mod Facts
 pub mod Ways
+pub mod AnEnd
 pub mod Reading
 mod Examples
 pub mod Chains

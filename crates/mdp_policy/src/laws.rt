@@ -1,8 +1,9 @@
-ghost use Rattle.mdp_policy.specs.{Laws.{HasOneValue}, Text.{IsReadFromText, IsReadBack}};
+ghost use Rattle.mdp_policy.specs.{Laws.{HasOneValue, HasAnEnd}, Text.{IsReadFromText, IsReadBack}};
 
-/// A policy has one list of values at most.
+/// A policy has one list of values at most. Their computation has an end for each model and policy: an answer, or a term past width.
 pub fn value_law()
-    ensures { HasOneValue }
+    ensures one_value { HasOneValue }
+    ensures ends { HasAnEnd }
 {}
 
 /// What is read is what the bytes are the text of, and the text of a policy is read back.

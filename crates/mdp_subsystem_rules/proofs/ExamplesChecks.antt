@@ -1,6 +1,6 @@
 -- Verdicts on certificates, computed. The model has four states: state 0 goes to 1 or to 3 with 1/2 each, or by its second choice to 1; state 1 goes
 -- back to 0 with 1/2 and to 2, the goal, with 1/2; state 3 is left nowhere.
-use Rattle.std.proofs.Common.{ℕ, ◌+◌, ◌^◌, List, [], ◌∷◌, refl, pos, negsuc, Option, Some, None}
+use Rattle.std.proofs.Common.{ℕ, ◌+◌, ◌^◌, inr, Bool, true, false, true≢false, List, [], ◌∷◌, refl, sym, pos, negsuc, Option, Some, None, arith}
 use Rattle.mdp_math.specs.{Gcd.{gcd, gcd_with_fuel}, Rational.{ℚ, of_int, ratio, lt_ℚ, ◌+ℚ◌, ◌*ℚ◌}}
 use Rattle.mdp_math.specs.Written.{narrow, narrow_ℚ, written_add, written_mul, written_compare}
 use Rattle.mdp_math.proofs.Tables.{AreEqual}
@@ -9,7 +9,7 @@ use Rattle.mdp_farkas.specs.Verdict.{verdict_of}
 use Rattle.mdp_claims.specs.{declared.verdict.Verdict.{Verdict}, declared.verdict.Verdict.TheVariants.{Yes, No, Wide}, declared.subsystem.Flow.{Flow}}
 use Rattle.mdp_claims.specs.declared.rule.Rule.TheVariants.{ChoiceExists, FlowsBalance, FlowsReachGoals, Probability, RankFalls, RankZero}
 use Rattle.mdp_claims.specs.{declared.rule.Rule.TheVariants.{StartReachesThreshold, StateIsKept, ValueOnEachChoice}, declared.rule.Rule.{Rule}}
-use Rattle.mdp_subsystem_rules.specs.{FloorChecks.{floor_checks}, FlowChecks.{flow_checks}}
+use Rattle.mdp_subsystem_rules.specs.{FloorChecks.{floor_checks}, FlowChecks.{flow_checks}, Says.{FlowSays, FloorSays}}
 
 -- half of it is past width
 abbrev tiny : ℚ
@@ -104,3 +104,24 @@ floor_verdicts : AreEqual (
     )
 unfolding gcd gcd_with_fuel ratio of_int lt_ℚ ◌+ℚ◌ ◌*ℚ◌ narrow narrow_ℚ written_add written_mul written_compare
 floor_verdicts = refl
+
+-- ---- what the rules say of a place: a goal may not be kept, and of a state that isn't kept nothing is said
+
+abbrev kept_says : List Bool → Rule → Option ℕ → Option ℕ → Type 0
+kept_says kept = FlowSays back back_goals kept sure 0 one
+
+goal_kept : kept_says (true ∷ true ∷ true ∷ false ∷ []) StateIsKept (Some 2) None → ⊥
+goal_kept says = true≢false (says (omega arith, refl))
+
+goal_cut : kept_says (true ∷ true ∷ false ∷ false ∷ []) StateIsKept (Some 2) None
+goal_cut = λ is. absurd (true≢false (sym is.1))
+
+-- a kept state of value 0 has rank 0
+abbrev lost_says : ℕ → Type 0
+lost_says rank = FloorSays back back_goals (false ∷ false ∷ false ∷ true ∷ []) (nought ∷ nought ∷ nought ∷ nought ∷ []) (0 ∷ 0 ∷ 0 ∷ rank ∷ []) 3 nought RankZero (Some 3) None
+
+lost_at_one : lost_says 1 → ⊥
+lost_at_one says = let none = says (omega arith, refl) (inr refl) in omega (arith, none)
+
+lost_at_zero : lost_says 0
+lost_at_zero = λ is ends. refl

@@ -57,10 +57,10 @@ module _ (m : Mdp) (goals : List Bool) (start : ℕ) (threshold : ℚ) (kept : L
   inside : (i : ℕ) → i < length kept → get_or kept i 0 < states_of m
   inside i l = shape.kept_in_range i 0 l
 
-  own_value : (i : ℕ) → i < length kept → value_at z (get_or kept i 0) ≡ value_at values i
+  pub own_value : (i : ℕ) → i < length kept → value_at z (get_or kept i 0) ≡ value_at values i
   own_value i l = spread-at (states_of m) kept values 0ℚ 0ℚ (get_or kept i 0) (inside i l) ∙ looked_up-at kept values 0ℚ 0ℚ i shape.kept_ascends l shape.one_value_each
 
-  own_rank : (i : ℕ) → i < length kept → get_or steps (get_or kept i 0) 0 ≡ get_or ranks i 0
+  pub own_rank : (i : ℕ) → i < length kept → get_or steps (get_or kept i 0) 0 ≡ get_or ranks i 0
   own_rank i l = spread-at (states_of m) kept ranks 0 0 (get_or kept i 0) (inside i l) ∙ looked_up-at kept ranks 0 0 i shape.kept_ascends l shape.one_rank_each
 
   -- a number that isn't a state counts as 0
@@ -73,7 +73,7 @@ module _ (m : Mdp) (goals : List Bool) (start : ℕ) (threshold : ℚ) (kept : L
       (cases_lt t (states_of m))
 
   -- the sum over a row of what the lines count is that of what the states count as
-  same_sum : (s c : ℕ) → s < states_of m → c < length (choices_at m s) → row_sum (row_at m s c) counts ≡ counted_sum goals marks z (row_at m s c)
+  pub same_sum : (s c : ℕ) → s < states_of m → c < length (choices_at m s) → row_sum (row_at m s c) counts ≡ counted_sum goals marks z (row_at m s c)
   same_sum s c l k =
       weigh-same (λ (y : Entry). y.target) (λ (y : Entry). y.prob) (λ t. value_at counts t) (λ t. counted_value goals marks z t) (row_at m s c)
       (λ i d l. value_is (Entry.target (get_or (row_at m s c) i d)))
@@ -125,7 +125,7 @@ module _ (m : Mdp) (goals : List Bool) (start : ℕ) (threshold : ℚ) (kept : L
   falls_by : (rank : ℕ) (row : List Entry) → list_any (λ y. ltb (ranked (Entry.target y)) rank) row ≡ true → Any (λ y. ranked (Entry.target y) < rank) row
   falls_by rank row e = some_passed (λ y. ltb (ranked (Entry.target y)) rank) (λ y. ranked (Entry.target y) < rank) (λ y q. ltb-true (ranked (Entry.target y)) rank q) row e
 
-  by_falls : (rank : ℕ) (row : List Entry) → Any (λ y. ranked (Entry.target y) < rank) row → list_any (λ y. ltb (ranked (Entry.target y)) rank) row ≡ true
+  pub by_falls : (rank : ℕ) (row : List Entry) → Any (λ y. ranked (Entry.target y) < rank) row → list_any (λ y. ltb (ranked (Entry.target y)) rank) row ≡ true
   by_falls rank row a = some_passes (λ y. ltb (ranked (Entry.target y)) rank) (λ y. ranked (Entry.target y) < rank) (λ y q. lt-ltb (ranked (Entry.target y)) rank q) row a
 
   module _ (a : Each Holds (floor_checks m goals start threshold kept values ranks)) where

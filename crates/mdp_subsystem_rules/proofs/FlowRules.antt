@@ -109,13 +109,13 @@ module _ (m : Mdp) (goals : List Bool) (start : ℕ) (threshold : ℚ) (kept : L
     adds : AddsFlows n goals m first end flows
     adds = adds_all n m goals marks first flows (sized_first n goals start) w
 
-    outflow_is : (s : ℕ) → s < states_of m → value_at end.outflows s ≡ outflow flows s
+    pub outflow_is : (s : ℕ) → s < states_of m → value_at end.outflows s ≡ outflow flows s
     outflow_is s l = AddsFlows.leaves adds s l ∙ ap (λ (x : ℚ). x +ℚ outflow flows s) (get_or-replicate n s 0ℚ 0ℚ l) ∙ zero-+ℚ (outflow flows s)
 
-    inflow_is : (s : ℕ) → s < states_of m → is_marked goals s ≡ false → value_at end.inflows s ≡ source start s +ℚ inflow m flows s
+    pub inflow_is : (s : ℕ) → s < states_of m → is_marked goals s ≡ false → value_at end.inflows s ≡ source start s +ℚ inflow m flows s
     inflow_is s l free = AddsFlows.comes adds s l free ∙ ap (λ (x : ℚ). x +ℚ inflow m flows s) (first_inflow n start s h l)
 
-    goal_is : end.goal ≡ flow_value m goals flows start
+    pub goal_is : end.goal ≡ flow_value m goals flows start
     goal_is = AddsFlows.arrives adds
 
   -- ---- what holds, in exact numbers

@@ -14,6 +14,9 @@ pub mod Parts
 pub mod FlowRules
 pub mod FloorRules
 pub mod Counted
+pub mod FlowTelling
+pub mod FloorTelling
+pub mod Saying
 pub mod Fewer
 pub mod Listed
 pub mod Untils

@@ -1,15 +1,15 @@
 -- What the rules of a floor and of a flow show of a subsystem, that with fewer kept states no chance is greater, and which lists are printed of a
 -- certificate that meets them.
-use Rattle.std.specs.Prelude.{◌≡◌, ℕ, ◌<◌, Bool, true, false, ◌||◌, List, length}
+use Rattle.std.specs.Prelude.{◌≡◌, ◌↔◌, ℕ, ◌<◌, Bool, true, false, ◌||◌, List, length, Option}
 use Rattle.mdp_math.specs.Rational.{ℚ, ◌≤ℚ◌, ◌<ℚ◌}
 use Rattle.mdp_spec.specs.{Mdp.{Mdp, states_of, value_at}, Row.{IsMdp}, Rules.{MeetsReachMin}, Tree.{IsPolicy, is_marked}, Sub.{sub_of, policy_on}}
 use Rattle.mdp_spec.specs.Bounds.{ReachMax, ReachMin, SubMax, SubMaxWithin, SubMin}
-use Rattle.mdp_farkas.specs.Verdict.{verdict_of}
-use Rattle.mdp_claims.specs.{declared.verdict.Fault.{Fault}, declared.verdict.Verdict.TheVariants.{No}, declared.subsystem.Flow.{Flow}}
+use Rattle.mdp_farkas.specs.{Verdict.{verdict_of}, Laws.{IsInModel}}
+use Rattle.mdp_claims.specs.{declared.rule.Rule.{Rule}, declared.verdict.Fault.{Fault}, declared.verdict.Verdict.TheVariants.{No}, declared.subsystem.Flow.{Flow}}
 use Rattle.mdp_subsystem_rules.specs.{Floor.{MeetsFloor}, FloorChecks.{floor_checks, spread_values, spread_ranks}, FlowChecks.{flow_checks}, Kept.{kept_marks}}
 use Rattle.mdp_subsystem_rules.specs.{Listed.{listed, marks_at, values_at, ranks_at}, Shape.{IsFlowShape, IsFloorShape}}
 use Rattle.mdp_subsystem_rules.specs.{Flow.{MeetsFlow, flow_total, flow_value}, Fewer.{IsIncluded, ReachesMore}, Visits.{AreVisitsOn, visit_flows}}
-use Rattle.mdp_subsystem_rules.specs.Policy.{AreOfPolicy, hit_on, PolicyWithin, FallsShort}
+use Rattle.mdp_subsystem_rules.specs.{Policy.{AreOfPolicy, hit_on, PolicyWithin, FallsShort}, Says.{FlowSays, FloorSays}}
 
 -- ---- the rules
 
@@ -102,7 +102,7 @@ ShortIsNoFloor =
     (m : Mdp) (goals kept : List Bool) (start : ℕ) (threshold : ℚ) (policy : List ℕ) → IsMdp m → start < states_of m → IsPolicy (sub_of m goals kept) policy
     → FallsShort m goals kept start threshold policy → SubMin m goals kept start threshold → ⊥
 
--- ---- certificates whose rules hold are never answered no
+-- ---- what a no means
 
 -- where the flows meet the rules, the checks of the certificate end with yes or with a term past width
 abbrev pub FlowNeverNo : Type 0
@@ -116,6 +116,32 @@ FloorNeverNo =
     (m : Mdp) (goals : List Bool) (start : ℕ) (threshold : ℚ) (kept : List ℕ) (wide : List Bool) (values : List ℚ) (ranks : List ℕ) (fault : Fault) → length goals ≡ states_of m → start < states_of m
     → IsFloorShape m kept wide values ranks → MeetsFloor m goals (kept_marks (states_of m) kept) (spread_values m kept values) (spread_ranks m kept ranks) start threshold
     → verdict_of (floor_checks m goals start threshold kept values ranks) ≡ No fault → ⊥
+
+-- the state that a no to a flow names is one of the model, and what the rule that it names says of that place is false
+abbrev pub FlowNoRefutes : Type 0
+FlowNoRefutes =
+    (m : Mdp) (goals : List Bool) (start : ℕ) (threshold : ℚ) (kept : List ℕ) (wide : List Bool) (flows : List Flow) (fault : Fault) → start < states_of m → IsFlowShape m kept wide flows
+    → verdict_of (flow_checks m goals start threshold kept flows) ≡ No fault
+    → IsInModel m fault × (FlowSays m goals (kept_marks (states_of m) kept) flows start threshold fault.rule fault.state fault.choice → ⊥)
+
+-- and so of a floor
+abbrev pub FloorNoRefutes : Type 0
+FloorNoRefutes =
+    (m : Mdp) (goals : List Bool) (start : ℕ) (threshold : ℚ) (kept : List ℕ) (wide : List Bool) (values : List ℚ) (ranks : List ℕ) (fault : Fault) → length goals ≡ states_of m → start < states_of m
+    → IsFloorShape m kept wide values ranks → verdict_of (floor_checks m goals start threshold kept values ranks) ≡ No fault
+    → IsInModel m fault
+    × (FloorSays m goals (kept_marks (states_of m) kept) (spread_values m kept values) (spread_ranks m kept ranks) start threshold fault.rule fault.state fault.choice → ⊥)
+
+-- what the rules say of all places is together what they ask in exact numbers: of a flow, and of a floor
+abbrev pub FlowSaysAll : Type 0
+FlowSaysAll =
+    (m : Mdp) (goals kept : List Bool) (flows : List Flow) (start : ℕ) (threshold : ℚ)
+    → MeetsFlow m goals kept flows start threshold ↔ ((rule : Rule) (state choice : Option ℕ) → FlowSays m goals kept flows start threshold rule state choice)
+
+abbrev pub FloorSaysAll : Type 0
+FloorSaysAll =
+    (m : Mdp) (goals kept : List Bool) (z : List ℚ) (ranks : List ℕ) (start : ℕ) (threshold : ℚ)
+    → MeetsFloor m goals kept z ranks start threshold ↔ ((rule : Rule) (state choice : Option ℕ) → FloorSays m goals kept z ranks start threshold rule state choice)
 
 -- ---- what is listed of marks, values and ranks
 

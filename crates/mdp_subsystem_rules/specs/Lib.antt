@@ -7,6 +7,7 @@ pub mod Kept
 pub mod Laws
 pub mod Listed
 pub mod Policy
+pub mod Says
 pub mod Shape
 pub mod Sums
 pub mod Until

@@ -2,7 +2,8 @@ ghost use Rattle.mdp_spec.specs.UntilLaws.{IsOneSubsystem, IsHitWhereKeptStay, U
 ghost use Rattle.mdp_subsystem_rules.specs.Until.{SubUntilMaxBySub, SubUntilMaxWithinBySub, SubUntilMinBySub};
 ghost use Rattle.mdp_subsystem_rules.specs.Laws.{FloorShows, FlowShows, PolicyShows, LeastIsFloor, VisitsAreFlow, VisitsBound, TreesReachMore};
 ghost use Rattle.mdp_subsystem_rules.specs.Laws.{WholeIsModel, GreatestGrows, LeastGrows, LeastFallsShort, PolicyFallsShort, VisitsFallShort, ShortIsNoFloor};
-ghost use Rattle.mdp_subsystem_rules.specs.Laws.{FlowNeverNo, FloorNeverNo, ListedAreMarks, ListedFlowShape, ListedFloorShape, ListedMeetsFloor};
+ghost use Rattle.mdp_subsystem_rules.specs.Laws.{FlowNeverNo, FloorNeverNo, FlowNoRefutes, FloorNoRefutes, FlowSaysAll, FloorSaysAll};
+ghost use Rattle.mdp_subsystem_rules.specs.Laws.{ListedAreMarks, ListedFlowShape, ListedFloorShape, ListedMeetsFloor};
 
 /// A floor that meets its rules bounds the least probability of meeting a goal on its subsystem from below.
 pub fn floor_law()
@@ -64,6 +65,18 @@ pub fn short_law()
 pub fn never_no_law()
     ensures flow { FlowNeverNo }
     ensures floor { FloorNeverNo }
+{}
+
+/// What a no means: the named state is one of the model, and what the named rule says of that state and choice is false in exact numbers.
+pub fn refuted_law()
+    ensures flow { FlowNoRefutes }
+    ensures floor { FloorNoRefutes }
+{}
+
+/// What the rules say of all places is together what they ask: no more, and no less.
+pub fn says_law()
+    ensures flow { FlowSaysAll }
+    ensures floor { FloorSaysAll }
 {}
 
 /// What is listed of marks, values and ranks per state: the listed states have those marks, the lists have the shape of certificates, and a floor

@@ -13,6 +13,7 @@ mod walk;
 pub use floor::holds_floor;
 pub use flow::holds_flow;
 pub use laws::{
-    fewer_law, floor_law, flow_law, listed_law, made_law, never_no_law, short_law, stay_law,
+    fewer_law, floor_law, flow_law, listed_law, made_law, never_no_law, refuted_law, says_law,
+    short_law, stay_law,
 };
 pub use mdp_claims::{FloorCert, Flow, FlowCert};

@@ -9,6 +9,9 @@ pub mod Found
 pub mod Showing
 pub mod ByDirection
 pub mod OneEnd
+pub mod FirstExists
+pub mod TrialsEnd
+pub mod AnEnd
 mod Examples
 pub mod Fronts
 pub mod Finding

@@ -12,6 +12,12 @@ HasOneEnd =
     (dir : Dir) (m : Mdp) (goals : List Bool) (start : ℕ) (threshold : ℚ) (r q : Result PlainSubsystem Refusal)
     → EndsSo dir m goals start threshold r → EndsSo dir m goals start threshold q → q ≡ r
 
+-- it has one for each model with a mark for each state, and each start
+abbrev pub HasAnEnd : Type 0
+HasAnEnd =
+    (dir : Dir) (m : Mdp) (goals : List Bool) (start : ℕ) (threshold : ℚ) → IsMdp m → length goals ≡ states_of m → start < states_of m
+    → (r : Result PlainSubsystem Refusal) × EndsSo dir m goals start threshold r
+
 -- what holds of each subsystem that is found
 abbrev pub EachFound : (Dir → Mdp → List Bool → ℕ → ℚ → PlainSubsystem → Type 0) → Type 0
 EachFound P =

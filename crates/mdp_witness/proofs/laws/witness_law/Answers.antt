@@ -1,7 +1,7 @@
 use Rattle.std.proofs.Common.{Ok, subst}
 use Rattle.mdp_rows.specs.declared.dir.Dir.{Dir}
 use Rattle.mdp_witness.specs.Query.{EndsSo}
-use Rattle.mdp_witness.proofs.OneEnd.{one_query_end}
+use Rattle.mdp_witness.proofs.{OneEnd.{one_query_end}, AnEnd.{has_an_end}}
 use Rattle.mdp_witness.proofs.Showing.{reaches-max, policy-max, needed-max, marked-max, reaches-min, needed-min, marked-min, below-best}
 use Rattle.mdp_witness.proofs.ByDirection.{shape-found, holds-found}
 use Rattle.mdp_witness.proofs.laws.witness_law.Goals as goal
@@ -9,6 +9,11 @@ use Rattle.mdp_witness.proofs.laws.witness_law.Goals as goal
 pub returns-clause-one_end : goal.returns-clause-one_end
 returns-clause-one_end c = λ dir m goals start threshold r q a b.
     one_query_end m goals start threshold r q c.query_law.ensures.one_end c.left_law.ensures.max_one c.left_law.ensures.min_one dir c.query_law.ensures.one_round a b
+
+pub returns-clause-ends : goal.returns-clause-ends
+returns-clause-ends c =
+    has_an_end c.query_law.ensures.rules c.query_law.ensures.ends c.query_law.ensures.one_end c.query_law.ensures.min c.first_law.ensures.least c.kept_law.ensures.min c.fewer_law.ensures.least
+    c.fewer_law.ensures.whole c.listed_law.ensures.floor c.listed_law.ensures.floor_shape c.query_law.ensures.round
 
 pub returns-clause-shape : goal.returns-clause-shape
 returns-clause-shape c = λ dir m goals start threshold found known_ each inside end.
