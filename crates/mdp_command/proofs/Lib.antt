@@ -3,6 +3,7 @@ pub mod Working
 pub mod Statuses
 pub mod HeadLengths
 pub mod TrueClaims
+pub mod CertificateTexts
 mod BoundsExamples
 mod DiscountExamples
 mod KindExamples
