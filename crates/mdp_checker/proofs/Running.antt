@@ -2,18 +2,19 @@
 use Rattle.std.proofs.Common.{◌≡◌, ◌⊎◌, ℕ, inl, inr, List, Option, Some, None, Result, Ok, Err, OnOk, IsTrue, IsFalse, refl, sym, ap, subst, ◌∙◌}
 use Rattle.std.specs.Io.KnownBytes.{IsAtEnd}
 use Rattle.mdp_spec.specs.Mdp.{Mdp}
-use Rattle.mdp_rows.specs.declared.rule.RowRule.{RowRule}
-use Rattle.mdp_rows.specs.Limits.{IsModel}
-use Rattle.mdp_drn.specs.{FromSource.{HadLeft}, Laws.{ReadsAsModel}}
+use Rattle.mdp_rows.specs.{Limits.{IsModel}, declared.rule.RowRule.{RowRule}}
+use Rattle.mdp_rows.specs.declared.rule.RowRule.TheVariants as rules
+use Rattle.mdp_drn.specs.{FromSource.{HadLeft}, Laws.{ReadsAsModel}, Outcome.{Refusal}, Reading.{outcome, Reads}, Writing.{text_of, ReadsBack}}
 use Rattle.mdp_job.specs.{Refusal.{PlainRefusal, no_job, no_memory}, declared.status.Status.{Status}, declared.words_error.WordsError.{WordsError}}
 use Rattle.mdp_job.specs.declared.status.Status.TheVariants as status
 use Rattle.mdp_command.proofs.{Ends.{end_of_read, end_of_second}, Statuses.{done_text, ends_as}}
-use Rattle.mdp_command.specs.{Accepted.{IsTrueClaimBy}, Answered.{yes_text}, Files.{model_due, IsDueToModel}, Meaning.{ClaimsTruly}, Read.{IsModelReadToEnd, IsSecondReadToEnd, is_of_model}}
+use Rattle.mdp_command.specs.{Accepted.{IsTrueClaimBy}, Answered.{yes_text}, Files.{model_due, IsDueToModel}, Meaning.{Meaning, IsTrueOf, ClaimsTruly}}
+use Rattle.mdp_command.specs.Read.{IsModelReadToEnd, IsSecondReadToEnd, is_of_model}
 use Rattle.mdp_command.specs.{Said.{Said, said_status}, Streams.{Input, Output}, Written.{WroteAll, Wrote, EndsWith}, CheckDue.{IsCheckDue}, Kinds.{checker_of}}
-use Rattle.mdp_command.specs.{Meanings.{kind_of, meaning_of}, CheckLaws.{YesIsAccepted}, CheckShown.{IsCheckRead}}
+use Rattle.mdp_command.specs.{Meanings.{kind_of, meaning_of}, CheckLaws.{YesIsAccepted, ReadsItsText}, CheckShown.{IsCheckRead}}
 use Rattle.mdp_command.specs.declared.kind.CertificateKind.{CertificateKind}
 use Rattle.mdp_command.specs.declared.kind.CertificateKind.TheVariants.{Exact, Discounted, Bounds, DiscountedBounds}
-use Rattle.mdp_checker.specs.{Run.{HasCause, IsDecided, IsAnswered, IsYesTrue, IsYesUnless, IsComplete}, Words.{Asked}}
+use Rattle.mdp_checker.specs.{Run.{HasCause, IsDecided, IsAnswered, IsYesTrue, IsYesTrueOfText, IsYesUnless, IsComplete}, Words.{Asked}}
 
 -- ---- what is decided
 
@@ -35,46 +36,46 @@ check_decided asked rule model cert said is read unread model_end cert_end =
 
 -- ---- what an accepted certificate means
 
-claims_truly : ReadsAsModel → (kind : CertificateKind) (rule : RowRule) (model cert : List ℕ) → IsTrueClaimBy (checker_of kind) rule model cert → ClaimsTruly (meaning_of kind) rule model cert
-claims_truly kept Exact rule model cert t = record {
-  model = t.accepted.model;
-  reads = t.accepted.reads;
-  mdp = IsModel.mdp (kept model rule t.accepted.model t.accepted.reads);
+abbrev pub ReadsItsTexts : Type 0
+ReadsItsTexts = (kind : CertificateKind) → ReadsItsText (checker_of kind)
+
+true_of : ReadsItsTexts → (kind : CertificateKind) (rule : RowRule) (model cert : List ℕ) (t : IsTrueClaimBy (checker_of kind) rule model cert) → IsTrueOf (meaning_of kind) t.accepted.model cert
+true_of reads Exact rule model cert t = record {
   cert = t.accepted.cert;
-  text = t.accepted.text;
+  text = (reads Exact cert t.accepted.cert).0 t.accepted.text;
   states = t.accepted.holds.states;
   start = t.accepted.holds.init;
   bound = t.bound;
 }
-claims_truly kept Discounted rule model cert t = record {
-  model = t.accepted.model;
-  reads = t.accepted.reads;
-  mdp = IsModel.mdp (kept model rule t.accepted.model t.accepted.reads);
+true_of reads Discounted rule model cert t = record {
   cert = t.accepted.cert;
-  text = t.accepted.text;
+  text = (reads Discounted cert t.accepted.cert).0 t.accepted.text;
   states = t.accepted.holds.states;
   start = t.accepted.holds.init;
   bound = t.bound;
 }
-claims_truly kept Bounds rule model cert t = record {
-  model = t.accepted.model;
-  reads = t.accepted.reads;
-  mdp = IsModel.mdp (kept model rule t.accepted.model t.accepted.reads);
+true_of reads Bounds rule model cert t = record {
   cert = t.accepted.cert;
-  text = t.accepted.text;
+  text = (reads Bounds cert t.accepted.cert).0 t.accepted.text;
   states = t.accepted.holds.states;
   start = t.accepted.holds.init;
   bound = t.bound;
 }
-claims_truly kept DiscountedBounds rule model cert t = record {
-  model = t.accepted.model;
-  reads = t.accepted.reads;
-  mdp = IsModel.mdp (kept model rule t.accepted.model t.accepted.reads);
+true_of reads DiscountedBounds rule model cert t = record {
   cert = t.accepted.cert;
-  text = t.accepted.text;
+  text = (reads DiscountedBounds cert t.accepted.cert).0 t.accepted.text;
   states = t.accepted.holds.states;
   start = t.accepted.holds.init;
   bound = t.bound;
+}
+
+claims_truly : ReadsAsModel → ReadsItsTexts → (kind : CertificateKind) (rule : RowRule) (model cert : List ℕ) → IsTrueClaimBy (checker_of kind) rule model cert
+    → ClaimsTruly (meaning_of kind) rule model cert
+claims_truly kept reads kind rule model cert t = record {
+  model = t.accepted.model;
+  reads = t.accepted.reads;
+  mdp = IsModel.mdp (kept model rule t.accepted.model t.accepted.reads);
+  true_of = true_of reads kind rule model cert t;
 }
 
 -- ---- what is answered
@@ -90,35 +91,36 @@ module _ (model cert : Input) (out : Output) (ended : Status) where
 
   -- ---- yes
 
-  yes_read : ReadsAsModel → (rule : RowRule) (text : List ℕ) → IsCheckRead None rule model cert (Ok text) → IsAtEnd model.after → IsAtEnd cert.after → WroteAll out text → IsYesTrue (Ok rule) model cert out
-  yes_read kept rule text (inl from) model_end cert_end w = record {
+  yes_read : ReadsAsModel → ReadsItsTexts → (rule : RowRule) (text : List ℕ) → IsCheckRead None rule model cert (Ok text) → IsAtEnd model.after → IsAtEnd cert.after → WroteAll out text → IsYesTrue (Ok rule) model cert out
+  yes_read kept reads rule text (inl from) model_end cert_end w = record {
     rule = rule;
     words = refl;
     model_bytes = from.model_bytes;
     cert_bytes = from.second_bytes;
     had_model = from.had_model;
     had_cert = from.had_second;
-    true_claim = claims_truly kept (kind_of from.second_bytes) rule from.model_bytes from.second_bytes from.shown.true_claim;
+    kind = kind_of from.second_bytes;
+    true_claim = claims_truly kept reads (kind_of from.second_bytes) rule from.model_bytes from.second_bytes from.shown.true_claim;
     model_end = model_end;
     cert_end = cert_end;
     written = subst (λ (t : List ℕ). WroteAll out t) from.shown.yes w;
   }
-  yes_read kept rule text (inr (inl failed)) model_end cert_end w = cc (failed.0)
-  yes_read kept rule text (inr (inr (inl failed))) model_end cert_end w = cc (failed.says)
-  yes_read kept rule text (inr (inr (inr memory))) model_end cert_end w = cc memory
+  yes_read kept reads rule text (inr (inl failed)) model_end cert_end w = cc (failed.0)
+  yes_read kept reads rule text (inr (inr (inl failed))) model_end cert_end w = cc (failed.says)
+  yes_read kept reads rule text (inr (inr (inr memory))) model_end cert_end w = cc memory
 
   no_text : (e : WordsError) (text : List ℕ) → (Ok text ≡ Err (no_job e)) ⊎ (Ok text ≡ Err no_memory) → ⊥
   no_text e text (inl h) = cc h
   no_text e text (inr h) = cc h
 
-  yes_text_true : ReadsAsModel → (asked : Asked) (text : List ℕ) → IsDecided asked model cert (Ok text) → WroteAll out text → IsYesTrue asked model cert out
-  yes_text_true kept (Ok rule) text d w = yes_read kept rule text d.cause.read d.ends.0 d.ends.1 w
-  yes_text_true kept (Err e) text d w = absurd (no_text e text d.cause.says)
+  yes_text_true : ReadsAsModel → ReadsItsTexts → (asked : Asked) (text : List ℕ) → IsDecided asked model cert (Ok text) → WroteAll out text → IsYesTrue asked model cert out
+  yes_text_true kept reads (Ok rule) text d w = yes_read kept reads rule text d.cause.read d.ends.0 d.ends.1 w
+  yes_text_true kept reads (Err e) text d w = absurd (no_text e text d.cause.says)
 
-  pub yes_true : ReadsAsModel → (asked : Asked) (said : Said) → IsDecided asked model cert said → EndsWith ended out said → ended ≡ status.Done → IsYesTrue asked model cert out
-  yes_true kept asked said d w is =
+  pub yes_true : ReadsAsModel → ReadsItsTexts → (asked : Asked) (said : Said) → IsDecided asked model cert said → EndsWith ended out said → ended ≡ status.Done → IsYesTrue asked model cert out
+  yes_true kept reads asked said d w is =
       let t = done_text ended out said w is in
-      yes_text_true kept asked t.0 (subst (λ (x : Said). IsDecided asked model cert x) t.1 d) t.2
+      yes_text_true kept reads asked t.0 (subst (λ (x : Said). IsDecided asked model cert x) t.1 d) t.2
 
   -- ---- bytes that are accepted
 
@@ -151,3 +153,33 @@ module _ (model cert : Input) (out : Output) (ended : Status) where
       by_cause rule model_bytes cert_bytes told told_cert ((accepts (kind_of cert_bytes) rule model_bytes cert_bytes yes_text).1 (refl, holds)) a.said a.written
       (subst (λ (r : RowRule). IsCheckRead None r model cert a.said) same a.cause.read)
   complete accepts (Err e) a rule model_bytes cert_bytes is told told_cert holds = cc is
+
+-- ---- a model in the text that is written of it
+
+one_model : (read : Result Mdp Refusal) (a b : Mdp) → read ≡ Ok a → read ≡ Ok b → a ≡ b
+one_model read a b first second = cc (first, second)
+
+-- it is the model that the text reads as
+true_of_read : ReadsBack → (meaning : Meaning) (bytes cert_bytes : List ℕ) (m : Mdp) → IsModel m → bytes ≡ text_of m → ClaimsTruly meaning rules.Exact bytes cert_bytes
+    → IsTrueOf meaning m cert_bytes
+true_of_read back meaning bytes cert_bytes m is text t =
+    subst (λ (x : Mdp). IsTrueOf meaning x cert_bytes) (one_model (outcome rules.Exact bytes) t.model m t.reads (subst (λ (b : List ℕ). Reads b rules.Exact m) (sym text) (back m is))) t.true_of
+
+under_exact : (meaning : Meaning) (asked : Asked) (rule : RowRule) (bytes cert_bytes : List ℕ) → asked ≡ Ok rule → asked ≡ Ok rules.Exact → ClaimsTruly meaning rule bytes cert_bytes
+    → ClaimsTruly meaning rules.Exact bytes cert_bytes
+under_exact meaning asked rule bytes cert_bytes words exact t = subst (λ (r : RowRule). ClaimsTruly meaning r bytes cert_bytes) (cc (words, exact)) t
+
+pub of_text : (model cert : Input) (out : Output) → ReadsBack → (asked : Asked) → IsYesTrue asked model cert out → IsYesTrueOfText asked model cert out
+of_text model cert out back asked y = record {
+  model_bytes = y.model_bytes;
+  cert_bytes = y.cert_bytes;
+  had_model = y.had_model;
+  had_cert = y.had_cert;
+  kind = y.kind;
+  true_of = λ exact m is text.
+      true_of_read back (meaning_of y.kind) y.model_bytes y.cert_bytes m is text
+      (under_exact (meaning_of y.kind) asked y.rule y.model_bytes y.cert_bytes y.words exact y.true_claim);
+  model_end = y.model_end;
+  cert_end = y.cert_end;
+  written = y.written;
+}

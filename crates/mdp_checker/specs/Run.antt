@@ -1,13 +1,14 @@
 -- What a run answers and why, and what is true where it says yes.
 use Rattle.std.specs.{Prelude.{◌≡◌, ◌⊎◌, ℕ, List, Some, None, Ok, Err, OnOk, IsTrue, IsFalse}, Io.KnownBytes.{IsAtEnd}}
-use Rattle.mdp_rows.specs.declared.rule.RowRule.{RowRule}
-use Rattle.mdp_drn.specs.FromSource.{HadLeft}
+use Rattle.mdp_spec.specs.Mdp.{Mdp}
+use Rattle.mdp_rows.specs.{Limits.{IsModel}, declared.rule.RowRule.{RowRule}, declared.rule.RowRule.TheVariants.{Exact}}
+use Rattle.mdp_drn.specs.{FromSource.{HadLeft}, Writing.{text_of}}
 use Rattle.mdp_edge.specs.Faults.{FaultCounted}
 use Rattle.mdp_job.specs.{Refusal.{no_job, no_memory}, declared.status.Status.{Status}}
 use Rattle.mdp_job.specs.{declared.status.Status.TheVariants.{Done, ReadFault, WriteFault, Memory}, declared.words_error.WordsError.{WordsError}}
-use Rattle.mdp_command.specs.{Accepted.{AcceptedBy}, Answered.{yes_text}, Meaning.{ClaimsTruly}, Read.{IsModelReadToEnd, IsSecondReadToEnd, is_of_model}, Said.{Said}}
+use Rattle.mdp_command.specs.{Accepted.{AcceptedBy}, Answered.{yes_text}, Meaning.{IsTrueOf, ClaimsTruly}, Read.{IsModelReadToEnd, IsSecondReadToEnd, is_of_model}, Said.{Said}}
 use Rattle.mdp_command.specs.{Streams.{Input, HasFailed, Output}, Written.{WroteAll, Wrote}, Kinds.{checker_of}, Meanings.{kind_of, meaning_of}}
-use Rattle.mdp_command.specs.CheckShown.{IsCheckRead}
+use Rattle.mdp_command.specs.{CheckShown.{IsCheckRead}, declared.kind.CertificateKind.{CertificateKind}}
 use Rattle.mdp_checker.specs.Words.{Asked}
 
 -- ---- why an answer may come
@@ -43,8 +44,8 @@ pub record IsAnswered (asked : Asked) (model cert : Input) (out : Output) (ended
 
 -- ---- yes
 
--- `yes` was written, the bytes that the sources had left read as a model and as a certificate, and what the certificate claims is true of the model,
--- whoever wrote it; both sources were read to their ends
+-- `yes` was written, the bytes that the sources had left read as a model and are the text of a certificate of some kind, and what the certificate claims is
+-- true of the model, whoever wrote it; both sources were read to their ends
 pub record IsYesTrue (asked : Asked) (model cert : Input) (out : Output) : Type 0 where
   pub rule : RowRule
   pub words : asked ≡ Ok rule
@@ -52,7 +53,21 @@ pub record IsYesTrue (asked : Asked) (model cert : Input) (out : Output) : Type 
   pub cert_bytes : List ℕ
   pub had_model : HadLeft model.before model_bytes
   pub had_cert : HadLeft cert.before cert_bytes
-  pub true_claim : ClaimsTruly (meaning_of (kind_of cert_bytes)) rule model_bytes cert_bytes
+  pub kind : CertificateKind
+  pub true_claim : ClaimsTruly (meaning_of kind) rule model_bytes cert_bytes
+  pub model_end : IsAtEnd model.after
+  pub cert_end : IsAtEnd cert.after
+  pub written : WroteAll out yes_text
+
+-- the same of a model in the one text that is written of it, which says nothing of how other texts are read: where rows are taken as they are and the bytes
+-- of the model are that text, what the certificate claims is true of the model
+pub record IsYesTrueOfText (asked : Asked) (model cert : Input) (out : Output) : Type 0 where
+  pub model_bytes : List ℕ
+  pub cert_bytes : List ℕ
+  pub had_model : HadLeft model.before model_bytes
+  pub had_cert : HadLeft cert.before cert_bytes
+  pub kind : CertificateKind
+  pub true_of : asked ≡ Ok Exact → (m : Mdp) → IsModel m → model_bytes ≡ text_of m → IsTrueOf (meaning_of kind) m cert_bytes
   pub model_end : IsAtEnd model.after
   pub cert_end : IsAtEnd cert.after
   pub written : WroteAll out yes_text
@@ -79,4 +94,5 @@ IsComplete asked model cert out ended =
 pub record HasRun (asked : Asked) (model cert : Input) (out : Output) (ended : Status) : Type 0 where
   pub answer : IsAnswered asked model cert out ended
   pub done : ended ≡ Done → IsYesTrue asked model cert out
+  pub done_of_text : ended ≡ Done → IsYesTrueOfText asked model cert out
   pub complete : IsComplete asked model cert out ended

@@ -1,9 +1,9 @@
 ghost use Rattle.std.specs.{Fn.{FnOnceReturnsAt}, Prelude.{◌≡◌}};
 ghost use Rattle.mdp_command.specs.{Opened.{OnFiles}, Prelude.{said, input, output}};
-ghost use Rattle.mdp_checker.specs.{Run.{IsDecided, IsAnswered, IsYesTrue, IsComplete, HasRun}, Words.{asked, model_path, cert_path}};
+ghost use Rattle.mdp_checker.specs.{Run.{IsDecided, IsAnswered, IsYesTrue, IsYesTrueOfText, IsComplete, HasRun}, Words.{asked, model_path, cert_path}};
 
 use mdp_command::{check_files, check_law, written};
-use mdp_drn::model_law;
+use mdp_drn::{model_law, written_law};
 use mdp_edge::{Sink, Source};
 use mdp_job::{Paths, Refusal, Status, rows_of};
 use std::alloc::Global;
@@ -40,12 +40,17 @@ pub fn run<S: Source, C: Source, K: Sink>(
     ensures done { result ≡ Status.Done → IsYesTrue (asked words.now) (input S.left S.faults model.old model.new) (input C.left C.faults cert.old cert.new)
         (output K.taken K.settled K.faults out.old out.new) }
 
+    // The same of a model in the one text that is written of it, with no word of how other texts are read.
+    ensures done_of_text { result ≡ Status.Done → IsYesTrueOfText (asked words.now) (input S.left S.faults model.old model.new) (input C.left C.faults cert.old cert.new)
+        (output K.taken K.settled K.faults out.old out.new) }
+
     // To bytes that are accepted yes is said, but for faults that were counted and want of memory.
     ensures complete { IsComplete (asked words.now) (input S.left S.faults model.old model.new) (input C.left C.faults cert.old cert.new)
         (output K.taken K.settled K.faults out.old out.new) result }
 {
     check_law();
     model_law();
+    written_law();
     let answer = decided(alloc, words, model, cert);
     written(alloc, answer, out)
 }

@@ -32,8 +32,8 @@ use Rattle.mdp_command.specs.declared.kind.CertificateKind.TheVariants.{Exact, D
 
 -- of a model and a certificate that was read from a text: yes is answered exactly where it is accepted, and then its claim is true
 pub record IsSound (checker : Checker) : Type 0 where
-  pub yes : (m : Mdp) (text : List ℕ) (c : checker.meaning.Certificate) → IsMdp m → checker.meaning.outcome text ≡ Ok c → (checker.answer_to m c ≡ Yes) ↔ checker.IsAccepted m c
-  pub bound : (m : Mdp) (text : List ℕ) (c : checker.meaning.Certificate) → IsMdp m → checker.meaning.outcome text ≡ Ok c → checker.IsAccepted m c → checker.meaning.IsBound m c
+  pub yes : (m : Mdp) (text : List ℕ) (c : checker.meaning.Certificate) → IsMdp m → checker.outcome text ≡ Ok c → (checker.answer_to m c ≡ Yes) ↔ checker.IsAccepted m c
+  pub bound : (m : Mdp) (text : List ℕ) (c : checker.meaning.Certificate) → IsMdp m → checker.outcome text ≡ Ok c → checker.IsAccepted m c → checker.meaning.IsBound m c
 
 exact_is_sound : exactly.YesIsAccepted → exactly.AcceptedIsBound → IsSound exact
 exact_is_sound accepts bound = record { yes = λ m text c mdp read. accepts m c; bound = λ m text c mdp read holds. bound m c mdp holds }
@@ -100,11 +100,11 @@ module _ (checker : Checker) where
   pub record HasYes (m : Mdp) (bytes said : List ℕ) : Type 0 where
     pub short : length bytes ≤ most_bytes
     pub cert : checker.meaning.Certificate
-    pub read : checker.meaning.outcome bytes ≡ Ok cert
+    pub read : checker.outcome bytes ≡ Ok cert
     pub answer : checker.answer_to m cert ≡ Yes
     pub yes : said ≡ yes_text
 
-  by_read : (m : Mdp) (bytes said : List ℕ) → length bytes ≤ most_bytes → (read : Result checker.meaning.Certificate text.Refusal) → checker.meaning.outcome bytes ≡ read
+  by_read : (m : Mdp) (bytes said : List ℕ) → length bytes ≤ most_bytes → (read : Result checker.meaning.Certificate text.Refusal) → checker.outcome bytes ≡ read
       → (certificate_or_refusal read >>= (λ c. said_of (checker.answer_to m c))) ≡ Ok said → HasYes m bytes said
   by_read m bytes said short (Ok c) is e = let y = is_yes (checker.answer_to m c) said e in record { short = short; cert = c; read = is; answer = y.0; yes = y.1 }
   by_read m bytes said short (Err r) is e = cc e
@@ -112,7 +112,7 @@ module _ (checker : Checker) where
   by_length : (m : Mdp) (bytes said : List ℕ) (long : Bool) → nat_lt most_bytes (length bytes) ≡ long
       → (cond long (Err long_certificate) (Ok bytes) >>= (λ text. said_to_text checker m text)) ≡ Ok said → HasYes m bytes said
   by_length m bytes said true is e = cc e
-  by_length m bytes said false is e = by_read m bytes said (ltb-false most_bytes (length bytes) is) (checker.meaning.outcome bytes) refl e
+  by_length m bytes said false is e = by_read m bytes said (ltb-false most_bytes (length bytes) is) (checker.outcome bytes) refl e
 
   has_yes : (m : Mdp) (bytes said : List ℕ) → check_due checker m bytes ≡ Ok said → HasYes m bytes said
   has_yes m bytes said e = by_length m bytes said (nat_lt most_bytes (length bytes)) refl e

@@ -6,7 +6,7 @@ use Rattle.mdp_command.specs.{Files.{most_bytes, model_due}, Accepted.{Checker, 
 use Rattle.mdp_command.proofs.Working.{read_of_due}
 
 abbrev pub true_claim_of : (checker : Checker) (rule : RowRule) (m : Mdp) (bytes text : List ℕ) (cert : checker.meaning.Certificate) → model_due rule bytes ≡ Ok m
-    → length text ≤ most_bytes → checker.meaning.outcome text ≡ Ok cert → checker.IsAccepted m cert → checker.meaning.IsBound m cert → IsTrueClaimBy checker rule bytes text
+    → length text ≤ most_bytes → checker.outcome text ≡ Ok cert → checker.IsAccepted m cert → checker.meaning.IsBound m cert → IsTrueClaimBy checker rule bytes text
 true_claim_of checker rule m bytes text cert is short read holds bound =
     let model = read_of_due rule bytes m is in
     record {

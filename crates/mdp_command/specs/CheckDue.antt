@@ -7,7 +7,7 @@ use Rattle.mdp_command.specs.declared.kind.CertificateKind.{CertificateKind}
 
 -- the text is judged first, then the certificate is held against the model
 abbrev pub said_to_text : Checker → Mdp → List ℕ → Said
-said_to_text checker m text = certificate_or_refusal (checker.meaning.outcome text) >>= (λ c. said_of (checker.answer_to m c))
+said_to_text checker m text = certificate_or_refusal (checker.outcome text) >>= (λ c. said_of (checker.answer_to m c))
 
 -- the number of bytes comes before all
 abbrev pub check_due : Checker → Mdp → List ℕ → Said

@@ -1,10 +1,13 @@
 -- The checker of each kind of certificates, and that of a text.
 use Rattle.std.specs.Prelude.{ℕ, List, Option, Some, None}
+use Rattle.mdp_cert.specs.BoundsReading as bounds_text
 use Rattle.mdp_check.specs.Bounds as bounds
 use Rattle.mdp_check.specs.declared.answer.Answer.{Answer}
 use Rattle.mdp_check.specs.declared.answer.Answer.TheVariants as answer
 use Rattle.mdp_discount_bounds.specs.Check as discount_bounds
 use Rattle.mdp_discount_rules.specs.Check as discount
+use Rattle.mdp_discount_text.specs.Reading as discount_bounds_text
+use Rattle.mdp_discount_text.specs.Text as discount_text
 use Rattle.mdp_discount_rules.specs.declared.answer.DiscountAnswer.{DiscountAnswer}
 use Rattle.mdp_discount_rules.specs.declared.answer.DiscountAnswer.TheVariants.{Yes, No, Wide, NoReward, Size}
 use Rattle.mdp_command.specs.{Accepted.{Checker, exact}, Meanings.{discounted_meaning, between_meaning, discounted_between_meaning, bounds_kind, kind_of}}
@@ -22,14 +25,23 @@ as_answer NoReward = answer.NoReward
 as_answer Size = answer.Size
 
 abbrev pub discounted : Checker
-discounted = record { meaning = discounted_meaning; answer_to = λ m c. as_answer (discount.answer_to m c); IsAccepted = discount.IsAccepted }
+discounted = record {
+  meaning = discounted_meaning;
+  outcome = discount_text.outcome;
+  answer_to = λ m c. as_answer (discount.answer_to m c);
+  IsAccepted = discount.IsAccepted;
+}
 
 abbrev pub between : Checker
-between = record { meaning = between_meaning; answer_to = bounds.bounds_answer_to; IsAccepted = bounds.IsBoundsAccepted }
+between = record { meaning = between_meaning; outcome = bounds_text.outcome; answer_to = bounds.bounds_answer_to; IsAccepted = bounds.IsBoundsAccepted }
 
 abbrev pub discounted_between : Checker
-discounted_between =
-    record { meaning = discounted_between_meaning; answer_to = λ m c. as_answer (discount_bounds.answer_to m c); IsAccepted = discount_bounds.IsAccepted }
+discounted_between = record {
+  meaning = discounted_between_meaning;
+  outcome = discount_bounds_text.outcome;
+  answer_to = λ m c. as_answer (discount_bounds.answer_to m c);
+  IsAccepted = discount_bounds.IsAccepted;
+}
 
 abbrev pub checker_of : CertificateKind → Checker
 checker_of Exact = exact

@@ -5,24 +5,23 @@ use Rattle.mdp_claims.specs.declared.verdict.Verdict.TheVariants.{Yes}
 use Rattle.mdp_check.specs.Bounds as bounds
 use Rattle.mdp_check.specs.BoundsInitial as bounds_initial
 use Rattle.mdp_cert.specs.BoundsCert as bounds_cert
-use Rattle.mdp_cert.specs.BoundsReading as bounds_reading
 use Rattle.mdp_cert.specs.BoundsSpelling as bounds_text
 use Rattle.mdp_discount_bounds.specs.Cert as discount_bounds_cert
 use Rattle.mdp_discount_bounds.specs.Check as discount_bounds
-use Rattle.mdp_discount_text.specs.Reading as discount_bounds_reading
+use Rattle.mdp_discount_text.specs.BoundsSpelling as discount_bounds_text
+use Rattle.mdp_discount_text.specs.Reading.{is_discount_claim}
 use Rattle.mdp_discount_rules.specs.Cert as discount_cert
 use Rattle.mdp_discount_rules.specs.Check as discount
 use Rattle.mdp_discount_text.specs.Spelling as discount_text
-use Rattle.mdp_discount_text.specs.Text as discount_reading
 use Rattle.mdp_job.specs.Text.{line}
-use Rattle.mdp_command.specs.{Meaning.{Meaning, exact_meaning}, declared.kind.CertificateKind.{CertificateKind}}
+use Rattle.mdp_command.specs.{Meaning.{IsTextOf, Meaning, exact_meaning}, declared.kind.CertificateKind.{CertificateKind}}
 use Rattle.mdp_command.specs.declared.kind.CertificateKind.TheVariants.{Exact, Discounted, Bounds, DiscountedBounds}
 
 -- of discounted rewards: no policy is better than the values by more than what is left of the remainder after so many steps
 abbrev pub discounted_meaning : Meaning
 discounted_meaning = record {
   Certificate = discount_cert.Certificate;
-  outcome = discount_reading.outcome;
+  IsText = IsTextOf discount_cert.Fits discount_text.text_of;
   states = λ c. length c.values;
   IsStart = λ m c. discount.init_check c.init (initial_of m) c.values ≡ Yes;
   IsBound = discount.IsBound;
@@ -32,7 +31,7 @@ discounted_meaning = record {
 abbrev pub between_meaning : Meaning
 between_meaning = record {
   Certificate = bounds_cert.Certificate;
-  outcome = bounds_reading.outcome;
+  IsText = IsTextOf bounds_cert.Fits bounds_text.text_of;
   states = λ c. c.states;
   IsStart = λ m c. bounds_initial.bounds_init_check c.init (initial_of m) c.body ≡ Yes;
   IsBound = bounds.IsBoundsTrue;
@@ -42,7 +41,7 @@ between_meaning = record {
 abbrev pub discounted_between_meaning : Meaning
 discounted_between_meaning = record {
   Certificate = discount_bounds_cert.Certificate;
-  outcome = discount_bounds_reading.outcome;
+  IsText = IsTextOf discount_bounds_cert.Fits discount_bounds_text.text_of;
   states = λ c. length c.lower;
   IsStart = λ m c. discount_bounds.init_check c.init (initial_of m) c.lower c.upper ≡ Yes;
   IsBound = discount_bounds.IsBound;
@@ -59,7 +58,7 @@ begins_with front bytes = bytes_eq front (take (length front) bytes)
 
 -- of a certificate of bounds, by the claim in its second line
 abbrev pub bounds_kind : List ℕ → CertificateKind
-bounds_kind bytes = if discount_bounds_reading.is_discount_claim bytes then DiscountedBounds else Bounds
+bounds_kind bytes = if is_discount_claim bytes then DiscountedBounds else Bounds
 
 -- by its first line. A text with any other first line is held to be a certificate of best values: that checker refuses it, or knows the line
 abbrev pub kind_of : List ℕ → CertificateKind

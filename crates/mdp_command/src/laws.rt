@@ -1,5 +1,6 @@
-ghost use Rattle.mdp_command.specs.{Kinds.{checker_of}, CheckLaws.{YesIsAccepted, AcceptedIsTrue}, declared.kind.CertificateKind.{CertificateKind}};
+ghost use Rattle.mdp_command.specs.{Kinds.{checker_of}, CheckLaws.{YesIsAccepted, AcceptedIsTrue, ReadsItsText, NamesItsKind}, declared.kind.CertificateKind.{CertificateKind}};
 
+use mdp_cert::{bounds_text_law, text_law};
 use mdp_check::{bounds_checking_law, checking_law};
 use mdp_discount_bounds::discount_bounds_law;
 use mdp_discount_rules::discount_rules_law;
@@ -7,12 +8,16 @@ use mdp_discount_text::{discount_bounds_text_law, discount_text_law};
 use mdp_drn::model_law;
 
 /// Laws of a check, for certificates of each kind: a `yes` is due exactly where the bytes are accepted, and the claim of an accepted certificate is
-/// true of the model.
+/// true of the model. Bytes read as a certificate exactly where they are its text, and a text names the kind of its certificate.
 pub fn check_law()
     ensures accepted { (kind : CertificateKind) → YesIsAccepted (checker_of kind) }
     ensures true_claim { (kind : CertificateKind) → AcceptedIsTrue (checker_of kind) }
+    ensures text { (kind : CertificateKind) → ReadsItsText (checker_of kind) }
+    ensures kind { (kind : CertificateKind) → NamesItsKind kind }
 {
     checking_law();
+    text_law();
+    bounds_text_law();
     discount_rules_law();
     discount_text_law();
     bounds_checking_law();

@@ -8,5 +8,5 @@ returns g c = record {
   second_after = c.run.new.cert;
   opened_model = (_, c.open_model-model.ensures, c.paths_of-paths.ensures.model);
   opened_second = (_, c.open_cert-cert.ensures, c.paths_of-paths.ensures.cert);
-  run = record { answer = c.run.ensures.answer; done = c.run.ensures.done; complete = c.run.ensures.complete };
+  run = record { answer = c.run.ensures.answer; done = c.run.ensures.done; done_of_text = c.run.ensures.done_of_text; complete = c.run.ensures.complete };
 }

@@ -1,4 +1,5 @@
 use Rattle.mdp_command.specs.{Kinds.{checker_of}, declared.kind.CertificateKind.{CertificateKind}}
+use Rattle.mdp_command.proofs.CertificateTexts.{reads_its_text, names_its_kind}
 use Rattle.mdp_command.proofs.Accepting.{IsSound, each_is_sound, discounted_bounds_are_sound, yes_is_accepted, accepted_is_true}
 use Rattle.mdp_command.proofs.laws.check_law.Goals as goal
 
@@ -11,4 +12,6 @@ returns c =
     record {
       accepted = λ kind. yes_is_accepted (checker_of kind) c.model_law.ensures (sound kind);
       true_claim = λ kind. accepted_is_true (checker_of kind) c.model_law.ensures (sound kind);
+      text = reads_its_text c.text_law.ensures.read c.bounds_text_law.ensures.read c.discount_text_law.ensures.read c.discount_bounds_text_law.ensures.read;
+      kind = names_its_kind;
     }
