@@ -11,6 +11,7 @@ pub mod Limits
 mod Examples
 mod ExamplesTotals
 pub mod Rounding
+pub mod Past
 pub mod Making
 pub mod Totals
 pub mod Units

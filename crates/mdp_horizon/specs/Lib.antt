@@ -16,6 +16,7 @@ pub mod Exact
 pub mod Gap
 pub mod Finite
 pub mod Columns
+pub mod Past
 pub mod BoundsCode
 pub mod BoundsAnswer
 pub mod BoundsSpelling

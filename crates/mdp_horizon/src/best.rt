@@ -1,19 +1,56 @@
-ghost use Rattle.std.specs.Prelude.{◌≡◌, ◌<◌, length};
+ghost use Rattle.std.specs.Prelude.{◌≡◌, ◌<◌, ◌^◌, length, Some, pos, ◌<ℤ◌, unsigned_abs, false};
 ghost use Rattle.mdp_horizon.specs.Columns.{covered, covered_with, covered_from, followed, followed_from, judged, is_ahead};
+ghost use Rattle.mdp_horizon.specs.{Scaled.{rounded_sum}, Whole.{rounded, farther, opposite}, Past.{IsReached}};
 ghost use Rattle.mdp_horizon.specs.BoundsCode.{plain_choice, plain_choices, IsReady, AreReady};
 
 use crate::choice::ScaledChoice;
 use crate::leader::Leader;
-use crate::whole::{farther, opposite};
+use crate::whole::{farther, opposite, rounded, times};
 use mdp_rows::Dir;
+
+/// Whether `new` is strictly better than `old`.
+fn is_better(dir: Dir, new: i128, old: i128) -> bool
+    ensures { result ≡ is_ahead dir (Some new) (Some old) }
+{
+    match dir {
+        Dir::Max => old < new,
+        Dir::Min => new < old,
+    }
+}
+
+/// Whether n/d may lie strictly beyond `far`. Where it doesn't, it needn't be divided.
+fn is_past(dir: Dir, far: i128, n: i128, d: i128) -> bool
+    ensures { result ≡ false → IsReached dir far n d }
+{
+    match times(far, d) {
+        Some(limit) => is_better(dir, n, limit),
+        None => true,
+    }
+}
+
+/// The quotient n/d, rounded, where it lies farther than `far`.
+fn farther_quotient(dir: Dir, far: i128, n: i128, d: i128) -> i128
+    requires narrow { unsigned_abs n < 2 ^ 127 }
+    requires positive { pos 0 <ℤ d }
+    ensures { result ≡ farther dir far (rounded dir n d) }
+{
+    let past = is_past(dir, far, n, d);
+    if past {
+        farther(dir, far, rounded(dir, n, d))
+    } else {
+        far
+    }
+}
 
 /// The sum of a choice, where it lies farther than `far`.
 fn covered_with(dir: Dir, column: &[Option<i128>], far: i128, choice: &ScaledChoice) -> Option<i128>
     requires { IsReady (length column.now) (plain_choice choice.now) }
     ensures { result ≡ covered_with dir column.now far (plain_choice choice.now) }
 {
-    let sum = choice.rounded_sum(dir, column)?;
-    Some(farther(dir, far, sum))
+    match choice.summed(column) {
+        Some(sum) => Some(farther_quotient(dir, far, sum, choice.scale.common)),
+        None => Some(farther(dir, far, choice.trivial(dir, column)?)),
+    }
 }
 
 /// The farthest of the choices' sums, rounded; none where one of them is missing.
@@ -58,6 +95,38 @@ fn judged(dir: Dir, c: u32, leader: Leader, sum: Option<i128>) -> Leader
     leader
 }
 
+/// The leader after the quotient n/d of choice `c`, rounded the other way.
+fn judged_quotient(dir: Dir, c: u32, leader: Leader, n: i128, d: i128) -> Leader
+    requires narrow { unsigned_abs n < 2 ^ 127 }
+    requires positive { pos 0 <ℤ d }
+    ensures { result ≡ judged dir c leader (Some (rounded (opposite dir) n d)) }
+{
+    if let Some(far) = leader.value {
+        let past = is_past(dir, far, n, d);
+        if !past {
+            return leader;
+        }
+    }
+    judged(dir, c, leader, Some(rounded(opposite(dir), n, d)))
+}
+
+/// The leader after the sum of choice `c`, rounded the other way.
+fn judged_sum(
+    dir: Dir,
+    column: &[Option<i128>],
+    c: u32,
+    leader: Leader,
+    choice: &ScaledChoice,
+) -> Leader
+    requires { IsReady (length column.now) (plain_choice choice.now) }
+    ensures { result ≡ judged dir c leader (rounded_sum (opposite dir) column.now (plain_choice choice.now)) }
+{
+    match choice.summed(column) {
+        Some(sum) => judged_quotient(dir, c, leader, sum, choice.scale.common),
+        None => judged(dir, c, leader, choice.trivial(opposite(dir), column)),
+    }
+}
+
 /// The first choice with the best sum, rounded the other way.
 pub(crate) fn followed(
     dir: Dir,
@@ -70,14 +139,12 @@ pub(crate) fn followed(
     requires ready { AreReady (length column.now) choices.now }
     ensures { result ≡ followed dir column.now (plain_choices choices.now) }
 {
-    let side = opposite(dir);
     let mut leader = Leader {
-        value: choices[0].rounded_sum(side, column),
+        value: choices[0].rounded_sum(opposite(dir), column),
         choice: 0,
     };
     for c in 1..count {
-        let sum = choices[c as usize].rounded_sum(side, column);
-        leader = judged(dir, c, leader, sum);
+        leader = judged_sum(dir, column, c, leader, &choices[c as usize]);
     }
     leader
 }

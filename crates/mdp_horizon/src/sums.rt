@@ -1,6 +1,6 @@
 ghost use Rattle.std.specs.Prelude.{◌≡◌, ◌<◌, ◌≤◌, ◌^◌, length, pos, ◌<ℤ◌, ◌≤ℤ◌, unsigned_abs, IfOk, IfSome, All};
 ghost use Rattle.mdp_horizon.specs.Scaled.{total_with, farthest_with, total_of, divided, farthest_from, farthest, start_to, trivial, rounded_sum};
-ghost use Rattle.mdp_horizon.specs.{Whole.{whole_at}, BoundsCode.{plain_choice, IsReady}};
+ghost use Rattle.mdp_horizon.specs.{Whole.{whole_at}, Past.{summed}, BoundsCode.{plain_choice, IsReady}};
 
 use crate::choice::{ScaledChoice, Term};
 use crate::whole::{farther, plus, rounded, times};
@@ -49,6 +49,20 @@ impl ScaledChoice {
         Some(total)
     }
 
+    /// The sum before it is divided; none where a term is too wide.
+    pub(crate) fn summed(&self, column: &[Option<i128>]) -> Option<i128>
+        requires targets { All (λ t. t.target < length column.now) self.now.terms.items }
+        requires narrow { unsigned_abs self.now.scale.start < 2 ^ 127 }
+        ensures value { result ≡ summed column.now (plain_choice self.now) }
+        ensures narrow { IfSome result (λ sum. unsigned_abs sum < 2 ^ 127) }
+        ensures positive { IfSome result (λ sum. pos 0 <ℤ self.now.scale.common) }
+    {
+        if self.scale.common <= 0 {
+            return None;
+        }
+        self.total(column)
+    }
+
     /// The sum over the common denominator, rounded; none where a term is too wide.
     fn divided(&self, side: Dir, column: &[Option<i128>]) -> Option<i128>
         requires targets { All (λ t. t.target < length column.now) self.now.terms.items }
@@ -87,7 +101,7 @@ impl ScaledChoice {
     }
 
     /// What is earned at once, rounded, and the value of a target that lies farthest to the side.
-    fn trivial(&self, side: Dir, column: &[Option<i128>]) -> Option<i128>
+    pub(crate) fn trivial(&self, side: Dir, column: &[Option<i128>]) -> Option<i128>
         requires some { 0 < length self.now.terms.items }
         requires targets { All (λ t. t.target < length column.now) self.now.terms.items }
         ensures { result ≡ trivial side column.now (plain_choice self.now) }
