@@ -4,7 +4,7 @@ ghost use Rattle.std.specs.Prelude.{◌<◌};
 ghost use Rattle.mdp_spec.specs.Mdp.{states_of};
 ghost use Rattle.mdp_parts.specs.FoundEnds.{AreEndsOf};
 
-use crate::search::{Column, Found, Places, Search, coarse};
+use crate::search::{Column, Found, Places, Search, coarse_scale};
 use mdp_num::{Frac, Memory};
 use mdp_parts::{Ends, end_components};
 use mdp_proposals::{MOST_DIGITS, fraction};
@@ -68,23 +68,28 @@ fn components_of(alloc: Global, model: &Model, ends: &Ends) -> Result<Components
 /// What a search comes to with relative values of this scale, and gains that need so many digits before the point.
 fn searched(
     alloc: Global,
-    places: &Places<'_>,
-    components: &Components,
+    earning: Earning<'_>,
+    ends: &Ends,
+    places: &Places,
     scale: Scale,
     room: u32,
-) -> Result<Found, Memory> {
+) -> Result<Found, Memory>
+    requires { AreEndsOf earning.model.now ends.now }
+{
     let layout = Layout {
         keeps_inner: true,
-        ..Layout::new(places.earning, &places.states)
+        ..Layout::new(earning, &places.states)
     };
     let rows = layout.rows(alloc, scale)?;
     if rows.has_any_wide() {
         return Ok(Found::none(alloc, scale.digits));
     }
-    let gains = end_gains(alloc, &rows, components)?;
+    let gains = end_gains(alloc, &rows, &places.components)?;
     let inner = rows.choices_of(alloc, &gains.picks)?;
-    let coarse = coarse(scale);
+    let coarse = coarse_scale(scale);
     let search = Search {
+        earning,
+        ends,
         places,
         rows: &rows,
         gains: &gains,
@@ -92,23 +97,18 @@ fn searched(
         coarse,
         units: power_of_ten(scale.digits.saturating_sub(coarse.digits)),
     };
-    let gains_scale = Scale {
-        digits: scale.digits,
-        room,
-    };
-    search.run(alloc, gains_scale)
+    let digits = scale.digits;
+    search.run(alloc, Scale { digits, room })
 }
 
 /// What the search comes to that finds the nearest bounds, the first one that finds them near enough. Gains need so many digits before the point.
 fn nearest(alloc: Global, earning: Earning<'_>, room: u32, digits: u32) -> Result<Found, Memory> {
     let model = earning.model;
     let ends = end_components(alloc, model)?;
-    let components = components_of(alloc, model, &ends)?;
     let places = Places {
-        earning,
-        ends: &ends,
         nodes: joined_nodes(alloc, model, &ends, &[])?,
         states: single_nodes(alloc, model.states())?,
+        components: components_of(alloc, model, &ends)?,
     };
     let mut best = Found::none(alloc, digits);
     for more in MORE_DIGITS {
@@ -117,7 +117,7 @@ fn nearest(alloc: Global, earning: Earning<'_>, room: u32, digits: u32) -> Resul
             digits: digits.min(MOST_ROOM.saturating_sub(wider)),
             room: wider,
         };
-        let next = searched(alloc, &places, &components, scale, room)?;
+        let next = searched(alloc, earning, &ends, &places, scale, room)?;
         if next.is_better(&best) {
             best = next;
         }

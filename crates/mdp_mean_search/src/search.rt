@@ -6,8 +6,8 @@ use mdp_num::{Frac, Memory};
 use mdp_parts::Ends;
 use mdp_reach_search::{Earning, Layout, led_policy, picked_choices};
 use mdp_refinement::{
-    Bound, EndGains, Nodes, Rows, Scale, Solution, Task, Value, WholeRow, flag_at, item_at, put,
-    quotient, solve, value_at,
+    Bound, Components, EndGains, Nodes, Rows, Scale, Solution, Task, Value, WholeRow, flag_at,
+    item_at, put, quotient, solve, value_at,
 };
 use mdp_rows::Pred;
 use std::alloc::{AllocError, Global};
@@ -74,21 +74,23 @@ impl Found {
     }
 }
 
-/// What choices earn, the maximal end components, the nodes that these and the other states are, and each state as a node of its own.
+/// The nodes that end components and the other states are, and each state as a node of its own; and the end components, each in the order in which it is best
+/// solved.
 #[derive(Drop)]
-pub(crate) struct Places<'a> {
-    pub(crate) earning: Earning<'a>,
-    pub(crate) ends: &'a Ends,
+pub(crate) struct Places {
     pub(crate) nodes: Nodes,
     pub(crate) states: Nodes,
-    ghost found: { AreEndsOf earning.model.now ends.now },
+    pub(crate) components: Components,
 }
 
-/// What all steps of a search need: the rows of all choices, none of which was too wide, what is known of the gains of end components, the choices that stay in
-/// these, and the scale of relative values where they are left, which has so many units for one.
+/// What all steps of a search need: what choices earn, the maximal end components, the rows of all choices, none of which was too wide, what is known of the
+/// gains of end components, the choices that stay in these, and the scale of relative values where they are left, which has so many units for one.
 #[derive(Clone, Copy)]
 pub(crate) struct Search<'a> {
-    pub(crate) places: &'a Places<'a>,
+    pub(crate) earning: Earning<'a>,
+    pub(crate) ends: &'a Ends,
+    ghost found: { AreEndsOf earning.model.now ends.now },
+    pub(crate) places: &'a Places,
     pub(crate) rows: &'a Rows,
     pub(crate) gains: &'a EndGains,
     pub(crate) inner: &'a [u32],
@@ -98,7 +100,7 @@ pub(crate) struct Search<'a> {
 
 /// The scale of relative values where end components are left, beside gains of this one: how near they are costs the gains nothing, so what they have fewer
 /// digits behind the point they have more before it.
-pub(crate) fn coarse(scale: Scale) -> Scale {
+pub(crate) fn coarse_scale(scale: Scale) -> Scale {
     let digits = scale
         .digits
         .min(FEW_DIGITS.max((scale.digits / 3).saturating_mul(2)));
@@ -188,7 +190,7 @@ impl<'a> Search<'a> {
         let least = known_range(&self.gains.lower).0;
         let greatest = known_range(&self.gains.upper).1;
         let mut spread = vec![in alloc; 0i128; self.inner.len()]?;
-        for s in 0..self.places.earning.model.states() {
+        for s in 0..self.earning.model.states() {
             let gain = value_at(values, self.places.nodes.of(s)).unwrap_or(least);
             put(&mut spread, s, gain.max(least).min(greatest));
         }
@@ -206,7 +208,7 @@ impl<'a> Search<'a> {
         let nodes = &self.places.nodes;
         let nothing = Earning {
             name: None,
-            ..self.places.earning
+            ..self.earning
         };
         let layout = Layout {
             stops: self.end_gains(bound),
@@ -275,7 +277,7 @@ impl<'a> Search<'a> {
         }
         let found = solved(alloc, &rows, &given, bound, None, None)?;
         let mut relative = vec![in alloc; 0i128; gains.len()]?;
-        for s in 0..self.places.earning.model.states() {
+        for s in 0..self.earning.model.states() {
             let offset = value_at(&found.values, layout.nodes.of(s));
             match self.with_offset(s, offset, bound) {
                 Some(bias) if found.is_full => put(&mut relative, s, bias),
@@ -293,7 +295,7 @@ impl<'a> Search<'a> {
             put(&mut is_left, nodes.of(pick.state), true);
         }
         let mut staying = vec![in alloc; Value::none(); self.inner.len()]?;
-        for s in 0..self.places.earning.model.states() {
+        for s in 0..self.earning.model.states() {
             let is_inside = item_at(&self.gains.picks, s as usize, None).is_some();
             if is_inside && !flag_at(&is_left, nodes.of(s)) {
                 put(&mut staying, s, Value::known(0));
@@ -304,14 +306,13 @@ impl<'a> Search<'a> {
 
     /// The lower gains with their relative values, on the rows of a policy that comes to them, and that policy.
     fn lower(self, alloc: Global, found: NodeGains) -> Result<(Option<Column>, Vec<u32>), Memory> {
-        let places = self.places;
-        let (model, picked) = (places.earning.model, &found.picked);
-        let choices = led_policy(alloc, model, places.ends, picked, self.inner)?;
+        let (model, picked) = (self.earning.model, &found.picked);
+        let choices = led_policy(alloc, model, self.ends, picked, self.inner)?;
         let staying = self.staying(alloc, picked)?;
         let layout = Layout {
             policy: Some(&choices),
             known: &staying,
-            ..Layout::new(places.earning, &places.states)
+            ..Layout::new(self.earning, &self.places.states)
         };
         let column = self.column(alloc, found.gains, layout, Bound::Lower)?;
         Ok((column, choices))
@@ -321,7 +322,7 @@ impl<'a> Search<'a> {
     pub(crate) fn run(self, alloc: Global, scale: Scale) -> Result<Found, Memory> {
         let above = self.node_gains(alloc, scale, Bound::Upper, None)?;
         let below = self.node_gains(alloc, scale, Bound::Lower, Some(&above.solution))?;
-        let leaving = Layout::new(self.places.earning, &self.places.nodes);
+        let leaving = Layout::new(self.earning, &self.places.nodes);
         let upper = self.column(alloc, above.gains, leaving, Bound::Upper)?;
         let (lower, choices) = self.lower(alloc, below)?;
         Ok(Found {

@@ -1,7 +1,7 @@
 //! The end components that are one node each, and policies that leave them.
 
 ghost use Rattle.std.specs.Prelude.{◌≡◌, ◌<◌, length, IsTrue, IfOk, OnOk};
-ghost use Rattle.mdp_spec.specs.Mdp.{states_of};
+ghost use Rattle.mdp_spec.specs.Mdp.{states_of, choices_at};
 ghost use Rattle.mdp_rows.specs.{Draft.{has_state}, Head.{IsSameHead}, Replay.{no_rewards}};
 ghost use Rattle.mdp_parts.specs.FoundEnds.{AreEndsOf};
 
@@ -118,6 +118,30 @@ impl Layout<'_> {
         (0..self.earning.model.states()).any(|s| self.has_free_at(s))
     }
 
+    /// Gives a builder a choice of a state, if it earns nothing, and else a loop.
+    fn give_free_at(
+        self,
+        alloc: Global,
+        builder: &mut Builder,
+        zeros: &[Frac],
+        s: u32,
+        c: u32,
+    ) -> Result<(), Memory>
+        requires state { s < states_of self.earning.model.now }
+        requires choice { c < length (choices_at self.earning.model.now s) }
+        requires names { builder.old.names ≡ self.earning.model.now.names }
+        requires zeros { zeros.now ≡ no_rewards self.earning.model.now.names }
+        requires open { IsTrue (has_state builder.old) }
+        ensures same { OnOk result (IsSameHead builder.old builder.new) }
+        ensures state_open { OnOk result (IsTrue (has_state builder.new)) }
+    {
+        if self.is_free(s, c) {
+            give_choice(alloc, builder, self.earning.model, s, c)
+        } else {
+            give_loop(builder, zeros, s)
+        }
+    }
+
     /// Gives a builder the choices of a state that earn nothing, and loops in place of the others.
     fn give_free(
         self,
@@ -132,13 +156,8 @@ impl Layout<'_> {
         requires open { IsTrue (has_state builder.old) }
         ensures same { OnOk result (IsSameHead builder.old builder.new) }
     {
-        let model = self.earning.model;
-        for c in 0..model.choices(s) {
-            if self.is_free(s, c) {
-                give_choice(alloc, builder, model, s, c)?;
-            } else {
-                give_loop(builder, zeros, s)?;
-            }
+        for c in 0..self.earning.model.choices(s) {
+            self.give_free_at(alloc, builder, zeros, s, c)?;
         }
         Ok(())
     }

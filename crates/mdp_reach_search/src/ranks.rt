@@ -1,6 +1,6 @@
 //! The ranks of states: how many steps it is from them to a goal.
 
-ghost use Rattle.std.specs.Prelude.{◌≡◌, length, IfOk};
+ghost use Rattle.std.specs.{Prelude.{◌≡◌, ◌<◌, length, IfOk}, List.{All}};
 ghost use Rattle.mdp_spec.specs.Mdp.{states_of};
 
 use mdp_graph::{Edges, must_meet, ranks_by};
@@ -8,6 +8,18 @@ use mdp_num::Memory;
 use mdp_refinement::{flag_at, item_at, number_at};
 use mdp_rows::{Marks, Model};
 use std::alloc::{AllocError, Global};
+
+/// Where a policy leads from a state: nowhere from a blocked one.
+fn targets_at<'a>(model: &'a Model, policy: &[u32], is_blocked: &[bool], s: u32) -> &'a [u32]
+    requires { s < states_of model.now }
+    ensures { All (λ t. t < states_of model.now) result.now }
+{
+    let choice = number_at(policy, s);
+    if flag_at(is_blocked, s) || choice >= model.choices(s) {
+        return &[];
+    }
+    model.row(s, choice).targets
+}
 
 /// For the greatest values: the least number of steps from each state to a goal by a policy, where no step begins at a blocked state; none where there is no
 /// such way.
@@ -22,10 +34,7 @@ pub(crate) fn max_ranks(
 {
     let mut edges = Edges::none(alloc, model.states());
     for s in 0..model.states() {
-        let choice = number_at(policy, s);
-        if choice < model.choices(s) && !flag_at(is_blocked, s) {
-            edges.push_row(s, model.row(s, choice).targets)?;
-        }
+        edges.push_row(s, targets_at(model, policy, is_blocked, s))?;
     }
     let leading = edges.sorted(alloc)?;
     ranks_by(alloc, &leading, goals, model.states())

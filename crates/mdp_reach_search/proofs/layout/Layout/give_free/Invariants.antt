@@ -1,6 +1,6 @@
 use Rattle.std.proofs.Common.{IsTrue}
 use Rattle.mdp_rows.specs.{Draft.{has_state}, Head.{IsSameHead}}
-use Rattle.mdp_reach_search.proofs.ends.Layout.give_free.Given as goal
+use Rattle.mdp_reach_search.proofs.layout.Layout.give_free.Given as goal
 
 abbrev pub invariant-loop-c : goal.invariant-loop-c
 invariant-loop-c l = record {
