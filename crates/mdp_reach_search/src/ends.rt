@@ -162,6 +162,25 @@ impl Layout<'_> {
         Ok(())
     }
 
+    /// Gives a builder a state with these choices.
+    fn give_state(
+        self,
+        alloc: Global,
+        builder: &mut Builder,
+        zeros: &[Frac],
+        s: u32,
+    ) -> Result<(), Memory>
+        requires state { s < states_of self.earning.model.now }
+        requires names { builder.old.names ≡ self.earning.model.now.names }
+        requires zeros { zeros.now ≡ no_rewards self.earning.model.now.names }
+        ensures same { OnOk result (IsSameHead builder.old builder.new) }
+    {
+        let Ok(()) = builder.state(zeros) else {
+            return Err(Memory);
+        };
+        self.give_free(alloc, builder, zeros, s)
+    }
+
     /// The model with the choices that earn nothing, and with loops in place of the others. Its end components are those of such choices.
     pub(crate) fn free_model(self, alloc: Global) -> Result<Model, Memory> {
         let model = self.earning.model;
@@ -170,10 +189,7 @@ impl Layout<'_> {
         let zeros = zeros_of(alloc, model)?;
         let mut builder = Builder::new(alloc, model.states(), RowRule::Exact, names)?;
         for s in 0..model.states() {
-            let Ok(()) = builder.state(&zeros) else {
-                return Err(Memory);
-            };
-            self.give_free(alloc, &mut builder, &zeros, s)?;
+            self.give_state(alloc, &mut builder, &zeros, s)?;
         }
         match builder.finish() {
             Ok(free) => Ok(free),
