@@ -43,6 +43,7 @@ pub(crate) fn leaving_rows(
         }
         push_leaving(&mut rows, payoffs, nodes, *s, is_earning)?;
     }
+    rows.fit();
     Ok(rows)
 }
 
@@ -62,5 +63,6 @@ pub(crate) fn policy_rows(
             payoffs.push_leaving(&mut rows, states, s, number_at(choices, s), true)?;
         }
     }
+    rows.fit();
     Ok(rows)
 }

@@ -7,9 +7,6 @@ use mdp_rows::{Dir, Model};
 use std::alloc::{AllocError, Global};
 use std::cmp::Ordering;
 
-/// No fewer digits than these are sought so that rows need no coarser units.
-const LEAST_FITTING: u32 = 24;
-
 /// The least and the greatest of all rewards: no gain lies outside.
 #[derive(Clone, Copy)]
 pub(crate) struct Extremes {
@@ -134,25 +131,20 @@ impl Payoffs<'_> {
         Ok(())
     }
 
-    /// The rows of all choices, where each state is a node, with a few digits fewer where no row need then be in coarser units; and their scale.
+    /// The rows of all choices, where each state is a node.
     pub(crate) fn rows(
         self,
         alloc: Global,
         nodes: &Nodes,
         scale: Scale,
-    ) -> Result<(Rows, Scale), AllocError> {
+    ) -> Result<Rows, AllocError> {
         let every = vec![in alloc; true; self.model.states() as usize]?;
         let mut rows = sized_rows(alloc, self.model, nodes.count(), &every, scale)?;
         for s in 0..self.model.states() {
             rows.push_node()?;
             self.push_each(&mut rows, nodes, s)?;
         }
-        let mut fitting = scale;
-        fitting.digits = rows.least_digits();
-        if fitting.digits < LEAST_FITTING || fitting.digits == scale.digits {
-            return Ok((rows, scale));
-        }
-        rows.rescale(fitting);
-        Ok((rows, fitting))
+        rows.fit();
+        Ok(rows)
     }
 }

@@ -42,7 +42,8 @@ fn searched(
     scale: Scale,
     room: u32,
 ) -> Result<Found, AllocError> {
-    let (rows, scale) = payoffs.rows(alloc, &places.states, scale)?;
+    let rows = payoffs.rows(alloc, &places.states, scale)?;
+    let scale = rows.scale();
     if rows.has_any_wide() {
         return Ok(Found::none(alloc, scale.digits));
     }

@@ -118,14 +118,6 @@ fn task(bound: Bound, anyway: Option<i128>) -> Task {
     }
 }
 
-/// The other bound.
-fn other(bound: Bound) -> Bound {
-    match bound {
-        Bound::Lower => Bound::Upper,
-        Bound::Upper => Bound::Lower,
-    }
-}
-
 /// Values of nodes, 0 for those that have no rows.
 fn given_ends(alloc: Global, rows: &Rows, nodes: u32) -> Result<Vec<Value>, AllocError> {
     let mut given = vec![in alloc; Value::none(); nodes as usize]?;
@@ -201,19 +193,15 @@ impl Search<'_, '_> {
         }
     }
 
-    /// What a choice earns over the bias and the gain of its state, in units of a row with the same denominator, rounded so that it is a bound. None past
+    /// What a choice earns over the bias and the gain of its state, in coarse units times the denominator of its row, rounded so that it is a bound. None past
     /// 128 bits.
-    fn earned_over(self, s: u32, c: u32, unit: i128, gains: &[i128], bound: Bound) -> Option<i128> {
+    fn earned_over(self, s: u32, c: u32, gains: &[i128], bound: Bound) -> Option<i128> {
         let place = self.rows.range_of(s).0.checked_add(c as usize)?;
         let row = self.rows.row(place)?;
-        let gain = quotient(item_at(gains, s as usize, 0), row.unit(), other(bound))?;
-        let excess = self.rows.excess(row, self.biases(bound), bound)?;
+        let gain = item_at(gains, s as usize, 0);
+        let excess = self.rows.excess(row, self.biases(bound))?;
         let over = excess.checked_sub(row.denominator.checked_mul(gain)?)?;
-        let unit = unit.checked_mul(self.units)?;
-        if unit < row.unit() {
-            return over.checked_mul(row.unit().checked_div(unit)?);
-        }
-        quotient(over, unit.checked_div(row.unit())?, bound)
+        quotient(over, self.units, bound)
     }
 
     /// Gives the rows of a node as rewards what their choices earn over the bias and the gains of their states. Whether that was possible.
@@ -221,7 +209,7 @@ impl Search<'_, '_> {
         let (from, to) = rows.range_of(node);
         for place in from..to {
             let earned = match rows.row(place) {
-                Some(row) => self.earned_over(row.state, row.choice, row.unit(), gains, bound),
+                Some(row) => self.earned_over(row.state, row.choice, gains, bound),
                 None => None,
             };
             match earned {

@@ -133,6 +133,7 @@ impl Earning<'_> {
                 self.push_rows(&mut rows, nodes, has_value, *s)?;
             }
         }
+        rows.fit();
         Ok(rows)
     }
 }

@@ -92,6 +92,7 @@ impl Sought for Search<'_, '_, '_> {
             self.push_state(&mut rows, s)?;
         }
         rows.push_node()?;
+        rows.fit();
         Ok(rows)
     }
 

@@ -1,7 +1,5 @@
 //! Which bound is sought, and what it asks of the choices.
 
-use std::cmp::Ordering;
-
 /// A bound from below or from above.
 #[derive(Clone, Copy, PartialEq, Eq)]
 pub enum Bound {
@@ -23,11 +21,7 @@ pub struct Task {
 impl Task {
     /// Whether the bound is to hold on each choice, and not on the policy's alone.
     pub fn is_each(self) -> bool {
-        if self.is_max {
-            self.bound == Bound::Upper
-        } else {
-            self.bound == Bound::Lower
-        }
+        self.is_max == (self.bound == Bound::Upper)
     }
 
     /// 1 for an upper bound, -1 for a lower one.
@@ -57,14 +51,6 @@ impl Task {
         match self.bound {
             Bound::Upper => value < other,
             Bound::Lower => value > other,
-        }
-    }
-
-    /// Whether a row whose value has this order to that of its node breaks the bound.
-    pub fn is_broken(self, order: Ordering) -> bool {
-        match self.bound {
-            Bound::Upper => order == Ordering::Greater,
-            Bound::Lower => order == Ordering::Less,
         }
     }
 }

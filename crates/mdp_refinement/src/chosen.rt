@@ -1,16 +1,8 @@
 //! The rows that a policy takes, copied one behind the other, so that what follows them reads no others.
 
-use crate::component::{Component, over};
-use crate::lists::{append, float_at, item_at, part_of, set_at, sum_over};
+use crate::component::{Component, FloatRow, over};
+use crate::lists::{append, float_at, number, part_of, place_of, put, sum_over};
 use std::alloc::{AllocError, Global};
-
-/// The row of a node. Its entries stand behind those of the node before, up to `end`.
-#[derive(Clone, Copy)]
-struct Link {
-    end: usize,
-    exit: f64,
-    total: f64,
-}
 
 /// What rows have over the values of their nodes: the least and the greatest, and the sum.
 #[derive(Clone, Copy)]
@@ -23,35 +15,14 @@ pub(crate) struct Spread {
 /// The row of each node.
 #[derive(Drop)]
 pub(crate) struct Chosen {
-    links: Vec<Link>,
+    rows: Vec<FloatRow>,
     entries: Vec<(u32, f64)>,
 }
 
 impl Spread {
-    /// That of no rows.
-    pub(crate) fn none() -> Spread {
-        Spread {
-            least: f64::INFINITY,
-            greatest: f64::NEG_INFINITY,
-            sum: 0.0,
-        }
-    }
-
-    /// Takes in what a row has over.
-    pub(crate) fn take(&mut self, over: f64) {
-        self.least = self.least.min(over);
-        self.greatest = self.greatest.max(over);
-        self.sum += over;
-    }
-
     /// The mean of so many.
     pub(crate) fn mean(self, rows: f64) -> f64 {
         self.sum / rows
-    }
-
-    /// The middle between the least and the greatest.
-    pub(crate) fn middle(self) -> f64 {
-        (self.least + self.greatest) / 2.0
     }
 
     /// The greatest absolute value, where all are less by this.
@@ -64,7 +35,7 @@ impl Chosen {
     /// No row yet.
     pub(crate) fn empty(alloc: Global) -> Chosen {
         Chosen {
-            links: Vec::new(alloc),
+            rows: Vec::new(alloc),
             entries: Vec::new(alloc),
         }
     }
@@ -75,74 +46,67 @@ impl Chosen {
         component: &Component,
         policy: &[usize],
     ) -> Result<(), AllocError> {
-        self.links.clear();
+        self.rows.clear();
         self.entries.clear();
         for at in policy {
             let row = component.row_at(*at);
+            let first = number(self.entries.len());
             self.entries.extend_from_slice(component.entries_of(&row))?;
-            let link = Link {
-                end: self.entries.len(),
-                exit: row.exit,
-                total: row.total,
-            };
-            append(&mut self.links, link)?;
+            let end = number(self.entries.len());
+            append(&mut self.rows, FloatRow { first, end, ..row })?;
         }
         Ok(())
     }
 
+    /// The entries of a row.
+    fn entries_of(&self, row: &FloatRow) -> &[(u32, f64)] {
+        part_of(&self.entries, row.first as usize, row.end as usize)
+    }
+
+    /// What a row has over the value of its node, where rows earn so much.
+    fn over(&self, row: &FloatRow, earned: &[f64], values: &[f64]) -> f64 {
+        let own = float_at(earned, row.node);
+        over(row, own, self.entries_of(row), values)
+    }
+
     /// Gives each node in turn the value that its row makes of the values, where it earns so much.
     pub(crate) fn sweep(&self, earned: &[f64], values: &mut [f64]) {
-        let mut first = 0usize;
-        for place in 0..self.links.len() {
-            let link = self.links[place];
-            let entries = part_of(&self.entries, first, link.end);
-            let own = item_at(earned, place, 0.0);
-            set_at(values, place, sum_over(own, entries, values) / link.total);
-            first = link.end;
+        for row in &self.rows {
+            let own = float_at(earned, row.node);
+            let total = sum_over(own, self.entries_of(row), values);
+            put(values, row.node, total / row.total);
         }
     }
 
-    /// Puts in the place of what rows earn the values that this comes to, where entries to later nodes count nothing.
+    /// Gives each node the value to which what it earns comes, which it takes the place of, where entries to later nodes count nothing.
     pub(crate) fn relax(&self, values: &mut [f64]) {
-        let mut first = 0usize;
-        for place in 0..self.links.len().min(values.len()) {
-            let link = self.links[place];
-            let mut total = values[place];
-            for entry in part_of(&self.entries, first, link.end) {
-                if entry.0 as usize >= place {
-                    break;
-                }
-                total += entry.1 * float_at(values, entry.0);
-            }
-            values[place] = total / link.total;
-            first = link.end;
+        for row in &self.rows {
+            let entries = self.entries_of(row);
+            let before = part_of(entries, 0, place_of(entries, 0, row.node));
+            let total = sum_over(float_at(values, row.node), before, values);
+            put(values, row.node, total / row.total);
         }
     }
 
     /// Puts what rows that earn so much have over the values of their nodes.
     pub(crate) fn put_over(&self, earned: &[f64], values: &[f64], overs: &mut [f64]) {
-        let mut first = 0usize;
-        for place in 0..self.links.len() {
-            let link = self.links[place];
-            let entries = part_of(&self.entries, first, link.end);
-            let own = item_at(values, place, 0.0);
-            let earned = item_at(earned, place, 0.0);
-            set_at(overs, place, over(earned, link.exit, entries, own, values));
-            first = link.end;
+        for row in &self.rows {
+            put(overs, row.node, self.over(row, earned, values));
         }
     }
 
     /// What rows that earn so much have over the values of their nodes.
     pub(crate) fn spread(&self, earned: &[f64], values: &[f64]) -> Spread {
-        let mut spread = Spread::none();
-        let mut first = 0usize;
-        for place in 0..self.links.len() {
-            let link = self.links[place];
-            let entries = part_of(&self.entries, first, link.end);
-            let own = item_at(values, place, 0.0);
-            let earned = item_at(earned, place, 0.0);
-            spread.take(over(earned, link.exit, entries, own, values));
-            first = link.end;
+        let mut spread = Spread {
+            least: f64::INFINITY,
+            greatest: f64::NEG_INFINITY,
+            sum: 0.0,
+        };
+        for row in &self.rows {
+            let more = self.over(row, earned, values);
+            spread.least = spread.least.min(more);
+            spread.greatest = spread.greatest.max(more);
+            spread.sum += more;
         }
         spread
     }

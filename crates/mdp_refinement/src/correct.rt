@@ -1,12 +1,12 @@
 //! Corrections of the values of a component, in floats: the best values that gains come to, by sweeps where these come forward, else by policies, each
 //! better than the one before.
 
-use crate::chosen::Spread;
 use crate::component::Component;
 use crate::convert::to_float;
 use crate::evaluate::Evaluation;
+use crate::graph::Graph;
 use crate::leaving::Leaving;
-use crate::lists::{Groups, item_at, number, put_earned, set_at, sum_over};
+use crate::lists::{item_at, number};
 use std::alloc::{AllocError, Global};
 
 /// Components of more nodes are swept before policies are evaluated.
@@ -27,7 +27,7 @@ const SWEEPS: usize = 3;
 /// To which part a round of sweeps has to bring what rows are wrong by.
 const FORWARD: f64 = 0.1;
 
-/// Sweeps end where no row is wrong by more than this part of the greatest gain, or of a unit.
+/// Sweeps end where no row is wrong by more than this part of what the policy's rows earned, or of a unit.
 const ERROR: f64 = 1e-10;
 
 const SMALL_ERROR: f64 = 1e-3;
@@ -44,86 +44,51 @@ const SMALL_GAIN: f64 = 4e-3;
 /// What sums of floats may lose in an improvement, as a part of a node's value.
 const GAIN_LOSS: f64 = 1e-13;
 
-/// The rows of which corrections are sought, whether greater values are better or less, the least unit of a node, and a policy from which each node leaves.
+/// What each row earns over a gain, whether greater values are better or less, and whether nodes are swept.
 #[derive(Clone, Copy)]
-struct Setting<'a> {
+struct Earning<'a> {
     component: &'a Component,
+    gains: &'a [f64],
+    gain: f64,
     sense: f64,
-    unit: f64,
-    start: &'a [usize],
+    is_swept: bool,
 }
 
-impl Setting<'_> {
-    /// The best value of the node at a place, and the row that gives it.
-    fn best(self, gains: &[f64], gain: f64, place: usize, values: &[f64]) -> Option<(f64, usize)> {
-        let (from, to) = self.component.range_of(place);
-        let mut best = None;
-        for at in from..to {
-            let row = self.component.row_at(at);
-            let entries = self.component.entries_of(&row);
-            let value = sum_over(item_at(gains, at, 0.0) - gain, entries, values) / row.total;
-            match best {
-                Some((old, _)) if !((value - old) * self.sense > 0.0) => {}
-                _ => best = Some((value, at)),
-            }
-        }
-        best
+impl Earning<'_> {
+    /// What a row earns.
+    fn of(self, at: usize) -> f64 {
+        item_at(self.gains, at, 0.0) - self.gain
     }
 
-    /// Gives each node its best value in turn, and its row in the policy. Whether that changed.
-    fn sweep(self, gains: &[f64], gain: f64, values: &mut [f64], policy: &mut [usize]) -> bool {
-        let mut is_changed = false;
-        for place in 0..values.len() {
-            if let Some((value, row)) = self.best(gains, gain, place, values) {
-                is_changed = is_changed || item_at(policy, place, row) != row;
-                set_at(values, place, value);
-                set_at(policy, place, row);
-            }
-        }
-        is_changed
-    }
-
-    /// The greatest gains of nodes: the least and the greatest of them.
-    fn spread(self, gains: &[f64]) -> Spread {
-        let mut spread = Spread::none();
-        for place in 0..self.component.nodes.len() {
-            let (from, to) = self.component.range_of(place);
-            let mut best = f64::NEG_INFINITY;
-            for at in from..to {
-                best = best.max(item_at(gains, at, 0.0) * self.sense);
-            }
-            spread.take(best);
-        }
-        spread
-    }
-
-    /// What the row at a place has over the value of its node, where it earns so much over the gain, times `sense`.
-    fn gained(self, at: usize, gains: &[f64], gain: f64, values: &[f64]) -> f64 {
+    /// What a row has over the value of its node, times `sense`.
+    fn over(self, at: usize, values: &[f64]) -> f64 {
         let row = self.component.row_at(at);
-        self.component
-            .over(&row, item_at(gains, at, 0.0) - gain, values)
-            * self.sense
+        self.component.over(&row, self.of(at), values) * self.sense
     }
 
-    /// The row of the node at a place that has most over the node's value, and how much: the policy's, unless another one has more by `least`.
-    fn better(
-        self,
-        gains: &[f64],
-        gain: f64,
-        place: usize,
-        chosen: usize,
-        least: f64,
-        values: &[f64],
-    ) -> (usize, f64) {
+    /// By what a row is compared that has so much over the value of its node: that, or, in a sweep, what it makes of the value.
+    fn rank(self, at: usize, more: f64) -> f64 {
+        if self.is_swept {
+            more / self.component.row_at(at).total
+        } else {
+            more
+        }
+    }
+
+    /// The best row of the node at a place, and how much it has over the node's value: the policy's, unless another one is better by `least`.
+    fn better(self, place: usize, chosen: usize, least: f64, values: &[f64]) -> (usize, f64) {
         let (from, to) = self.component.range_of(place);
-        let own = self.gained(chosen, gains, gain, values);
+        let own = self.over(chosen, values);
         let mut best = (chosen, own);
-        let mut most = own + least;
+        let mut most = self.rank(chosen, own) + least;
         for at in from..to {
-            let more = self.gained(at, gains, gain, values);
-            if at != chosen && more > most {
-                most = more;
-                best = (at, more);
+            if at != chosen {
+                let more = self.over(at, values);
+                let rank = self.rank(at, more);
+                if rank > most {
+                    most = rank;
+                    best = (at, more);
+                }
             }
         }
         best
@@ -131,21 +96,13 @@ impl Setting<'_> {
 
     /// Improves a policy by its values: each node in turn takes the row that gains most, where that is more than `small`, and the value that this comes to.
     /// Whether the policy changed.
-    fn improve(
-        self,
-        gains: &[f64],
-        gain: f64,
-        small: f64,
-        values: &mut [f64],
-        policy: &mut [usize],
-    ) -> bool {
+    fn improve(self, small: f64, values: &mut [f64], policy: &mut [usize]) -> bool {
         let mut is_changed = false;
         for place in 0..policy.len().min(values.len()) {
-            let value = values[place];
-            let least = small + value.abs() * GAIN_LOSS;
+            let least = small + values[place].abs() * GAIN_LOSS;
             let chosen = policy[place];
-            let (row, more) = self.better(gains, gain, place, chosen, least, values);
-            if row != chosen || more > least {
+            let (row, more) = self.better(place, chosen, least, values);
+            if row != chosen || more.abs() > least {
                 values[place] += more * self.sense / self.component.row_at(row).total;
                 policy[place] = row;
                 is_changed = is_changed || row != chosen;
@@ -172,7 +129,9 @@ fn centre(values: &mut [f64]) -> f64 {
 /// each of them has over that is `gain` times the number of steps until the end. A row is better than the policy's if it gains more than `small_gain` units.
 #[derive(Drop)]
 pub(crate) struct Corrector<'a> {
-    setting: Setting<'a>,
+    component: &'a Component,
+    sense: f64,
+    start: &'a [usize],
     pub(crate) policy: Vec<usize>,
     pub(crate) values: Vec<f64>,
     pub(crate) gain: f64,
@@ -188,18 +147,15 @@ impl<'a> Corrector<'a> {
     pub(crate) fn new(
         alloc: Global,
         component: &'a Component,
-        leading: &'a Groups,
+        leading: &'a Graph,
         sense: f64,
         start: &'a [usize],
     ) -> Result<Corrector<'a>, AllocError> {
         let nodes = component.nodes.len();
         Ok(Corrector {
-            setting: Setting {
-                component,
-                sense,
-                unit: component.least_unit(),
-                start,
-            },
+            component,
+            sense,
+            start,
             policy: start.to_vec(alloc)?,
             values: vec![in alloc; 0.0; nodes]?,
             gain: 0.0,
@@ -207,47 +163,49 @@ impl<'a> Corrector<'a> {
             is_sweeping: nodes > FEW_NODES,
             earned: vec![in alloc; 0.0; nodes]?,
             evaluation: Evaluation::new(alloc, component),
-            leaving: Leaving::new(alloc, component, leading, start)?,
+            leaving: Leaving::new(alloc, component, leading)?,
         })
     }
 
-    /// Has the policy leave.
-    fn make_proper(&mut self) {
-        if !(self.setting.component.ending > 0.0) {
-            self.leaving
-                .make_proper(&mut self.policy, self.setting.start);
+    /// What rows earn.
+    fn earning<'x>(&self, gains: &'x [f64], is_swept: bool) -> Earning<'x>
+    where
+        'a: 'x,
+    {
+        Earning {
+            component: self.component,
+            gains,
+            gain: self.gain,
+            sense: self.sense,
+            is_swept,
         }
+    }
+
+    /// Has the policy leave.
+    fn make_proper(&mut self) -> Result<(), AllocError> {
+        if self.component.ending > 0.0 {
+            return Ok(());
+        }
+        self.leaving.make_proper(&mut self.policy, self.start)
     }
 
     /// Puts what the policy's rows earn.
     fn earn(&mut self, gains: &[f64]) {
-        put_earned(&mut self.earned, &self.policy, gains, self.gain);
-    }
-
-    /// Centres the values, where each step may end.
-    fn centre(&mut self) {
-        let ending = self.setting.component.ending;
-        if ending > 0.0 {
-            self.gain += ending * centre(&mut self.values);
+        let earning = self.earning(gains, false);
+        for place in 0..self.earned.len().min(self.policy.len()) {
+            self.earned[place] = earning.of(self.policy[place]);
         }
     }
 
-    /// How much the gains are in all: how far they lie apart where values are centred.
-    fn size_of(&self, gains: &[f64]) -> f64 {
-        let spread = self.setting.spread(gains);
-        let ending = self.setting.component.ending;
-        spread.size(if ending > 0.0 { spread.middle() } else { 0.0 })
-    }
-
-    /// What the policy's rows are wrong by. The mean of it goes to the gain, where each step may end.
+    /// What the policy's rows are wrong by. Where each step may end, the values are centred, and the mean of what they are wrong by goes to the gain.
     fn settle(&mut self) -> f64 {
         let spread = self.evaluation.chosen.spread(&self.earned, &self.values);
-        if !(self.setting.component.ending > 0.0) {
+        let ending = self.component.ending;
+        if !(ending > 0.0) {
             return spread.size(0.0);
         }
         let mean = spread.mean(to_float(i128::from(number(self.values.len()))));
-        self.gain += mean;
-        self.centre();
+        self.gain += mean + ending * centre(&mut self.values);
         spread.size(mean)
     }
 
@@ -264,8 +222,8 @@ impl<'a> Corrector<'a> {
     fn sweep_round(&mut self, gains: &[f64], first: usize) -> Result<(bool, f64), AllocError> {
         let mut is_changed = false;
         for _ in 0..first {
-            let (values, policy) = (&mut self.values, &mut self.policy);
-            if self.setting.sweep(gains, self.gain, values, policy) {
+            let earning = self.earning(gains, true);
+            if earning.improve(0.0, &mut self.values, &mut self.policy) {
                 is_changed = true;
             }
         }
@@ -279,8 +237,10 @@ impl<'a> Corrector<'a> {
 
     /// Sweeps as long as that brings what rows are wrong by forward. Whether it became small.
     fn sweep_on(&mut self, gains: &[f64]) -> Result<bool, AllocError> {
-        let enough = (self.setting.unit * SMALL_ERROR).max(self.size_of(gains) * ERROR);
+        self.evaluation.take(&self.policy)?;
+        self.earn(gains);
         let mut before = f64::INFINITY;
+        let enough = SMALL_ERROR.max(self.settle() * ERROR);
         let mut misses = 0u32;
         for round in 0..MOST_SWEEP_ROUNDS {
             let first = if round == 0 { FIRST_SWEEPS } else { 1 };
@@ -301,13 +261,10 @@ impl<'a> Corrector<'a> {
 
     /// Improves the policy a few times by its values, of which no row is wrong by more than `error`. Whether it changed.
     fn improve(&mut self, gains: &[f64], error: f64) -> bool {
-        let small = self.setting.unit * self.small_gain + 2.0 * error;
+        let small = self.small_gain + 2.0 * error;
         for time in 0..MOST_IMPROVEMENTS {
-            let (values, policy) = (&mut self.values, &mut self.policy);
-            if !self
-                .setting
-                .improve(gains, self.gain, small, values, policy)
-            {
+            let earning = self.earning(gains, false);
+            if !earning.improve(small, &mut self.values, &mut self.policy) {
                 return time > 0;
             }
         }
@@ -320,23 +277,15 @@ impl<'a> Corrector<'a> {
             self.evaluation.take(&self.policy)?;
             self.earn(gains);
             let (policy, earned) = (&self.policy, &self.earned);
-            if !self
-                .evaluation
-                .evaluate(alloc, policy, earned, &mut self.values)?
-            {
+            let evaluation = &mut self.evaluation;
+            if !evaluation.evaluate(alloc, policy, earned, &mut self.values)? {
                 return Ok(false);
             }
-            self.centre();
-            self.earn(gains);
-            let error = self
-                .evaluation
-                .chosen
-                .spread(&self.earned, &self.values)
-                .size(0.0);
+            let error = self.settle();
             if !self.improve(gains, error) {
                 break;
             }
-            self.make_proper();
+            self.make_proper()?;
         }
         Ok(true)
     }
@@ -347,7 +296,7 @@ impl<'a> Corrector<'a> {
         self.gain = 0.0;
         if self.is_sweeping {
             self.is_sweeping = self.sweep_on(gains)?;
-            self.make_proper();
+            self.make_proper()?;
             if self.is_sweeping {
                 return Ok(true);
             }

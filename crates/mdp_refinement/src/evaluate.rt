@@ -59,7 +59,6 @@ enum Nearness {
 #[derive(Drop)]
 pub(crate) struct Evaluation<'a> {
     component: &'a Component,
-    unit: f64,
     pub(crate) chosen: Chosen,
     factors: Option<Factors>,
     factored: Vec<usize>,
@@ -68,23 +67,12 @@ pub(crate) struct Evaluation<'a> {
     products_left: usize,
 }
 
-/// How many entries rows keep where so many were too few, of so many nodes.
-fn more_entries(most: usize, nodes: usize) -> usize {
-    let more = most.saturating_mul(MORE_ENTRIES).max(FIRST_ENTRIES);
-    if more > MANY_ENTRIES {
-        nodes.max(more)
-    } else {
-        more
-    }
-}
-
 impl<'a> Evaluation<'a> {
     /// No policy yet.
     pub(crate) fn new(alloc: Global, component: &'a Component) -> Evaluation<'a> {
         let products = component.nodes.len().saturating_mul(PRODUCTS_OF_NODE);
         Evaluation {
             component,
-            unit: component.least_unit(),
             chosen: Chosen::empty(alloc),
             factors: None,
             factored: Vec::new(alloc),
@@ -100,78 +88,55 @@ impl<'a> Evaluation<'a> {
         self.chosen.take(self.component, policy)
     }
 
-    /// Has factors of the policy at hand, in whose rows so many entries are kept, or more where else a node wouldn't leave. Whether it leaves. Where an elimination
-    /// takes too long, the factors of before are kept.
-    fn factor(&mut self, alloc: Global, policy: &[usize], most: usize) -> Result<bool, AllocError> {
-        if self.products_left == 0 {
-            return Ok(true);
-        }
-        let mut most = most;
-        for _ in 0..usize::MAX {
-            match eliminated(alloc, self.component, policy, most, self.products_left)? {
-                Elimination::Closed(true) => most = more_entries(most, policy.len()),
+    /// Has rows keep more entries, from some number on all.
+    fn keep_more(&mut self) {
+        let more = self.most.saturating_mul(MORE_ENTRIES).max(FIRST_ENTRIES);
+        self.most = if more > MANY_ENTRIES {
+            usize::MAX
+        } else {
+            more
+        };
+    }
+
+    /// Has factors of the policy at hand, whose rows keep more entries where else a node wouldn't leave. Whether it leaves. Where an elimination takes too
+    /// long, the factors of before are kept.
+    fn factor(&mut self, alloc: Global, policy: &[usize]) -> Result<bool, AllocError> {
+        for _ in 0..self.products_left {
+            match eliminated(alloc, self.component, policy, self.most, self.products_left)? {
+                Elimination::Closed(true) => self.keep_more(),
                 Elimination::Closed(false) => return Ok(false),
                 Elimination::Long => {
                     self.products_left = 0;
-                    return Ok(true);
+                    break;
                 }
                 Elimination::Done(factors) => {
                     self.products_left = self.products_left.saturating_sub(factors.products);
                     self.factors = Some(factors);
                     self.factored = policy.to_vec(alloc)?;
                     self.is_fresh = true;
-                    self.most = most;
-                    return Ok(true);
+                    break;
                 }
             }
         }
-        Ok(false)
+        Ok(true)
     }
 
-    /// Has better factors at hand: those of the policy itself, or such that drop less. Whether the policy leaves.
-    fn factor_better(&mut self, alloc: Global, policy: &[usize]) -> Result<bool, AllocError> {
-        let most = if self.is_fresh || self.factors.is_none() {
-            more_entries(self.most, policy.len())
-        } else {
-            self.most
-        };
-        self.factor(alloc, policy, most)
-    }
-
-    /// Whether factors are exact, or were made with few products.
-    fn renews(&self, nodes: usize) -> bool {
-        match &self.factors {
-            Some(factors) => factors.products < nodes.saturating_mul(CHEAP_PRODUCTS),
-            None => false,
-        }
+    /// Whether there are factors, of any policy, that took few products.
+    fn are_cheap(&self, nodes: usize) -> bool {
+        let few = nodes.saturating_mul(CHEAP_PRODUCTS);
+        self.factors.as_ref().is_some_and(|own| own.products < few)
     }
 
     /// Whether the factors are those of the policy, with nothing dropped.
     fn is_exact(&self) -> bool {
-        match &self.factors {
-            Some(factors) => self.is_fresh && factors.is_exact,
-            None => false,
-        }
-    }
-
-    /// One run of steps towards the policy's values. What they lack then, as a multiple of what they may.
-    fn run(
-        &self,
-        alloc: Global,
-        earned: &[f64],
-        tolerance: f64,
-        values: &mut [f64],
-    ) -> Result<f64, AllocError> {
-        let factors = self.factors.as_ref();
-        let equations = Equations::new(alloc, &self.chosen, factors, values.len())?;
-        equations.come_nearer(alloc, earned, tolerance, values)
+        self.is_fresh && self.factors.as_ref().is_some_and(|own| own.is_exact)
     }
 
     /// How near values are at the end of a run that leaves rows wrong by so much, where they earn this.
     fn judge(&self, error: f64, before: f64, earned: &[f64], values: &[f64]) -> Nearness {
         let is_poor = error > POOR * greatest_size(earned);
-        let is_far = greatest_size(values) > FAR * self.unit;
-        if error <= SMALL_ERROR * self.unit || is_far && !is_poor {
+        let is_far = greatest_size(values) > FAR;
+        if error <= SMALL_ERROR || is_far && !is_poor {
             Nearness::Enough
         } else if error < before / 2.0 {
             Nearness::Open
@@ -190,13 +155,17 @@ impl<'a> Evaluation<'a> {
         earned: &[f64],
         values: &mut [f64],
     ) -> Result<bool, AllocError> {
-        if self.renews(policy.len()) && !self.is_fresh && !self.factor(alloc, policy, self.most)? {
+        if self.are_cheap(policy.len()) && !self.is_fresh && !self.factor(alloc, policy)? {
             return Ok(false);
         }
         let mut before = f64::INFINITY;
         let mut tolerance = TOLERANCE;
         for run in 0..MOST_RUNS {
-            let left = self.run(alloc, earned, tolerance, values)?;
+            let equations = Equations {
+                chosen: &self.chosen,
+                factors: self.factors.as_ref(),
+            };
+            let left = equations.come_nearer(alloc, earned, tolerance, values)?;
             if left <= 1.0 || self.is_exact() {
                 let error = self.chosen.spread(earned, values).size(0.0);
                 match self.judge(error, before, earned, values) {
@@ -211,7 +180,10 @@ impl<'a> Evaluation<'a> {
             } else if left < SLOW && run < MOST_FORWARD {
                 continue;
             }
-            if !self.factor_better(alloc, policy)? {
+            if self.is_fresh || self.factors.is_none() {
+                self.keep_more();
+            }
+            if !self.factor(alloc, policy)? {
                 return Ok(false);
             }
         }

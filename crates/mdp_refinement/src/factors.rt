@@ -2,9 +2,10 @@
 //! Taksar and Heyman 1985), so that it keeps its digits however slowly the chain leaves. The nodes go in the order of least fill (Markowitz 1957). A row
 //! keeps its greatest entries; what is dropped counts as staying at the node, so that the row keeps its sum.
 
-use crate::component::{Component, FloatRow};
+use crate::component::Component;
 use crate::lists::{
-    add_at, add_over, append, flag_at, float_at, item_at, number, part_of, put, sum_over,
+    add_over, append, flag_at, float_at, item_at, length_at, number, part_of, place_of, put,
+    sum_over,
 };
 use std::alloc::{AllocError, Global};
 use std::cmp::{OrderedFloat, Reverse};
@@ -14,13 +15,13 @@ use std::mem;
 /// Entries of a row or a column, each with a place.
 type Entries = Vec<(u32, f64)>;
 
-/// A node that was eliminated: what it gave to the nodes that were left, and what share of it each of those took. Both stand behind those of the step before.
+/// A node that was eliminated, and where the entries stand of what it gave to the nodes that were left, and of what share of it each of those took.
 #[derive(Clone, Copy)]
 struct Step {
     node: u32,
     pivot: f64,
-    row_end: usize,
-    column_end: usize,
+    row: (usize, usize),
+    column: (usize, usize),
 }
 
 /// The steps of an elimination, by which systems are solved, or nearly, where entries were dropped. How many products it took.
@@ -43,90 +44,48 @@ pub(crate) enum Elimination {
     Long,
 }
 
+/// Appends entries to others. Where they stand.
+fn append_all(all: &mut Entries, entries: &[(u32, f64)]) -> Result<(usize, usize), AllocError> {
+    let first = all.len();
+    all.extend_from_slice(entries)?;
+    Ok((first, all.len()))
+}
+
 impl Factors {
-    /// No step yet.
-    fn empty(alloc: Global) -> Factors {
-        Factors {
-            steps: Vec::new(alloc),
-            rows: Vec::new(alloc),
-            columns: Vec::new(alloc),
-            is_exact: true,
-            products: 0,
-        }
-    }
-
-    /// Appends a step.
-    fn push(
-        &mut self,
-        node: u32,
-        pivot: f64,
-        row: &[(u32, f64)],
-        column: &[(u32, f64)],
-    ) -> Result<(), AllocError> {
-        self.rows.extend_from_slice(row)?;
-        self.columns.extend_from_slice(column)?;
-        self.products = self
-            .products
-            .saturating_add(row.len().saturating_mul(column.len()));
-        let step = Step {
-            node,
-            pivot,
-            row_end: self.rows.len(),
-            column_end: self.columns.len(),
-        };
-        append(&mut self.steps, step)
-    }
-
     /// Brings gains forward through the steps.
     fn forward(&self, gains: &mut [f64]) {
-        let mut first = 0usize;
         for step in &self.steps {
+            let column = part_of(&self.columns, step.column.0, step.column.1);
             let gain = float_at(gains, step.node);
-            add_over(gains, part_of(&self.columns, first, step.column_end), gain);
-            first = step.column_end;
+            add_over(gains, column, gain);
         }
     }
 
-    /// The values from gains that were brought forward, the last node first.
-    fn back(&self, gains: &mut [f64]) {
-        let mut end = self.rows.len();
-        for place in (0..self.steps.len()).rev() {
-            let step = self.steps[place];
-            let first = match place.checked_sub(1) {
-                Some(before) => self.steps[before].row_end,
-                None => 0,
-            };
-            let total = sum_over(
-                float_at(gains, step.node),
-                part_of(&self.rows, first, end),
-                gains,
-            );
-            put(gains, step.node, total / step.pivot);
-            end = first;
-        }
-    }
-
-    /// Puts in the place of gains the values of which each is its gain and what the policy's row makes of them.
+    /// Puts in the place of gains the values of which each is its gain and what the policy's row makes of them: the last node first.
     pub(crate) fn solve(&self, gains: &mut [f64]) {
         self.forward(gains);
-        self.back(gains);
+        for step in self.steps.iter().rev() {
+            let row = part_of(&self.rows, step.row.0, step.row.1);
+            let total = sum_over(float_at(gains, step.node), row, gains);
+            put(gains, step.node, total / step.pivot);
+        }
     }
 }
 
 /// Takes the list at a place, an empty one outside.
-fn take_list<T>(alloc: Global, lists: &mut [Vec<T>], place: usize) -> Vec<T> {
-    match lists.get_mut(place) {
+fn take_list<T>(alloc: Global, lists: &mut [Vec<T>], place: u32) -> Vec<T> {
+    match lists.get_mut(place as usize) {
         Some(list) => mem::replace(list, Vec::new(alloc)),
         None => Vec::new(alloc),
     }
 }
 
-/// How many items the list at a place has.
-fn length_at<T>(lists: &[Vec<T>], place: usize) -> usize {
-    match lists.get(place) {
-        Some(list) => list.len(),
-        None => 0,
+/// Appends a number to the list at a place.
+fn push_at(lists: &mut [Vec<u32>], place: u32, item: u32) -> Result<(), AllocError> {
+    if let Some(list) = lists.get_mut(place as usize) {
+        list.push(item)?;
     }
+    Ok(())
 }
 
 /// Takes the entry to a target out of a row, which is ordered by target. Its probability, if there is one.
@@ -137,52 +96,30 @@ fn take_entry(row: &mut Entries, target: u32) -> Option<f64> {
     }
 }
 
-/// The first place from one on at which an entry leads to a target or to a later node.
-fn place_of(own: &[(u32, f64)], from: usize, target: u32) -> usize {
-    for place in from..own.len() {
-        if own[place].0 >= target {
-            return place;
-        }
-    }
-    from.max(own.len())
-}
-
-/// Adds `share` times `row` to the entries of the row `own` of node `own_node`. The entries to targets that are new to it are put into `missing`; what would
-/// lead to the node itself is left out.
-fn add_row(
-    own: &mut [(u32, f64)],
-    own_node: u32,
-    row: &[(u32, f64)],
-    share: f64,
-    missing: &mut Entries,
-) -> Result<(), AllocError> {
-    missing.clear();
-    let mut next = 0usize;
-    for entry in row {
-        let more = share * entry.1;
-        next = place_of(own, next, entry.0);
-        if next < own.len() && own[next].0 == entry.0 {
-            own[next].1 += more;
-        } else if entry.0 != own_node {
-            missing.push((entry.0, more))?;
-        }
-    }
-    Ok(())
-}
-
-/// Puts the entries of two rows without a common target into one, ordered by target.
+/// Puts the sum of the row of a node and of `share` times another one, without what would lead to the node itself, into `merged`. It is noted in `preds` to
+/// which targets the node leads then and not before.
 fn merge(
     own: &[(u32, f64)],
-    missing: &[(u32, f64)],
+    node: u32,
+    row: &[(u32, f64)],
+    share: f64,
     merged: &mut Entries,
+    preds: &mut [Vec<u32>],
 ) -> Result<(), AllocError> {
     merged.clear();
     let mut next = 0usize;
-    for entry in missing {
+    for entry in row {
+        let more = share * entry.1;
         let end = place_of(own, next, entry.0);
         merged.extend_from_slice(part_of(own, next, end))?;
-        merged.push(*entry)?;
         next = end;
+        if next < own.len() && own[next].0 == entry.0 {
+            merged.push((entry.0, own[next].1 + more))?;
+            next = next.saturating_add(1);
+        } else if entry.0 != node {
+            merged.push((entry.0, more))?;
+            push_at(preds, entry.0, node)?;
+        }
     }
     merged.extend_from_slice(part_of(own, next, own.len()))
 }
@@ -198,8 +135,8 @@ fn keep_greatest(row: &mut Entries, most: usize) -> bool {
     true
 }
 
-/// The rows that are left, the nodes whose rows have, or had, an entry to each node, and a queue in which each node that is left waits with a number of
-/// products, and may stand with greater ones, which count no more.
+/// The rows that are left, which keep so many entries; the nodes whose rows have, or had, an entry to each node; and a queue in which each node that is left
+/// waits with a number of products, and may stand with greater ones.
 #[derive(Drop)]
 struct System {
     most: usize,
@@ -210,12 +147,11 @@ struct System {
     products: Vec<usize>,
     is_gone: Vec<bool>,
     merged: Entries,
-    missing: Entries,
     factors: Factors,
 }
 
 impl System {
-    /// No row yet, of so many nodes. Rows keep so many entries.
+    /// No row yet, of so many nodes.
     fn empty(alloc: Global, nodes: usize, most: usize) -> Result<System, AllocError> {
         let mut preds = Vec::new(alloc);
         for _ in 0..nodes {
@@ -230,91 +166,54 @@ impl System {
             products: vec![in alloc; usize::MAX; nodes]?,
             is_gone: vec![in alloc; false; nodes]?,
             merged: Vec::new(alloc),
-            missing: Vec::new(alloc),
-            factors: Factors::empty(alloc),
+            factors: Factors {
+                steps: Vec::new(alloc),
+                rows: Vec::new(alloc),
+                columns: Vec::new(alloc),
+                is_exact: true,
+                products: 0,
+            },
         })
     }
 
-    /// Notes that a node's row has these entries.
-    fn note(&mut self, node: u32, entries: &[(u32, f64)]) -> Result<(), AllocError> {
-        for entry in entries {
-            if let Some(preds) = self.preds.get_mut(entry.0 as usize) {
-                preds.push(node)?;
-            }
-        }
-        Ok(())
-    }
-
     /// Appends the row of the next node.
-    fn push(
-        &mut self,
-        alloc: Global,
-        row: &FloatRow,
-        entries: &[(u32, f64)],
-    ) -> Result<(), AllocError> {
+    fn push(&mut self, alloc: Global, exit: f64, entries: &[(u32, f64)]) -> Result<(), AllocError> {
         let node = number(self.rows.len());
-        put(&mut self.exits, node, row.exit);
-        self.note(node, entries)?;
+        put(&mut self.exits, node, exit);
+        for entry in entries {
+            push_at(&mut self.preds, entry.0, node)?;
+        }
         self.rows.push(entries.to_vec(alloc)?)?;
         Ok(())
     }
 
-    /// Appends a policy's row at each node.
-    fn push_each(
-        &mut self,
-        alloc: Global,
-        component: &Component,
-        policy: &[usize],
-    ) -> Result<(), AllocError> {
-        for at in policy {
-            let row = component.row_at(*at);
-            self.push(alloc, &row, component.entries_of(&row))?;
+    /// Has a node wait with the products that it takes at most to eliminate it now, if these are fewer than before.
+    fn wait(&mut self, node: u32) -> Result<(), AllocError> {
+        let products = self.products_of(node);
+        if products < item_at(&self.products, node as usize, 0) {
+            put(&mut self.products, node, products);
+            self.queue.push(Reverse((products, node)))?;
         }
         Ok(())
     }
 
     /// How many products it takes at most to eliminate a node now.
-    fn key(&self, node: u32) -> usize {
-        let place = node as usize;
-        length_at(&self.rows, place).saturating_mul(length_at(&self.preds, place))
-    }
-
-    /// Has a node wait with so many products.
-    fn wait(&mut self, node: u32, products: usize) -> Result<(), AllocError> {
-        put(&mut self.products, node, products);
-        self.queue.push(Reverse((products, node)))?;
-        Ok(())
-    }
-
-    /// Has a node wait with the products that it takes now, if these are fewer.
-    fn wait_less(&mut self, node: u32) -> Result<(), AllocError> {
-        let key = self.key(node);
-        if key < item_at(&self.products, node as usize, 0) {
-            self.wait(node, key)?;
-        }
-        Ok(())
-    }
-
-    /// Has all nodes wait.
-    fn wait_each(&mut self) -> Result<(), AllocError> {
-        for node in 0..number(self.rows.len()) {
-            self.wait_less(node)?;
-        }
-        Ok(())
+    fn products_of(&self, node: u32) -> usize {
+        length_at(&self.rows, node).saturating_mul(length_at(&self.preds, node))
     }
 
     /// The node to go next; none where all have gone. Nodes whose products have become more wait longer.
     fn next(&mut self) -> Result<Option<u32>, AllocError> {
         for _ in 0..usize::MAX {
-            let Some(Reverse((key, node))) = self.queue.pop() else {
+            let Some(Reverse((products, node))) = self.queue.pop() else {
                 break;
             };
-            if key == item_at(&self.products, node as usize, 0) && !flag_at(&self.is_gone, node) {
-                let now = self.key(node);
-                if now <= key {
+            if !flag_at(&self.is_gone, node) {
+                if self.products_of(node) <= products {
                     return Ok(Some(node));
                 }
-                self.wait(node, now)?;
+                put(&mut self.products, node, usize::MAX);
+                self.wait(node)?;
             }
         }
         Ok(None)
@@ -335,16 +234,20 @@ impl System {
             return Ok(None);
         };
         let share = prob / pivot;
-        add_row(own, pred, row, share, &mut self.missing)?;
-        if !self.missing.is_empty() {
-            merge(own.as_slice(), self.missing.as_slice(), &mut self.merged)?;
-            mem::swap(own, &mut self.merged);
-            if keep_greatest(own, self.most) {
-                self.factors.is_exact = false;
-            }
+        merge(
+            own.as_slice(),
+            pred,
+            row,
+            share,
+            &mut self.merged,
+            &mut self.preds,
+        )?;
+        mem::swap(own, &mut self.merged);
+        if keep_greatest(own, self.most) {
+            self.factors.is_exact = false;
         }
         let exit = float_at(&self.exits, gone);
-        add_at(&mut self.exits, pred, share * exit);
+        add_over(&mut self.exits, &[(pred, exit)], share);
         Ok(Some(share))
     }
 
@@ -356,7 +259,7 @@ impl System {
         row: &[(u32, f64)],
         pivot: f64,
     ) -> Result<Entries, AllocError> {
-        let preds = take_list(alloc, &mut self.preds, node as usize);
+        let preds = take_list(alloc, &mut self.preds, node);
         let mut column = Vec::new(alloc);
         for pred in &preds {
             if flag_at(&self.is_gone, *pred) {
@@ -364,10 +267,7 @@ impl System {
             }
             if let Some(share) = self.fold_into(*pred, node, row, pivot)? {
                 column.push((*pred, share))?;
-                let missing = mem::replace(&mut self.missing, Vec::new(alloc));
-                self.note(*pred, &missing)?;
-                self.missing = missing;
-                self.wait_less(*pred)?;
+                self.wait(*pred)?;
             }
         }
         Ok(column)
@@ -375,7 +275,7 @@ impl System {
 
     /// Eliminates a node. Whether it leaves.
     fn eliminate(&mut self, alloc: Global, node: u32) -> Result<bool, AllocError> {
-        let row = take_list(alloc, &mut self.rows, node as usize);
+        let row = take_list(alloc, &mut self.rows, node);
         let mut pivot = float_at(&self.exits, node);
         for entry in &row {
             pivot += entry.1;
@@ -385,13 +285,20 @@ impl System {
         }
         put(&mut self.is_gone, node, true);
         let column = self.fold_all(alloc, node, &row, pivot)?;
-        self.factors.push(node, pivot, &row, &column)?;
+        let products = row.len().saturating_mul(column.len());
+        self.factors.products = self.factors.products.saturating_add(products);
+        let step = Step {
+            node,
+            pivot,
+            row: append_all(&mut self.factors.rows, &row)?,
+            column: append_all(&mut self.factors.columns, &column)?,
+        };
+        append(&mut self.factors.steps, step)?;
         Ok(true)
     }
 
     /// Eliminates all nodes, with so many products at most.
     fn eliminate_all(mut self, alloc: Global, products: usize) -> Result<Elimination, AllocError> {
-        self.wait_each()?;
         for _ in 0..self.rows.len() {
             let Some(node) = self.next()? else {
                 break;
@@ -416,6 +323,12 @@ pub(crate) fn eliminated(
     products: usize,
 ) -> Result<Elimination, AllocError> {
     let mut system = System::empty(alloc, policy.len(), most)?;
-    system.push_each(alloc, component, policy)?;
+    for at in policy {
+        let row = component.row_at(*at);
+        system.push(alloc, row.exit, component.entries_of(&row))?;
+    }
+    for node in 0..number(policy.len()) {
+        system.wait(node)?;
+    }
     system.eliminate_all(alloc, products)
 }

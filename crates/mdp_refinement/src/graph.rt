@@ -29,6 +29,14 @@ impl Graph {
         append(&mut self.targets, target)
     }
 
+    /// Appends an edge from a node, the last one or one behind it.
+    pub(crate) fn push_edge_from(&mut self, node: u32, target: u32) -> Result<(), AllocError> {
+        for _ in self.starts.len()..(node as usize).saturating_add(1) {
+            self.push_node()?;
+        }
+        self.push_edge(target)
+    }
+
     /// The targets of a node's edges.
     pub(crate) fn targets_of(&self, node: u32) -> &[u32] {
         group_of(&self.targets, &self.starts, node as usize)

@@ -1,16 +1,14 @@
 //! Interval iteration in whole numbers: from values that surely meet the bound, each step keeps the rows.
 
 use crate::bound::Task;
-use crate::lists::put;
 use crate::rows::Rows;
 use crate::solving::Solution;
 use crate::value::{Value, value_at};
-use crate::whole::quotient;
 
 /// How many entries are looked at in all.
 const MOST_ENTRIES: usize = 3_000_000;
 
-/// The best value of a node by its rows, rounded to its unit, and the place of the row that gives it. A row past 128 bits, or one that leads to a value
+/// The best value of a node by its rows, rounded, and the place of the row that gives it. A row past 128 bits, or one that leads to a value
 /// which isn't known, is left out, or, where the bound is to hold on each row, there is no value.
 pub(crate) fn best_rounded(
     rows: &Rows,
@@ -33,15 +31,6 @@ pub(crate) fn best_rounded(
         }
     }
     best
-}
-
-/// The greatest unit of nodes.
-pub(crate) fn greatest_unit(rows: &Rows, nodes: &[u32]) -> i128 {
-    let mut greatest = 1i128;
-    for node in nodes {
-        greatest = greatest.max(rows.unit_of(*node));
-    }
-    greatest
 }
 
 /// How many sweeps are made.
@@ -67,20 +56,9 @@ fn bring_nearer(rows: &Rows, task: Task, node: u32, solution: &mut Solution) -> 
     }
 }
 
-/// Values of the nodes of a component that meet the bound, from a value that bounds all that leads out of it. The picks of the nodes are to be rows
-/// by which they leave it.
-pub(crate) fn sweep_exact(
-    rows: &Rows,
-    task: Task,
-    nodes: &[u32],
-    start: i128,
-    solution: &mut Solution,
-) -> Option<()> {
-    let unit = greatest_unit(rows, nodes);
-    let first = quotient(start, unit, task.bound)?.checked_mul(unit)?;
-    for node in nodes {
-        put(&mut solution.values, *node, Value::known(first));
-    }
+/// Brings the values of the nodes of a component nearer, which are such bounds whatever its rows are. The picks of the nodes are to be rows by which they
+/// leave it.
+pub(crate) fn sweep_exact(rows: &Rows, task: Task, nodes: &[u32], solution: &mut Solution) {
     for _ in 0..count_sweeps(rows, nodes) {
         let mut is_changed = false;
         for node in nodes {
@@ -92,5 +70,4 @@ pub(crate) fn sweep_exact(
             break;
         }
     }
-    Some(())
 }

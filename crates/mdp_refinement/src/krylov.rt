@@ -1,13 +1,13 @@
-//! The values of a policy by steps of GMRES (Saad and Schultz 1986), preconditioned: the best values in the space of the directions which the equations lead to,
-//! one after the other.
+//! The values of a policy by steps of GMRES, preconditioned: the best values in the space of the directions which the equations lead to, one after the other.
+//! Each direction is kept with what the equations make of it, at right angles to those before (generalized conjugate residuals: Eisenstat, Elman and Schultz
+//! 1983), so that each step is final.
 
 use crate::chosen::Chosen;
 use crate::factors::Factors;
-use crate::lists::{append, item_at, part_of, set_at};
 use std::alloc::{AllocError, Global};
 
 /// The steps of one run.
-pub(crate) const STEPS: usize = 30;
+const STEPS: usize = 30;
 
 /// What floats may lose, as a part of what values come to in all, and as a part of a direction.
 const LOSS: f64 = 1e-18;
@@ -42,258 +42,144 @@ fn divide(vector: &mut [f64], divisor: f64) {
     }
 }
 
-/// Turns two neighbours in a column.
-fn turn(column: &mut [f64], place: usize, (cosine, sine): (f64, f64)) {
-    let below = place.saturating_add(1);
-    let (first, second) = (item_at(column, place, 0.0), item_at(column, below, 0.0));
-    set_at(column, place, cosine * first + sine * second);
-    set_at(column, below, cosine * second - sine * first);
-}
-
-/// A least squares problem whose columns have one entry below the diagonal, made triangular by turns; the last item of `right` is what stays.
+/// A direction: a vector, and how much of a constant goes with it. `product` is what the equations make of both, of length 1. A constant is by far the slowest
+/// part of values where nodes are hardly left, so it is kept apart.
 #[derive(Drop)]
-struct Triangle {
-    columns: Vec<Vec<f64>>,
-    turns: Vec<(f64, f64)>,
-    right: Vec<f64>,
+struct Direction {
+    vector: Vec<f64>,
+    constant: f64,
+    product: Vec<f64>,
 }
 
-impl Triangle {
-    /// No column, and this right side.
-    fn new(alloc: Global, right: f64) -> Result<Triangle, AllocError> {
-        Ok(Triangle {
-            columns: Vec::new(alloc),
-            turns: Vec::new(alloc),
-            right: vec![in alloc; right; 1]?,
-        })
-    }
-
-    /// What stays of the right side.
-    fn rest(&self) -> f64 {
-        item_at(&self.right, self.turns.len(), 0.0).abs()
-    }
-
-    /// Appends a column. Whether it counts.
-    fn push(&mut self, column: Vec<f64>) -> Result<bool, AllocError> {
-        let mut column = column;
-        let last = self.turns.len();
-        for place in 0..last {
-            turn(&mut column, place, self.turns[place]);
-        }
-        let first = item_at(&column, last, 0.0);
-        let second = item_at(&column, last.saturating_add(1), 0.0);
-        let length = (first * first + second * second).sqrt();
-        if !(length > 0.0) {
-            return Ok(false);
-        }
-        append(&mut self.right, 0.0)?;
-        append(&mut self.turns, (first / length, second / length))?;
-        turn(&mut column, last, (first / length, second / length));
-        turn(&mut self.right, last, (first / length, second / length));
-        self.columns.push(column)?;
-        Ok(true)
-    }
-
-    /// An item of a column.
-    fn item(&self, column: usize, row: usize) -> f64 {
-        match self.columns.get(column) {
-            Some(column) => item_at(column, row, 0.0),
-            None => 0.0,
-        }
-    }
-
-    /// Puts the factor of a column in the place of the right side's item, where those behind it are known.
-    fn solve_at(&mut self, place: usize) {
-        let mut right = item_at(&self.right, place, 0.0);
-        for column in place.saturating_add(1)..self.turns.len() {
-            right -= self.item(column, place) * item_at(&self.right, column, 0.0);
-        }
-        let factor = right / self.item(place, place);
-        set_at(&mut self.right, place, factor);
-    }
-
-    /// The factors of the columns.
-    fn factors(&mut self) -> &[f64] {
-        for place in (0..self.turns.len()).rev() {
-            self.solve_at(place);
-        }
-        part_of(&self.right, 0, self.turns.len())
-    }
-}
-
-/// The equations that a policy's values meet, what solves them nearly (where there are no factors, each node by those before it), and the direction to which these
-/// bring a constant: a vector of length 1, and how long it was. That part of the values is by far the slowest where the nodes are hardly left, so it is kept apart.
-#[derive(Drop)]
+/// The equations that a policy's values meet, and what solves them nearly: where there are no factors, each node by those before it.
+#[derive(Clone, Copy)]
 pub(crate) struct Equations<'a> {
-    chosen: &'a Chosen,
-    factors: Option<&'a Factors>,
-    along: Vec<f64>,
-    size: f64,
+    pub(crate) chosen: &'a Chosen,
+    pub(crate) factors: Option<&'a Factors>,
 }
 
-impl<'a> Equations<'a> {
-    /// The equations of so many nodes.
-    pub(crate) fn new(
+impl Equations<'_> {
+    /// Nearly the values that values lack so that rows which earn so much come to them.
+    fn lacking(
+        self,
         alloc: Global,
-        chosen: &'a Chosen,
-        factors: Option<&'a Factors>,
-        nodes: usize,
-    ) -> Result<Equations<'a>, AllocError> {
-        let mut equations = Equations {
-            chosen,
-            factors,
-            along: Vec::new(alloc),
-            size: 1.0,
-        };
-        let mut along = equations.product(alloc, &vec![in alloc; 1.0; nodes]?)?;
-        equations.size = length_of(&along);
-        divide(&mut along, equations.size);
-        equations.along = along;
-        Ok(equations)
-    }
-
-    /// Puts nearly the values to which gains come in their place.
-    fn bring_back(&self, gains: &mut [f64]) {
+        earned: &[f64],
+        values: &[f64],
+    ) -> Result<Vec<f64>, AllocError> {
+        let mut lacking = vec![in alloc; 0.0; values.len()]?;
+        self.chosen.put_over(earned, values, &mut lacking);
         match self.factors {
-            Some(factors) => factors.solve(gains),
-            None => self.chosen.relax(gains),
+            Some(factors) => factors.solve(&mut lacking),
+            None => self.chosen.relax(&mut lacking),
         }
+        Ok(lacking)
     }
 
-    /// Takes what lies along the constant's direction out of a vector. How much it is.
-    fn take_out(&self, vector: &mut [f64]) -> f64 {
-        let share = dot(&self.along, vector);
-        add_times(vector, -share, &self.along);
-        share
-    }
-
-    /// About these values: those to which the gains nearly come that have them for values.
-    fn product(&self, alloc: Global, values: &[f64]) -> Result<Vec<f64>, AllocError> {
-        let mut product = vec![in alloc; 0.0; values.len()]?;
-        self.chosen.put_over(&[], values, &mut product);
+    /// What the equations make of a vector: about that itself.
+    fn product(self, alloc: Global, vector: &[f64]) -> Result<Vec<f64>, AllocError> {
+        let mut product = self.lacking(alloc, &[], vector)?;
         divide(&mut product, -1.0);
-        self.bring_back(&mut product);
         Ok(product)
     }
 
-    /// Brings values nearer to those to which gains come, until what they lack, as it is brought back, is at most `tolerance` of what all gains come to.
+    /// Brings values nearer to those to which rows come that earn so much, until what they lack is at most `tolerance` of what all that is earned comes to.
     /// How many times more it is at the end.
     pub(crate) fn come_nearer(
-        &self,
+        self,
         alloc: Global,
-        gains: &[f64],
+        earned: &[f64],
         tolerance: f64,
         values: &mut [f64],
     ) -> Result<f64, AllocError> {
-        let mut all = gains.to_vec(alloc)?;
-        self.bring_back(&mut all);
+        let nodes = values.len();
+        let mut steps = Steps {
+            equations: self,
+            directions: Vec::new(alloc),
+            vector: vec![in alloc; 0.0; nodes]?,
+            constant: 0.0,
+            lacking: self.lacking(alloc, earned, values)?,
+        };
+        let ones = vec![in alloc; 1.0; nodes]?;
+        let product = self.product(alloc, &ones)?;
+        steps.take(vec![in alloc; 0.0; nodes]?, 1.0, product)?;
+        let mut all = self.lacking(alloc, earned, &vec![in alloc; 0.0; nodes]?)?;
         let least = LOSS * length_of(&all);
-        self.take_out(&mut all);
-        let mut lacking = vec![in alloc; 0.0; gains.len()]?;
-        self.chosen.put_over(gains, values, &mut lacking);
-        self.bring_back(&mut lacking);
-        let along = self.take_out(&mut lacking);
+        steps.turn(&mut [], &mut all);
         let enough = least.max(tolerance * length_of(&all));
-        let mut steps = Steps::new(alloc, self, lacking, along)?;
         steps.run(alloc, enough)?;
-        steps.add_all(values);
-        Ok(if enough > 0.0 {
-            steps.triangle.rest() / enough
-        } else {
-            0.0
-        })
+        add_times(values, 1.0, &steps.vector);
+        add_times(values, steps.constant, &ones);
+        let left = length_of(&steps.lacking);
+        Ok(if enough > 0.0 { left / enough } else { 0.0 })
     }
 }
 
-/// The directions so far, one behind the other, and what each of their products has along the constant's direction; what the values lack along it.
+/// The directions so far, the sum of those that were gone, and what values lack then.
 #[derive(Drop)]
 struct Steps<'a> {
-    equations: &'a Equations<'a>,
-    nodes: usize,
-    directions: Vec<f64>,
-    apart: Vec<f64>,
-    along: f64,
-    triangle: Triangle,
+    equations: Equations<'a>,
+    directions: Vec<Direction>,
+    vector: Vec<f64>,
+    constant: f64,
+    lacking: Vec<f64>,
 }
 
-impl<'a> Steps<'a> {
-    /// The first direction: what values lack.
-    fn new(
-        alloc: Global,
-        equations: &'a Equations<'a>,
-        lacking: Vec<f64>,
-        along: f64,
-    ) -> Result<Steps<'a>, AllocError> {
-        let length = length_of(&lacking);
-        let mut directions = lacking;
-        divide(&mut directions, length);
-        Ok(Steps {
-            equations,
-            nodes: directions.len(),
-            directions,
-            apart: Vec::new(alloc),
-            along,
-            triangle: Triangle::new(alloc, length)?,
-        })
-    }
-
-    /// A direction.
-    fn direction(&self, place: usize) -> &[f64] {
-        let from = place.saturating_mul(self.nodes);
-        part_of(&self.directions, from, from.saturating_add(self.nodes))
-    }
-
-    /// Takes what lies along the directions out of a vector. How much it is along each.
-    fn take_out(&self, alloc: Global, vector: &mut [f64]) -> Result<Vec<f64>, AllocError> {
-        let mut column = Vec::new(alloc);
-        for place in 0..self.triangle.turns.len().saturating_add(1) {
-            let share = dot(self.direction(place), vector);
-            add_times(vector, -share, self.direction(place));
-            append(&mut column, share)?;
+impl Steps<'_> {
+    /// Turns a product so that it is at right angles to those of all directions, and its vector with it. How much of a constant goes with that.
+    fn turn(&self, vector: &mut [f64], product: &mut [f64]) -> f64 {
+        let mut constant = 0.0;
+        for direction in &self.directions {
+            let share = dot(&direction.product, product);
+            add_times(product, -share, &direction.product);
+            add_times(vector, -share, &direction.vector);
+            constant -= share * direction.constant;
         }
-        Ok(column)
+        constant
     }
 
-    /// Takes the next direction. Whether there is one.
-    fn step(&mut self, alloc: Global) -> Result<bool, AllocError> {
-        let last = self.direction(self.triangle.turns.len());
-        let mut next = self.equations.product(alloc, last)?;
-        append(&mut self.apart, self.equations.take_out(&mut next))?;
-        let mut column = self.take_out(alloc, &mut next)?;
-        let length = length_of(&next);
-        append(&mut column, length)?;
-        if !self.triangle.push(column)? || !(length > NO_LENGTH) {
+    /// Takes a direction, and goes along it as far as that makes less of what values lack. Whether it is one.
+    fn take(
+        &mut self,
+        vector: Vec<f64>,
+        constant: f64,
+        product: Vec<f64>,
+    ) -> Result<bool, AllocError> {
+        let mut direction = Direction {
+            vector,
+            constant,
+            product,
+        };
+        let before = length_of(&direction.product);
+        direction.constant += self.turn(&mut direction.vector, &mut direction.product);
+        let length = length_of(&direction.product);
+        if !(length > NO_LENGTH * before) {
             return Ok(false);
         }
-        divide(&mut next, length);
-        self.directions.extend_from_slice(&next)?;
+        divide(&mut direction.vector, length);
+        divide(&mut direction.product, length);
+        direction.constant /= length;
+        let way = dot(&direction.product, &self.lacking);
+        add_times(&mut self.lacking, -way, &direction.product);
+        add_times(&mut self.vector, way, &direction.vector);
+        self.constant += way * direction.constant;
+        self.directions.push(direction)?;
         Ok(true)
     }
 
-    /// Takes directions until the values lack little enough.
+    /// Goes along what values lack, so many times at most, until that is little enough.
     fn run(&mut self, alloc: Global, enough: f64) -> Result<(), AllocError> {
         for _ in 0..STEPS {
-            if !(self.triangle.rest() > enough) || !self.step(alloc)? {
+            let length = length_of(&self.lacking);
+            if !(length > enough) {
+                break;
+            }
+            let mut vector = self.lacking.clone()?;
+            divide(&mut vector, length);
+            let product = self.equations.product(alloc, &vector)?;
+            if !self.take(vector, 0.0, product)? {
                 break;
             }
         }
         Ok(())
-    }
-
-    /// Adds the best multiples of the directions to the values, and of the constant.
-    fn add_all(&mut self, values: &mut [f64]) {
-        let factors = self.triangle.factors();
-        let nodes = self.nodes;
-        let mut along = self.along;
-        for place in 0..factors.len() {
-            let from = place.saturating_mul(nodes);
-            let direction = part_of(&self.directions, from, from.saturating_add(nodes));
-            add_times(values, factors[place], direction);
-            along -= factors[place] * item_at(&self.apart, place, 0.0);
-        }
-        let constant = along / self.equations.size;
-        for value in values {
-            *value += constant;
-        }
     }
 }

@@ -1,102 +1,93 @@
 //! Policies by which each node leaves its component.
 
 use crate::component::Component;
-use crate::lists::{Groups, copy_over, number, number_at, set_at, takes};
+use crate::graph::Graph;
+use crate::lists::{append, flag_at, put, takes};
 use std::alloc::{AllocError, Global};
 
-/// Whether a policy, where there is one, takes this row at this node.
-fn is_of(policy: Option<&[usize]>, node: u32, row: usize) -> bool {
-    match policy {
-        Some(policy) => takes(policy, node, row),
-        None => true,
-    }
-}
-
-/// A search backwards for ways out of a component, or to some of its nodes: a row of each node, whether it has one by which it is led, and the nodes that are
-/// led, in the order in which they got their rows.
+/// A search backwards for ways out of a component: for each node a row by which it is led there, if it has one, and the nodes that are led, in the order
+/// in which they got their rows.
 #[derive(Drop)]
 pub(crate) struct Leaving<'a> {
     component: &'a Component,
-    leading: &'a Groups,
-    pub(crate) policy: Vec<usize>,
+    leading: &'a Graph,
+    policy: Vec<usize>,
     is_led: Vec<bool>,
     queue: Vec<u32>,
-    queued: usize,
 }
 
 impl<'a> Leaving<'a> {
-    /// A search with no way yet. The nodes keep the rows of this policy until they are led.
+    /// A search that has led no node.
     pub(crate) fn new(
         alloc: Global,
         component: &'a Component,
-        leading: &'a Groups,
-        policy: &[usize],
+        leading: &'a Graph,
     ) -> Result<Leaving<'a>, AllocError> {
         let nodes = component.nodes.len();
-        let mut search = Leaving {
+        Ok(Leaving {
             component,
             leading,
             policy: vec![in alloc; 0; nodes]?,
             is_led: vec![in alloc; false; nodes]?,
-            queue: vec![in alloc; 0; nodes]?,
-            queued: 0,
-        };
-        copy_over(&mut search.policy, policy);
-        Ok(search)
+            queue: Vec::new(alloc),
+        })
     }
 
     /// Changes a policy to another one at the nodes from which it doesn't leave the component.
-    pub(crate) fn make_proper(&mut self, policy: &mut [usize], other: &[usize]) {
-        self.is_led.fill(false);
-        self.queued = 0;
-        copy_over(&mut self.policy, other);
-        self.lead_out(policy);
-        self.spread(Some(policy));
-        copy_over(policy, &self.policy);
-    }
-
-    /// Gives a node its row, unless it is led.
-    pub(crate) fn lead(&mut self, node: u32, row: usize) {
-        let place = node as usize;
-        if place < self.is_led.len() && !self.is_led[place] {
-            self.is_led[place] = true;
-            set_at(&mut self.policy, place, row);
-            set_at(&mut self.queue, self.queued, node);
-            self.queued = self.queued.saturating_add(1);
+    pub(crate) fn make_proper(
+        &mut self,
+        policy: &mut [usize],
+        other: &[usize],
+    ) -> Result<(), AllocError> {
+        self.search(Some(policy))?;
+        for place in 0..policy.len().min(other.len()).min(self.is_led.len()) {
+            if !self.is_led[place] {
+                policy[place] = other[place];
+            }
         }
+        Ok(())
     }
 
-    /// Leads the nodes that have an entry to this one, by the policy's rows or by all.
-    fn lead_to(&mut self, target: u32, policy: Option<&[usize]>) {
-        let component = self.component;
+    /// Gives a node its row, unless it is led, or a policy that is followed takes another one.
+    fn lead(&mut self, row: usize, policy: Option<&[usize]>) -> Result<(), AllocError> {
+        let node = self.component.row_at(row).node;
+        let is_followed = match policy {
+            Some(policy) => takes(policy, node, row),
+            None => true,
+        };
+        if is_followed && !flag_at(&self.is_led, node) {
+            put(&mut self.is_led, node, true);
+            put(&mut self.policy, node, row);
+            append(&mut self.queue, node)?;
+        }
+        Ok(())
+    }
+
+    /// Leads the nodes that have an entry to this one.
+    fn lead_to(&mut self, target: u32, policy: Option<&[usize]>) -> Result<(), AllocError> {
         let leading = self.leading;
-        for place in leading.of(target) {
-            let at = *place as usize;
-            let node = component.row_at(at).node;
-            if is_of(policy, node, at) {
-                self.lead(node, at);
-            }
+        for row in leading.targets_of(target) {
+            self.lead(*row as usize, policy)?;
         }
+        Ok(())
     }
 
-    /// Leads the nodes whose row of a policy leaves.
-    fn lead_out(&mut self, policy: &[usize]) {
-        for node in 0..policy.len() {
-            if self.component.row_at(policy[node]).exit > 0.0 {
-                self.lead(number(node), policy[node]);
+    /// Leads all nodes that leave the component, by the policy's rows or by all, in the fewest steps.
+    fn search(&mut self, policy: Option<&[usize]>) -> Result<(), AllocError> {
+        self.is_led.fill(false);
+        self.queue.clear();
+        for row in 0..self.component.rows.len() {
+            if self.component.row_at(row).exit > 0.0 {
+                self.lead(row, policy)?;
             }
         }
-    }
-
-    /// Leads on to all nodes that were led, by the policy's rows or by all.
-    pub(crate) fn spread(&mut self, policy: Option<&[usize]>) {
-        for place in 0..self.queue.len() {
-            if place >= self.queued {
+        for place in 0..self.is_led.len() {
+            let Some(target) = self.queue.get(place).copied() else {
                 break;
-            }
-            let target = number_at(&self.queue, number(place));
-            self.lead_to(target, policy);
+            };
+            self.lead_to(target, policy)?;
         }
+        Ok(())
     }
 }
 
@@ -105,17 +96,11 @@ impl<'a> Leaving<'a> {
 pub(crate) fn exit_policy(
     alloc: Global,
     component: &Component,
-    leading: &Groups,
+    leading: &Graph,
 ) -> Result<Option<Vec<usize>>, AllocError> {
-    let mut search = Leaving::new(alloc, component, leading, &[])?;
-    for place in 0..component.rows.len() {
-        let row = component.rows[place];
-        if row.exit > 0.0 {
-            search.lead(row.node, place);
-        }
-    }
-    search.spread(None);
-    if search.queued < component.nodes.len() {
+    let mut search = Leaving::new(alloc, component, leading)?;
+    search.search(None)?;
+    if search.queue.len() < component.nodes.len() {
         return Ok(None);
     }
     Ok(Some(search.policy))

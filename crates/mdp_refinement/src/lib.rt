@@ -3,13 +3,11 @@
 //! over the values is exact in whole numbers, and floats give corrections. Nothing is promised of what comes out: it is to be held against exact rules.
 #![tactic(auto)]
 
-mod biases;
 mod bound;
 mod chosen;
 mod component;
 mod convert;
 mod correct;
-mod discounted;
 mod evaluate;
 mod factors;
 mod graph;
@@ -18,7 +16,6 @@ mod krylov;
 mod leaving;
 mod lists;
 mod nodes;
-mod outside;
 mod recurrent;
 mod refine;
 mod rows;
@@ -29,12 +26,11 @@ mod whole;
 
 pub use bound::{Bound, Task};
 pub use convert::to_float;
-pub use discounted::Discount;
 pub use graph::Graph;
 pub use lists::{append, flag_at, group_of, item_at, number, number_at, part_of, put};
 pub use nodes::Nodes;
 pub use recurrent::{EndGains, end_gains};
-pub use rows::{ChoiceRow, Entry, Rows, Scale, WholeRow};
+pub use rows::{ChoiceRow, Discount, Entry, Rows, Scale, WholeRow};
 pub use solving::{Solution, solve};
 pub use strong::{Components, strong_components};
 pub use value::{Value, value_at};

@@ -3,15 +3,15 @@
 //! gain come nearer as long as the chance is less than 1 over the time in which the component mixes. As each policy comes to an end, it doesn't matter how
 //! many recurrent classes one has.
 
-use crate::biases::{Measured, Range};
 use crate::component::Component;
 use crate::convert::{nearest, to_float};
 use crate::correct::Corrector;
-use crate::intervals::greatest_unit;
-use crate::lists::{Groups, put, put_each};
+use crate::graph::Graph;
+use crate::lists::{put, put_each, set_at};
 use crate::rows::Rows;
 use crate::strong::Components;
 use crate::value::{Value, value_at};
+use crate::whole::divided;
 use std::alloc::{AllocError, Global};
 
 /// With which chance a step ends first.
@@ -30,7 +30,7 @@ const NEARER: i128 = 4;
 
 const MOST_STALE: u32 = 3;
 
-/// Gains that lie no further apart than so many of the greatest units of nodes are near enough.
+/// Gains that lie no further apart than so many units are near enough.
 const NEAR: i128 = 3;
 
 /// Of no more nodes the bias is corrected once more then, so that its simplest values may be found.
@@ -50,13 +50,27 @@ pub struct EndGains {
     pub is_near: bool,
 }
 
-/// A search for the gain of an end component: the greatest unit of its nodes, what was measured of its rows, over which gain, the nearest bounds, and how many
-/// corrections since then brought them hardly nearer.
+/// Bounds of a gain.
+#[derive(Clone, Copy)]
+struct Range {
+    upper: i128,
+    lower: i128,
+}
+
+impl Range {
+    /// How far the bounds lie apart.
+    fn width(self) -> i128 {
+        self.upper.saturating_sub(self.lower)
+    }
+}
+
+/// A search for the gain of an end component: about what each row earns over a gain and a bias; of each node the row that earns most; the nearest bounds, and
+/// how many corrections since then brought them hardly nearer.
 #[derive(Drop)]
 struct Refinement<'a> {
     rows: &'a Rows,
-    unit: i128,
-    measured: Measured,
+    earned: Vec<f64>,
+    policy: Vec<usize>,
     gain: i128,
     best: Range,
     stale: u32,
@@ -70,49 +84,89 @@ fn put_relative(values: &mut [Value], component: &Component, from: &[Value], les
     }
 }
 
+/// The bias of the last node. Relative to it all are simple where the gain is.
+fn reference(component: &Component, bias: &[Value]) -> i128 {
+    match component.nodes.as_slice() {
+        [.., last] => value_at(bias, *last).unwrap_or(0),
+        [] => 0,
+    }
+}
+
 impl Refinement<'_> {
     /// Whether the bounds are near enough.
     fn is_near(&self) -> bool {
-        self.best.width() <= self.unit.saturating_mul(NEAR)
+        self.best.width() <= NEAR
     }
 
-    /// The bias of the last node whose unit is the greatest. Relative to it all are multiples of their units, and simple where the gain is.
-    fn reference(&self, component: &Component, bias: &[Value]) -> i128 {
-        let mut last = 0;
-        for node in &component.nodes {
-            if self.rows.unit_of(*node) == self.unit {
-                last = value_at(bias, *node).unwrap_or(0);
+    /// Measures the row at a place over a bias. What it gains: its reward, and what it makes of the bias over that of its node. None past 128 bits.
+    fn measure_row(&mut self, component: &Component, at: usize, bias: &[Value]) -> Option<Range> {
+        let row = self.rows.row(component.pick_at(at)?)?;
+        let due = row.denominator.checked_mul(self.gain)?;
+        let over = self.rows.excess(row, bias)?.checked_sub(due)?;
+        let (more, rest) = divided(over, row.denominator)?;
+        let lower = self.gain.checked_add(more)?;
+        let earned = to_float(over) / to_float(row.denominator);
+        set_at(&mut self.earned, at, earned);
+        Some(Range {
+            upper: lower.checked_add(i128::from(rest > 0))?,
+            lower,
+        })
+    }
+
+    /// Measures the rows of the node at a place. Between which bounds the best of them gains.
+    fn measure_node(
+        &mut self,
+        component: &Component,
+        place: usize,
+        bias: &[Value],
+    ) -> Option<Range> {
+        let (from, to) = component.range_of(place);
+        let mut best = Range {
+            upper: i128::MIN,
+            lower: i128::MIN,
+        };
+        for at in from..to {
+            let own = self.measure_row(component, at, bias)?;
+            if own.lower > best.lower {
+                set_at(&mut self.policy, place, at);
             }
+            best.upper = best.upper.max(own.upper);
+            best.lower = best.lower.max(own.lower);
         }
-        last
+        Some(best)
+    }
+
+    /// Measures all rows. The least and the greatest of what the best rows gain: whatever the bias is, the greatest gain of the component lies between.
+    fn measure_all(&mut self, component: &Component, bias: &[Value]) -> Option<Range> {
+        let mut range = Range {
+            upper: i128::MIN,
+            lower: i128::MAX,
+        };
+        for place in 0..component.nodes.len() {
+            let own = self.measure_node(component, place, bias)?;
+            range.upper = range.upper.max(own.upper);
+            range.lower = range.lower.min(own.lower);
+        }
+        Some(range)
     }
 
     /// Measures the rows over a bias, and keeps that for each bound of the gain that is as near as ever. Whether all were measured.
     fn measure(&mut self, component: &Component, bias: &[Value], found: &mut EndGains) -> bool {
-        let (rows, gain) = (self.rows, self.gain);
-        let Some(range) = self.measured.measure(rows, component, bias, gain) else {
+        let Some(range) = self.measure_all(component, bias) else {
             return false;
         };
-        let less = self.reference(component, bias);
+        let (nodes, less) = (&component.nodes, reference(component, bias));
         let before = self.best.width();
         if range.upper <= self.best.upper {
             self.best.upper = range.upper;
-            put_each(
-                &mut found.upper,
-                &component.nodes,
-                Value::known(range.upper),
-            );
+            put_each(&mut found.upper, nodes, Value::known(range.upper));
             put_relative(&mut found.bound, component, bias, less);
         }
         if range.lower >= self.best.lower {
             self.best.lower = range.lower;
-            put_each(
-                &mut found.lower,
-                &component.nodes,
-                Value::known(range.lower),
-            );
+            put_each(&mut found.lower, nodes, Value::known(range.lower));
             put_relative(&mut found.bias, component, bias, less);
-            component.pick(&self.measured.policy, &mut found.picks);
+            component.pick(&self.policy, &mut found.picks);
         }
         self.stale = if self.best.width() < before / NEARER {
             0
@@ -120,13 +174,6 @@ impl Refinement<'_> {
             self.stale.saturating_add(1)
         };
         true
-    }
-
-    /// Makes the gain about so much greater, a multiple of the unit. How much; none past 128 bits.
-    fn raise(&mut self, more: f64) -> Option<f64> {
-        let more = nearest(more / to_float(self.unit))?.checked_mul(self.unit)?;
-        self.gain = self.gain.checked_add(more)?;
-        Some(to_float(more))
     }
 
     /// Corrects the bias once, and measures the rows over it. Whether that was possible.
@@ -138,16 +185,14 @@ impl Refinement<'_> {
         bias: &mut [Value],
         found: &mut EndGains,
     ) -> Result<bool, AllocError> {
-        if !corrector.correct(alloc, &self.measured.gains)? {
+        if !corrector.correct(alloc, &self.earned)? {
             return Ok(false);
         }
-        let values = &corrector.values;
-        let Some(more) = self.raise(corrector.gain) else {
+        let Some(more) = nearest(corrector.gain) else {
             return Ok(false);
         };
-        let unit = to_float(self.unit);
-        self.measured.follow(component, values, more, unit);
-        Ok(component.add(self.rows, values, bias) && self.measure(component, bias, found))
+        self.gain = self.gain.saturating_add(more);
+        Ok(component.add(&corrector.values, bias) && self.measure(component, bias, found))
     }
 
     /// Corrects the bias until the bounds of the gain are near enough, or come no nearer.
@@ -158,8 +203,8 @@ impl Refinement<'_> {
         bias: &mut [Value],
         found: &mut EndGains,
     ) -> Result<(), AllocError> {
-        let start = self.measured.policy.clone()?;
-        let leading = Groups::empty(alloc);
+        let start = self.policy.clone()?;
+        let leading = Graph::empty(alloc);
         let mut corrector = Corrector::new(alloc, component, &leading, 1.0, &start)?;
         self.stale = 0;
         for _ in 0..MOST_ROUNDS {
@@ -181,7 +226,6 @@ impl Refinement<'_> {
     ) -> Result<(), AllocError> {
         let mut chance = FIRST_CHANCE;
         for _ in 0..MOST_CHANCES {
-            self.measured.clear();
             if !self.measure(component, bias, found) || self.is_near() {
                 break;
             }
@@ -222,11 +266,10 @@ impl EndGains {
         component: &mut Component,
         bias: &mut [Value],
     ) -> Result<(), AllocError> {
-        let unit = greatest_unit(rows, &component.nodes);
         let mut refinement = Refinement {
             rows,
-            unit,
-            measured: Measured::none(alloc, component)?,
+            earned: vec![in alloc; 0.0; component.rows.len()]?,
+            policy: vec![in alloc; 0; component.nodes.len()]?,
             gain: 0,
             best: Range {
                 upper: i128::MAX,

@@ -1,41 +1,16 @@
 use crate::bound::Bound;
-use crate::convert::to_float;
-use crate::lists::{append, flag_at, group_of, item_at, number, number_at, part_of, put, set_at};
+use crate::lists::{append, flag_at, group_of, item_at, number, part_of, put};
 use crate::nodes::Nodes;
 use crate::value::{Value, value_at};
-use crate::whole::{
-    common_denominator, compare_scaled, digits_left, divided, greatest_with_digits, is_narrow,
-    power_of_ten, quotient, times_multiple,
-};
+use crate::whole::{common_denominator, digits_left, power_of_ten, quotient, times_multiple};
 use mdp_num::Frac;
 use std::alloc::{AllocError, Global};
-use std::cmp::Ordering;
 
-/// An entry of a row in whole numbers: the probability of the node is `numerator` over the row's denominator. The numerator is kept in two halves, so that
-/// an entry takes 24 bytes.
+/// An entry of a row in whole numbers: the probability of the node is `numerator` over the row's denominator.
 #[derive(Clone, Copy)]
 pub struct Entry {
     pub node: u32,
-    upper: u64,
-    lower: u64,
-}
-
-impl Entry {
-    /// An entry of a node. The numerator is at least 0.
-    pub(crate) fn new(node: u32, numerator: i128) -> Entry {
-        let size = numerator.unsigned_abs();
-        Entry {
-            node,
-            upper: u64::try_from(size >> 64).unwrap_or(0),
-            lower: u64::try_from(size & LOWER_HALF).unwrap_or(0),
-        }
-    }
-
-    /// The probability of the node, times the row's denominator.
-    pub fn numerator(&self) -> i128 {
-        let upper = i128::from(self.upper).wrapping_mul(HALF);
-        upper.wrapping_add(i128::from(self.lower))
-    }
+    pub numerator: i128,
 }
 
 /// A choice of a state as a model has it: the states that it leads to, and their probabilities, one each.
@@ -47,15 +22,22 @@ pub struct ChoiceRow<'a> {
     pub probs: &'a [Frac],
 }
 
+/// How much a step later counts: `factor` times as much, where that is at least 0 and at most 1. What is left of each probability goes to the node `end`, where
+/// nothing more is earned, so that each row leaves its component.
+#[derive(Clone, Copy)]
+pub struct Discount<'a> {
+    pub factor: &'a Frac,
+    pub end: u32,
+}
+
 /// The row of a choice that leaves its node, in whole numbers: `denominator` times its value is `reward` and the sum of `numerator` times value over its
-/// entries, where `reward` and the values are in units of the row, of which 1 is so many of those of all values. A row without entries stops: its
-/// reward is all. No product is past width, where values are no greater than the rows leave room for.
+/// entries, where `reward` and the values are in units. A row without entries stops: its reward is all. No product is past width, where values are no greater
+/// than the rows leave room for.
 #[derive(Clone, Copy)]
 pub struct WholeRow {
     pub state: u32,
     pub choice: u32,
     pub node: u32,
-    lost: u32,
     pub denominator: i128,
     pub reward: i128,
     first: usize,
@@ -67,22 +49,7 @@ impl WholeRow {
     pub fn is_stop(&self) -> bool {
         self.first >= self.end
     }
-
-    /// How many units of all values a unit of the row is: 10 to the power of the digits that it doesn't keep.
-    pub fn unit(&self) -> i128 {
-        if self.lost == 0 {
-            1
-        } else {
-            power_of_ten(self.lost)
-        }
-    }
 }
-
-/// 2 ^ 64.
-const HALF: i128 = 18_446_744_073_709_551_616;
-
-/// 2 ^ 64 - 1.
-const LOWER_HALF: u128 = 18_446_744_073_709_551_615;
 
 /// Where two numbers of 128 bits begin with so many zeros together, their product is below 2 ^ 126.
 const ZEROS_OF_NARROW: u32 = 130;
@@ -94,54 +61,40 @@ pub struct Scale {
     pub room: u32,
 }
 
-/// The rows of nodes, node by node, in the order in which they were pushed. Values are whole numbers in units of 10 to the power of -`digits`, and `one` is 1
-/// in these. A row none of whose numbers is above `most` keeps all digits.
+/// The rows of nodes, node by node, in the order in which they were pushed. Values are whole numbers in units, of which `one` make 1: as many as the scale
+/// says, or fewer, where the greatest of the denominators and of what rows earn leave fewer digits. Until they are fitted to that, rewards are in units of 1.
 #[derive(Drop)]
 pub struct Rows {
     scale: Scale,
     one: i128,
-    most: i128,
+    denominator: i128,
+    earned: i128,
     starts: Vec<usize>,
     rows: Vec<WholeRow>,
     entries: Vec<Entry>,
-    node_digits: Vec<u32>,
     has_wide: Vec<bool>,
-    pub(crate) pending: Vec<Entry>,
+    pending: Vec<Entry>,
 }
 
-/// Makes the entries of one node one, where those of each node stand together. How many there are then, at the front.
-fn join(entries: &mut [Entry]) -> usize {
-    let mut count = 0usize;
-    let mut last = Entry::new(0, 0);
-    for place in 0..entries.len() {
-        let entry = entries[place];
-        if count > 0 && last.node == entry.node {
-            let total = last.numerator().saturating_add(entry.numerator());
-            last = Entry::new(entry.node, total);
-            set_at(entries, count.saturating_sub(1), last);
-        } else {
-            last = entry;
-            set_at(entries, count, last);
-            count = count.saturating_add(1);
-        }
+/// The least denominator of a row, and what it earns over that; none past width.
+fn numbers_of(row: ChoiceRow<'_>, reward: &Frac, factor: &Frac) -> Option<(i128, i128)> {
+    let steps = common_denominator(1, row.probs)?;
+    let denominator = common_denominator(steps.checked_mul(factor.den())?, &[*reward])?;
+    Some((denominator, times_multiple(reward, denominator)?))
+}
+
+/// The numerator of a probability over so many times its discount's denominator; none past 128 bits.
+fn numerator_of(prob: &Frac, times: i128, factor: &Frac) -> Option<i128> {
+    times_multiple(prob, times)?.checked_mul(factor.num())
+}
+
+/// The product of two numbers; none past 128 bits. Where both begin with so many zeros together that it is below 2 ^ 126, it needn't be checked.
+fn times(a: i128, b: i128) -> Option<i128> {
+    let zeros = a.unsigned_abs().leading_zeros();
+    if b.unsigned_abs().leading_zeros().saturating_add(zeros) < ZEROS_OF_NARROW {
+        return a.checked_mul(b);
     }
-    count
-}
-
-/// Leaves so many digits to the nodes of entries.
-fn limit(node_digits: &mut [u32], entries: &[Entry], digits: u32) {
-    for entry in entries {
-        let least = number_at(node_digits, entry.node).min(digits);
-        put(node_digits, entry.node, least);
-    }
-}
-
-/// The numbers of a row that is pushed now, but for its entries.
-#[derive(Clone, Copy)]
-pub(crate) struct Numbers {
-    pub(crate) denominator: i128,
-    reward: i128,
-    digits: u32,
+    Some(a.wrapping_mul(b))
 }
 
 impl Rows {
@@ -160,12 +113,12 @@ impl Rows {
     ) -> Result<Rows, AllocError> {
         Ok(Rows {
             scale,
-            one: power_of_ten(scale.digits),
-            most: greatest_with_digits(scale.digits.saturating_add(scale.room)),
+            one: 1,
+            denominator: 1,
+            earned: 0,
             starts: Vec::with_capacity(alloc, nodes as usize)?,
             rows: Vec::with_capacity(alloc, rows)?,
             entries: Vec::with_capacity(alloc, entries)?,
-            node_digits: vec![in alloc; scale.digits; nodes as usize]?,
             has_wide: vec![in alloc; false; nodes as usize]?,
             pending: Vec::new(alloc),
         })
@@ -190,90 +143,74 @@ impl Rows {
         number(self.starts.len().saturating_sub(1))
     }
 
-    /// Takes the entries of a row into `pending`, ordered by node. Whether all could be taken.
-    pub(crate) fn take_entries(
+    /// Takes the entries of a row over its denominator into `pending`, ordered by node. Whether none is past 128 bits.
+    fn take_entries(
         &mut self,
         nodes: &Nodes,
         row: ChoiceRow<'_>,
         denominator: i128,
+        discount: Discount<'_>,
     ) -> Result<bool, AllocError> {
-        let mut is_taken = true;
+        let factor = discount.factor;
+        let times = denominator.checked_div(factor.den()).unwrap_or(0);
+        let less = factor.den().saturating_sub(factor.num());
         self.pending.clear();
-        for place in 0..row.targets.len().min(row.probs.len()) {
-            match times_multiple(&row.probs[place], denominator) {
-                Some(numerator) => {
-                    let entry = Entry::new(nodes.of(row.targets[place]), numerator);
-                    self.pending.push(entry)?;
-                }
-                None => is_taken = false,
-            }
+        for (target, prob) in row.targets.iter().zip(row.probs) {
+            let Some(numerator) = numerator_of(prob, times, factor) else {
+                return Ok(false);
+            };
+            let node = nodes.of(*target);
+            self.pending.push(Entry { node, numerator })?;
         }
         self.pending.sort_unstable_by_key(|entry| entry.node);
-        Ok(is_taken)
-    }
-
-    /// The numbers of a row of this denominator, a multiple of that of its reward; none where it is too wide.
-    pub(crate) fn numbers_over(&self, denominator: Option<i128>, reward: &Frac) -> Option<Numbers> {
-        let denominator = denominator?;
-        let earned = times_multiple(reward, denominator)?;
-        if !is_narrow(earned) {
-            return None;
+        if less > 0 {
+            let rest = Entry {
+                node: discount.end,
+                numerator: less.saturating_mul(times),
+            };
+            self.pending.push(rest)?;
         }
-        let digits = self.digits_for(denominator, earned.saturating_abs());
-        Some(Numbers {
-            denominator,
-            reward: earned.checked_mul(self.power_of(digits))?,
-            digits,
-        })
+        Ok(true)
     }
 
-    /// How many digits a row keeps: its denominator times a value, and what it earns, are to stay in width.
-    fn digits_for(&self, denominator: i128, earned: i128) -> u32 {
-        let scale = self.scale;
-        if denominator <= self.most && earned <= self.most {
-            return scale.digits;
+    /// Appends the pending entries, those of each node as one.
+    fn push_entries(&mut self) -> Result<(), AllocError> {
+        let mut last: Option<Entry> = None;
+        for entry in &self.pending {
+            let mut own = *entry;
+            match last {
+                Some(before) if before.node == own.node => {
+                    own.numerator = own.numerator.saturating_add(before.numerator);
+                    self.entries.pop();
+                }
+                _ => {}
+            }
+            append(&mut self.entries, own)?;
+            last = Some(own);
         }
-        digits_left(denominator, scale.digits.saturating_add(scale.room))
-            .saturating_sub(scale.room)
-            .min(digits_left(earned, scale.digits))
+        Ok(())
     }
 
-    /// 10 to the power of so many digits.
-    fn power_of(&self, digits: u32) -> i128 {
-        if digits == self.scale.digits {
-            self.one
-        } else {
-            power_of_ten(digits)
-        }
-    }
-
-    /// Appends the row whose entries are in `pending`. Where the row is too wide for all digits, its nodes get fewer.
-    pub(crate) fn push_pending(
+    /// Appends the row of a choice, with its reward, to the last node, where a step later counts less. One that is too wide is only noted.
+    pub fn push_discounted_row(
         &mut self,
-        of: ChoiceRow<'_>,
-        numbers: Numbers,
+        nodes: &Nodes,
+        row: ChoiceRow<'_>,
+        reward: &Frac,
+        discount: Discount<'_>,
     ) -> Result<(), AllocError> {
-        let first = self.entries.len();
-        let count = join(&mut self.pending);
-        self.entries
-            .extend_from_slice(part_of(&self.pending, 0, count))?;
-        let end = self.entries.len();
-        let lost = self.scale.digits.saturating_sub(numbers.digits);
-        if lost > 0 {
-            let entries = part_of(&self.entries, first, end);
-            limit(&mut self.node_digits, entries, numbers.digits);
+        if let Some((denominator, earned)) = numbers_of(row, reward, discount.factor) {
+            if self.take_entries(nodes, row, denominator, discount)? {
+                self.denominator = self.denominator.max(denominator);
+                self.earned = self.earned.max(earned.saturating_abs());
+                let first = self.entries.len();
+                self.push_entries()?;
+                return self.push(row.state, row.choice, denominator, earned, first);
+            }
         }
-        let row = WholeRow {
-            state: of.state,
-            choice: of.choice,
-            node: self.last_node(),
-            lost,
-            denominator: numbers.denominator,
-            reward: numbers.reward,
-            first,
-            end,
-        };
-        append(&mut self.rows, row)
+        let node = self.last_node();
+        put(&mut self.has_wide, node, true);
+        Ok(())
     }
 
     /// Appends the row of a choice, with its reward, to the last node. One that stays in the node is left out, and one that is too wide is only noted.
@@ -296,89 +233,69 @@ impl Rows {
         row: ChoiceRow<'_>,
         reward: &Frac,
     ) -> Result<(), AllocError> {
-        let denominator = common_denominator(reward.den(), row.probs);
-        if let Some(numbers) = self.numbers_over(denominator, reward) {
-            if self.take_entries(nodes, row, numbers.denominator)? {
-                return self.push_pending(row, numbers);
-            }
-        }
-        self.note_wide();
-        Ok(())
+        let all = Discount {
+            factor: &Frac::whole(1),
+            end: 0,
+        };
+        self.push_discounted_row(nodes, row, reward, all)
     }
 
-    /// Notes that a row of the last node is too wide.
-    pub(crate) fn note_wide(&mut self) {
-        let node = self.last_node();
-        put(&mut self.has_wide, node, true);
+    /// Appends a row to the last node, whose entries are those from a place on.
+    fn push(
+        &mut self,
+        state: u32,
+        choice: u32,
+        denominator: i128,
+        reward: i128,
+        first: usize,
+    ) -> Result<(), AllocError> {
+        let row = WholeRow {
+            state,
+            choice,
+            node: self.last_node(),
+            denominator,
+            reward,
+            first,
+            end: self.entries.len(),
+        };
+        append(&mut self.rows, row)
     }
 
     /// Appends a row that stops with a value, in units, to the last node.
     pub fn push_stop(&mut self, state: u32, choice: u32, value: i128) -> Result<(), AllocError> {
         let place = self.entries.len();
-        let row = WholeRow {
-            state,
-            choice,
-            node: self.last_node(),
-            lost: 0,
-            denominator: 1,
-            reward: value,
-            first: place,
-            end: place,
-        };
-        append(&mut self.rows, row)
+        self.push(state, choice, 1, value, place)
     }
 
-    /// Gives the row at a place another reward, in the row's denominator times its unit.
+    /// Gives the row at a place another reward, in the row's denominator times a unit.
     pub fn set_reward(&mut self, place: usize, reward: i128) {
         if place < self.rows.len() {
             self.rows[place].reward = reward;
         }
     }
 
-    /// Writes a row for the scale, which was written for values of so many digits.
-    fn rescaled(&mut self, row: WholeRow, digits: u32) -> WholeRow {
-        let earned = row
-            .reward
-            .checked_div(power_of_ten(digits.saturating_sub(row.lost)))
-            .unwrap_or(0);
-        let kept = self.digits_for(row.denominator, earned.saturating_abs());
-        let lost = self.scale.digits.saturating_sub(kept);
-        if lost > 0 {
-            let entries = part_of(&self.entries, row.first, row.end);
-            limit(&mut self.node_digits, entries, kept);
-        }
-        let reward = earned.checked_mul(self.power_of(kept)).unwrap_or(0);
-        WholeRow {
-            lost,
-            reward,
-            ..row
+    /// Chooses the unit, once all rows are pushed: with as many digits as the scale says and as all rows leave room for.
+    pub fn fit(&mut self) {
+        let scale = self.scale;
+        self.scale.digits = digits_left(self.denominator, scale.digits.saturating_add(scale.room))
+            .saturating_sub(scale.room)
+            .min(digits_left(self.earned, scale.digits));
+        self.one = power_of_ten(self.scale.digits);
+        for row in self.rows.iter_mut() {
+            if !row.is_stop() {
+                row.reward = row.reward.checked_mul(self.one).unwrap_or(0);
+            }
         }
     }
 
-    /// Writes all rows for values of another scale. There is to be none that stops.
-    pub fn rescale(&mut self, scale: Scale) {
-        let digits = self.scale.digits;
-        self.scale = scale;
-        self.one = power_of_ten(scale.digits);
-        self.most = greatest_with_digits(scale.digits.saturating_add(scale.room));
-        self.node_digits.fill(scale.digits);
-        for place in 0..self.rows.len() {
-            if let Some(row) = self.rows.get(place).copied() {
-                let row = self.rescaled(row, digits);
-                set_at(&mut self.rows, place, row);
-            }
-        }
+    /// How values are written.
+    pub fn scale(&self) -> Scale {
+        self.scale
     }
 
     /// The value 1 in units.
     pub fn one(&self) -> i128 {
         self.one
-    }
-
-    /// What the values of a node are multiples of.
-    pub fn unit_of(&self, node: u32) -> i128 {
-        let digits = number_at(&self.node_digits, node);
-        power_of_ten(self.scale.digits.saturating_sub(digits))
     }
 
     /// Whether a row of some node was too wide to be kept.
@@ -393,16 +310,7 @@ impl Rows {
 
     /// How many nodes there are.
     pub(crate) fn count(&self) -> usize {
-        self.node_digits.len()
-    }
-
-    /// How many digits the node keeps that keeps the fewest.
-    pub fn least_digits(&self) -> u32 {
-        let mut least = self.scale.digits;
-        for digits in &self.node_digits {
-            least = least.min(*digits);
-        }
-        least
+        self.has_wide.len()
     }
 
     /// Where the rows of a node begin and end.
@@ -419,10 +327,7 @@ impl Rows {
 
     /// A row that was picked by its place, if one was.
     pub fn picked(&self, pick: Option<usize>) -> Option<&WholeRow> {
-        match pick {
-            Some(place) => self.rows.get(place),
-            None => None,
-        }
+        self.rows.get(pick?)
     }
 
     /// The choices of the rows that were picked, the first where none was.
@@ -431,13 +336,8 @@ impl Rows {
         alloc: Global,
         picks: &[Option<usize>],
     ) -> Result<Vec<u32>, AllocError> {
-        let mut choices = vec![in alloc; 0; picks.len()]?;
-        for place in 0..picks.len() {
-            if let Some(row) = self.picked(picks[place]) {
-                set_at(&mut choices, place, row.choice);
-            }
-        }
-        Ok(choices)
+        let choice_of = |pick: &Option<usize>| self.picked(*pick).map_or(0, |row| row.choice);
+        picks.iter().map(choice_of).collect(alloc)
     }
 
     /// The rows of a node.
@@ -459,173 +359,32 @@ impl Rows {
         }
     }
 
-    /// The reward and the sum of numerators times values in units of the row, but for the entry of the row's own node, whose numerator comes beside it.
-    /// None past 128 bits, or where a value isn't known. As numerators come to the denominator at most, the sum is in width where each value times that is.
+    /// The reward and the sum of numerators times values, but for the entry of the row's own node, whose numerator comes beside it. None past 128 bits, or
+    /// where a value isn't known.
     fn sum_of_others(&self, row: &WholeRow, values: &[Value]) -> Option<(i128, i128)> {
-        let zeros = row.denominator.unsigned_abs().leading_zeros();
-        let unit = row.unit();
-        let mut total = 0i128;
-        let mut own = 0;
-        for entry in self.entries_of(row) {
-            if entry.node == row.node {
-                own = entry.numerator();
-            } else {
-                let value = in_unit(value_at(values, entry.node)?, unit)?;
-                if value.unsigned_abs().leading_zeros().saturating_add(zeros) < ZEROS_OF_NARROW {
-                    return self.wide_sum_of_others(row, values);
-                }
-                total = total.wrapping_add(entry.numerator().wrapping_mul(value));
-            }
-        }
-        Some((row.reward.checked_add(total)?, own))
-    }
-
-    /// The same where a product may be past width: each step is checked.
-    fn wide_sum_of_others(&self, row: &WholeRow, values: &[Value]) -> Option<(i128, i128)> {
-        let unit = row.unit();
         let mut total = row.reward;
         let mut own = 0;
         for entry in self.entries_of(row) {
             if entry.node == row.node {
-                own = entry.numerator();
+                own = entry.numerator;
             } else {
-                let value = in_unit(value_at(values, entry.node)?, unit)?;
-                total = total.checked_add(entry.numerator().checked_mul(value)?)?;
+                let value = value_at(values, entry.node)?;
+                total = total.checked_add(times(entry.numerator, value)?)?;
             }
         }
         Some((total, own))
     }
 
-    /// What the row has over the value of its node, in the row's denominator times its unit, rounded so that it is a bound. None past 128 bits, or where
-    /// a value isn't known.
-    pub fn excess(&self, row: &WholeRow, values: &[Value], bound: Bound) -> Option<i128> {
-        self.exact_excess(row, values)?.rounded(bound)
-    }
-
-    /// What the row has over the value of its node, in two parts. None past 128 bits, or where a value isn't known.
-    fn over(&self, row: &WholeRow, values: &[Value]) -> Option<Over> {
+    /// What the row has over the value of its node, in the row's denominator times a unit. None past 128 bits, or where a value isn't known.
+    pub fn excess(&self, row: &WholeRow, values: &[Value]) -> Option<i128> {
         let (total, own) = self.sum_of_others(row, values)?;
         let others = row.denominator.checked_sub(own)?;
-        let (steps, rest) = divided(value_at(values, row.node)?, row.unit())?;
-        let above = total.checked_sub(others.checked_mul(steps)?)?;
-        Some(Over {
-            above,
-            others,
-            rest,
-        })
+        total.checked_sub(others.checked_mul(value_at(values, row.node)?)?)
     }
 
-    /// What the row has over the value of its node, exactly. None past 128 bits, or where a value isn't known.
-    pub(crate) fn exact_excess(&self, row: &WholeRow, values: &[Value]) -> Option<Excess> {
-        let over = self.over(row, values)?;
-        Some(Excess {
-            above: over.above,
-            less: if over.rest == 0 {
-                0
-            } else {
-                over.others.checked_mul(over.rest)?
-            },
-            unit: row.unit(),
-        })
-    }
-
-    /// How the row's value lies to that of its node. None past 128 bits, or where a value isn't known.
-    pub(crate) fn gap(&self, row: &WholeRow, values: &[Value]) -> Option<Gap> {
-        let unit = row.unit();
-        let Over {
-            above,
-            others,
-            rest,
-        } = self.over(row, values)?;
-        let scaled = to_float(above) * to_float(unit) - to_float(others) * to_float(rest);
-        Some(Gap {
-            order: compare_scaled(above, unit, others, rest),
-            size: scaled / to_float(row.denominator),
-        })
-    }
-
-    /// The value that the row gives its node, its own entry solved for, rounded to a multiple of the node's unit. None past 128 bits,
-    /// or where a value isn't known.
+    /// The value that the row gives its node, its own entry solved for, rounded so that it is a bound. None past 128 bits, or where a value isn't known.
     pub(crate) fn rounded(&self, row: &WholeRow, values: &[Value], bound: Bound) -> Option<i128> {
         let (total, own) = self.sum_of_others(row, values)?;
-        let others = row.denominator.checked_sub(own)?;
-        let unit = self.unit_of(row.node);
-        if unit < row.unit() {
-            return rounded_finely(total, others, row.unit(), unit, bound);
-        }
-        let steps = in_unit(unit, row.unit())?;
-        quotient(total, others.checked_mul(steps)?, bound)?.checked_mul(unit)
+        quotient(total, row.denominator.checked_sub(own)?, bound)
     }
-}
-
-/// What a row has over the value of its node, in the row's denominator: `above` times the row's unit, less `others` times `rest`, which is less than the unit.
-#[derive(Clone, Copy)]
-struct Over {
-    above: i128,
-    others: i128,
-    rest: i128,
-}
-
-/// What a row has over the value of its node, in the row's denominator times its unit: `above`, less the part `less` of that unit.
-#[derive(Clone, Copy)]
-pub(crate) struct Excess {
-    above: i128,
-    pub(crate) less: i128,
-    unit: i128,
-}
-
-impl Excess {
-    /// It is rounded so that it is a bound. None past 128 bits.
-    pub(crate) fn rounded(self, bound: Bound) -> Option<i128> {
-        if self.less == 0 {
-            return Some(self.above);
-        }
-        self.above
-            .checked_add(quotient(self.less.checked_neg()?, self.unit, bound)?)
-    }
-}
-
-/// How a row's value lies to that of its node: its order, and about how much it has over it, in units.
-#[derive(Clone, Copy)]
-pub(crate) struct Gap {
-    pub(crate) order: Ordering,
-    pub(crate) size: f64,
-}
-
-/// `total / others` times `unit`, digit by digit down to a finer unit, or as far as 128 bits allow, and then rounded so that it is a bound.
-fn rounded_finely(
-    total: i128,
-    others: i128,
-    unit: i128,
-    finer: i128,
-    bound: Bound,
-) -> Option<i128> {
-    let (mut value, mut rest) = divided(total, others)?;
-    let mut reached = unit;
-    for _ in 0..36 {
-        let scaled = if reached > finer {
-            rest.checked_mul(10)
-        } else {
-            None
-        };
-        let Some(scaled) = scaled else {
-            break;
-        };
-        let (digit, left) = divided(scaled, others)?;
-        value = value.checked_mul(10)?.checked_add(digit)?;
-        rest = left;
-        reached /= 10;
-    }
-    if bound == Bound::Upper && rest > 0 {
-        value = value.checked_add(1)?;
-    }
-    value.checked_mul(reached)
-}
-
-/// A value that is a multiple of a unit, in that unit.
-fn in_unit(value: i128, unit: i128) -> Option<i128> {
-    if unit == 1 {
-        return Some(value);
-    }
-    value.checked_div(unit)
 }

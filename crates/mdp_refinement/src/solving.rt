@@ -6,9 +6,9 @@ use crate::correct::Corrector;
 use crate::graph::Graph;
 use crate::intervals::{best_rounded, sweep_exact};
 use crate::leaving::{Leaving, exit_policy};
-use crate::lists::{Groups, item_at, number, put};
+use crate::lists::{item_at, number, put, put_each};
 use crate::refine::refine;
-use crate::rows::{Entry, Rows};
+use crate::rows::Rows;
 use crate::strong::{Components, strong_components};
 use crate::value::{Value, value_at};
 use std::alloc::{AllocError, Global};
@@ -29,20 +29,14 @@ impl Solution {
         put(&mut self.picks, node, pick);
     }
 
-    /// Puts the rows of a component's nodes that were picked. Whether each of them has one.
-    fn put_policy(&self, component: &Component, policy: &mut [usize]) -> bool {
-        let mut is_full = true;
+    /// Puts the rows of a component's nodes that were picked.
+    fn put_policy(&self, component: &Component, policy: &mut [usize]) {
         for place in 0..policy.len().min(component.nodes.len()) {
-            let row = match item_at(&self.picks, component.nodes[place] as usize, None) {
-                Some(pick) => component.row_of(place, pick),
-                None => None,
-            };
-            match row {
-                Some(row) => policy[place] = row,
-                None => is_full = false,
+            let pick = item_at(&self.picks, component.nodes[place] as usize, None);
+            if let Some(row) = component.row_of(place, pick) {
+                policy[place] = row;
             }
         }
-        is_full
     }
 }
 
@@ -57,40 +51,20 @@ struct Solver<'a> {
 }
 
 impl Solver<'_> {
-    /// Gives a node the bound that holds anyway.
-    fn give_up(&mut self, node: u32) {
-        put(&mut self.solution.values, node, Value::of(self.task.anyway));
-        put(&mut self.solution.picks, node, None);
-    }
-
     /// Gives nodes the bounds that hold anyway.
-    fn give_up_all(&mut self, nodes: &[u32]) {
-        for node in nodes {
-            self.give_up(*node);
-        }
+    fn give_up(&mut self, nodes: &[u32]) {
+        let anyway = Value::of(self.task.anyway);
+        put_each(&mut self.solution.values, nodes, anyway);
+        put_each(&mut self.solution.picks, nodes, None);
     }
 
     /// Whether a row of a node leads out of its component to a value that isn't known.
     fn misses_value(&self, node: u32) -> bool {
         let own = self.components.of(node);
-        for entry in self.rows.edges_of(node) {
-            if self.components.of(entry.node) != own
+        self.rows.edges_of(node).iter().any(|entry| {
+            self.components.of(entry.node) != own
                 && value_at(&self.solution.values, entry.node).is_none()
-            {
-                return true;
-            }
-        }
-        false
-    }
-
-    /// Whether a row of a component's nodes leads out of it to a value that isn't known.
-    fn leads_to_unknown(&self, nodes: &[u32]) -> bool {
-        for node in nodes {
-            if self.misses_value(*node) {
-                return true;
-            }
-        }
-        false
+        })
     }
 
     /// A component with one node, exactly.
@@ -99,30 +73,8 @@ impl Solver<'_> {
             Some((value, place)) => self.solution.settle(node, value, Some(place)),
             None => {
                 self.solution.is_full = false;
-                self.give_up(node);
+                self.give_up(&[node]);
             }
-        }
-    }
-
-    /// A component all of whose ways out have one value.
-    fn solve_same(&mut self, component: &Component, value: i128, start: &[usize]) {
-        for node in &component.nodes {
-            put(&mut self.solution.values, *node, Value::known(value));
-        }
-        component.pick(start, &mut self.solution.picks);
-    }
-
-    /// A component by interval iteration, or by what holds anyway.
-    fn solve_by_intervals(&mut self, component: &Component, first: Option<i128>, start: &[usize]) {
-        self.solution.is_full = false;
-        component.pick(start, &mut self.solution.picks);
-        let nodes = &component.nodes;
-        let found = match first {
-            Some(first) => sweep_exact(self.rows, self.task, nodes, first, &mut self.solution),
-            None => None,
-        };
-        if found.is_none() {
-            self.give_up_all(nodes);
         }
     }
 
@@ -131,14 +83,9 @@ impl Solver<'_> {
         &mut self,
         alloc: Global,
         component: &Component,
-        leading: &Groups,
+        leading: &Graph,
         start: &[usize],
     ) -> Result<(), AllocError> {
-        let outside = component.outside;
-        if let Some(value) = outside.same_value(self.rows, &component.nodes) {
-            self.solve_same(component, value, start);
-            return Ok(());
-        }
         let task = self.task;
         let mut corrector = Corrector::new(alloc, component, leading, task.sense(), start)?;
         let first = match self.other {
@@ -156,66 +103,56 @@ impl Solver<'_> {
             values,
         )? {
             component.pick(&corrector.policy, &mut self.solution.picks);
-        } else if task.to_end {
-            self.solve_by_intervals(component, outside.start(task.bound), start);
-        } else {
-            self.solution.is_full = false;
+            return Ok(());
+        }
+        self.solution.is_full = false;
+        self.give_up(&component.nodes);
+        if task.to_end && task.anyway.is_some() {
+            component.pick(start, &mut self.solution.picks);
+            sweep_exact(self.rows, task, &component.nodes, &mut self.solution);
         }
         Ok(())
     }
 
-    /// The policy to begin with: that of the other bound, changed to one that leaves the component where it doesn't, or else the latter. None where a node
-    /// can't leave.
+    /// The policy to begin with: one that leaves the component, or that of the other bound where it leaves. None where a node can't leave.
     fn start(
         &self,
         alloc: Global,
         component: &Component,
-        leading: &Groups,
+        leading: &Graph,
     ) -> Result<Option<Vec<usize>>, AllocError> {
         let Some(exit) = exit_policy(alloc, component, leading)? else {
             return Ok(None);
         };
-        let Some(other) = self.other else {
-            return Ok(Some(exit));
-        };
-        let mut policy = vec![in alloc; 0usize; component.nodes.len()]?;
-        if !other.put_policy(component, &mut policy) {
-            return Ok(Some(exit));
+        let mut policy = exit.clone()?;
+        if let Some(other) = self.other {
+            other.put_policy(component, &mut policy);
+            let mut search = Leaving::new(alloc, component, leading)?;
+            search.make_proper(&mut policy, &exit)?;
         }
-        let mut search = Leaving::new(alloc, component, leading, &exit)?;
-        search.make_proper(&mut policy, &exit);
         Ok(Some(policy))
     }
 
-    /// A component with several nodes.
+    /// A component with several nodes, if each node can leave it.
     fn solve_many(&mut self, alloc: Global, number: usize) -> Result<(), AllocError> {
         let values = &self.solution.values;
         let component = Component::new(alloc, self.rows, self.components, number, values)?;
-        if !self.leave(alloc, &component)? {
-            self.give_up_all(&component.nodes);
-        }
-        Ok(())
-    }
-
-    /// A component with several nodes, if each node can leave it. Whether it can.
-    fn leave(&mut self, alloc: Global, component: &Component) -> Result<bool, AllocError> {
-        if component.outside.range.is_none() {
-            return Ok(false);
-        }
         let leading = component.leading(alloc)?;
-        let Some(start) = self.start(alloc, component, &leading)? else {
-            return Ok(false);
-        };
-        self.solve_leaving(alloc, component, &leading, &start)?;
-        Ok(true)
+        match self.start(alloc, &component, &leading)? {
+            Some(start) => self.solve_leaving(alloc, &component, &leading, &start),
+            None => {
+                self.give_up(&component.nodes);
+                Ok(())
+            }
+        }
     }
 
     /// The component of this number, whose successors are solved.
     fn solve_component(&mut self, alloc: Global, number: usize) -> Result<(), AllocError> {
         let components = self.components;
         let nodes = components.nodes_of(number);
-        if self.task.is_each() && self.leads_to_unknown(nodes) {
-            self.give_up_all(nodes);
+        if self.task.is_each() && nodes.iter().any(|node| self.misses_value(*node)) {
+            self.give_up(nodes);
             return Ok(());
         }
         match nodes {
@@ -226,9 +163,7 @@ impl Solver<'_> {
             _ => self.solve_many(alloc, number),
         }
     }
-}
 
-impl Solver<'_> {
     /// All components, successors first, unless it ends with the first one that isn't refined.
     fn solve_all(&mut self, alloc: Global) -> Result<(), AllocError> {
         for component in 0..self.components.count() {
@@ -248,22 +183,11 @@ fn open_nodes(
     given: &[Value],
     task: Task,
 ) -> Result<Vec<bool>, AllocError> {
-    let mut open = vec![in alloc; false; given.len()]?;
-    for node in 0..number(given.len()) {
+    let is_open = |node: u32| {
         let is_kept = !(task.is_each() && rows.has_wide(node));
-        let is_open = value_at(given, node).is_none() && is_kept;
-        put(&mut open, node, is_open && !rows.rows_of(node).is_empty());
-    }
-    Ok(open)
-}
-
-/// Puts a value in the place of those that aren't known.
-fn put_unknown(values: &mut [Value], other: Value) {
-    for value in values {
-        if !value.is_known() {
-            *value = other;
-        }
-    }
+        is_kept && value_at(given, node).is_none() && !rows.rows_of(node).is_empty()
+    };
+    (0..number(given.len())).map(is_open).collect(alloc)
 }
 
 /// The given values, and elsewhere those that hold anyway.
@@ -272,42 +196,24 @@ fn first_solution(
     given: &[Value],
     anyway: Option<i128>,
 ) -> Result<Solution, AllocError> {
-    let mut values = given.to_vec(alloc)?;
-    put_unknown(&mut values, Value::of(anyway));
+    let values = given
+        .iter()
+        .map(|value| Value::of(value.units().or(anyway)));
     Ok(Solution {
-        values,
+        values: values.collect(alloc)?,
         picks: vec![in alloc; None; given.len()]?,
         is_full: true,
     })
 }
 
-/// Appends the edges of the last node to nodes of its part.
-fn push_edges(
-    graph: &mut Graph,
-    edges: &[Entry],
-    parts: &[Option<u32>],
-    part: Option<u32>,
-) -> Result<(), AllocError> {
-    for entry in edges {
-        if item_at(parts, entry.node as usize, None) == part {
-            graph.push_edge(entry.node)?;
-        }
-    }
-    Ok(())
-}
-
-/// The graph of so many nodes: an edge for each entry within a part. Nodes behind the list of parts are in one part.
-pub(crate) fn graph_of(
-    alloc: Global,
-    rows: &Rows,
-    nodes: u32,
-    parts: &[Option<u32>],
-) -> Result<Graph, AllocError> {
+/// The graph of so many nodes: an edge for each entry.
+fn graph_of(alloc: Global, rows: &Rows, nodes: u32) -> Result<Graph, AllocError> {
     let mut graph = Graph::empty(alloc);
     for node in 0..nodes {
         graph.push_node()?;
-        let part = item_at(parts, node as usize, None);
-        push_edges(&mut graph, rows.edges_of(node), parts, part)?;
+        for entry in rows.edges_of(node) {
+            graph.push_edge(entry.node)?;
+        }
     }
     Ok(graph)
 }
@@ -320,7 +226,7 @@ fn open_components(
     task: Task,
 ) -> Result<Components, AllocError> {
     let open = open_nodes(alloc, rows, given, task)?;
-    let graph = graph_of(alloc, rows, number(given.len()), &[])?;
+    let graph = graph_of(alloc, rows, number(given.len()))?;
     strong_components(alloc, &graph, &open)
 }
 

@@ -29,14 +29,9 @@ impl Value {
         }
     }
 
-    /// Whether there is a value.
-    pub fn is_known(self) -> bool {
-        self.units != NONE
-    }
-
     /// The value, if there is one.
     pub fn units(self) -> Option<i128> {
-        if self.is_known() {
+        if self.units != NONE {
             Some(self.units)
         } else {
             None
