@@ -4,7 +4,6 @@
 
 use crate::chosen::Chosen;
 use crate::factors::Factors;
-use crate::lists::append;
 use std::alloc::{AllocError, Global};
 
 /// The steps of one run.

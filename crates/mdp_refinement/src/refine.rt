@@ -4,7 +4,7 @@ use crate::bound::Task;
 use crate::component::{Component, FloatRow};
 use crate::convert::to_float;
 use crate::correct::Corrector;
-use crate::lists::{put, takes};
+use crate::lists::{put, set_at, takes};
 use crate::rows::Rows;
 use crate::value::{Value, value_at};
 use std::alloc::{AllocError, Global};
@@ -74,8 +74,8 @@ impl Refinement<'_> {
             is_near: true,
             error: 0.0,
         };
-        for at in 0..self.component.rows.len().min(self.gains.len()) {
-            let row = self.component.rows[at];
+        for at in 0..self.component.rows.len() {
+            let row = self.component.row_at(at);
             let (excess, gap) = self.excess(&row, values)?;
             let is_chosen = takes(policy, row.node, at);
             if is_chosen {
@@ -85,7 +85,8 @@ impl Refinement<'_> {
             if is_chosen || self.task.is_each() {
                 measured.is_held = measured.is_held && !self.task.is_nearer(0, excess);
             }
-            self.gains[at] = gap + self.task.side() * self.room * row.slack;
+            let room = self.task.side() * self.room * row.slack;
+            set_at(&mut self.gains, at, gap + room);
         }
         Some(measured)
     }

@@ -29,7 +29,7 @@ fn gives_at(pass: &Pass, s: u32, word: &str) -> bool
 }
 
 /// Whether a pass gives each state what the words say, one for each.
-fn gives(pass: &Pass, states: u32, due: &str) -> bool
+pub(crate) fn gives(pass: &Pass, states: u32, due: &str) -> bool
     requires { length pass.now.marks ≡ states }
 {
     let mut words = due.split(' ');

@@ -2,6 +2,8 @@
 #![tactic(auto)]
 
 #[cfg(test)]
+mod elim_tests;
+#[cfg(test)]
 mod graph_tests;
 #[cfg(test)]
 mod mean_tests;
