@@ -22,9 +22,9 @@ pub seen_taken : {A B C : Type 0} (g : A → B) (f : C → B) (ys : List C) (c :
 seen_taken g f ys c d xs x l e q = map_push g xs x ∙ taken_more f ys c d (map g xs) (g x) l e q
 
 -- the rest from place c on begins with what stands there
-pub rest_at : {A B : Type 0} (g : A → B) (xs : List A) (c : ℕ) (x : A) (d : B) → c < length xs → x ≡ get_or xs c x → drop c (map g xs) ≡ g x ∷ drop (c + 1) (map g xs)
-rest_at g xs c x d l e =
+pub rest_at : {A B : Type 0} (g : A → B) (xs : List A) (c : ℕ) (a : A) (d : B) → c < length xs → drop c (map g xs) ≡ g (get_or xs c a) ∷ drop (c + 1) (map g xs)
+rest_at g xs c a d l =
     let on : suc c ≡ c + 1 = omega arith in
     drop-cons (map g xs) c d (omega (arith, length-map xs g))
-    ∙ ap (λ y. y ∷ drop (suc c) (map g xs)) (get_or-map g xs c x d l ∙ ap g (sym e))
-    ∙ ap (λ k. g x ∷ drop k (map g xs)) on
+    ∙ ap (λ y. y ∷ drop (suc c) (map g xs)) (get_or-map g xs c a d l)
+    ∙ ap (λ k. g (get_or xs c a) ∷ drop k (map g xs)) on

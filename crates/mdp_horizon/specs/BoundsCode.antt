@@ -6,7 +6,7 @@ use Rattle.mdp_horizon.specs.{declared.choice.ScaledChoice.{ScaledChoice}, decla
 use Rattle.mdp_horizon.specs.declared.bounds_objective.Objective.TheVariants.{Until, Total}
 
 abbrev pub plain_choice : ScaledChoice → Scaled
-plain_choice x = record { scale = x.scale; terms = x.terms.items; low = x.low; high = x.high }
+plain_choice x = record { scale = x.scale; terms = x.terms.now; low = x.rounded.now.low; high = x.rounded.now.high }
 
 abbrev pub plain_choices : List ScaledChoice → List Scaled
 plain_choices xs = map plain_choice xs

@@ -43,7 +43,12 @@ fn farther_quotient(dir: Dir, far: i128, n: i128, d: i128) -> i128
 }
 
 /// The sum of a choice, where it lies farther than `far`.
-fn covered_with(dir: Dir, column: &[Option<i128>], far: i128, choice: &ScaledChoice) -> Option<i128>
+fn covered_with(
+    dir: Dir,
+    column: &[Option<i128>],
+    far: i128,
+    choice: &ScaledChoice<'_>,
+) -> Option<i128>
     requires { IsReady (length column.now) (plain_choice choice.now) }
     ensures { result ≡ covered_with dir column.now far (plain_choice choice.now) }
 {
@@ -54,7 +59,11 @@ fn covered_with(dir: Dir, column: &[Option<i128>], far: i128, choice: &ScaledCho
 }
 
 /// The farthest of the choices' sums, rounded; none where one of them is missing.
-pub(crate) fn covered(dir: Dir, column: &[Option<i128>], choices: &[ScaledChoice]) -> Option<i128>
+pub(crate) fn covered(
+    dir: Dir,
+    column: &[Option<i128>],
+    choices: &[ScaledChoice<'_>],
+) -> Option<i128>
     requires some { 0 < length choices.now }
     requires ready { AreReady (length column.now) choices.now }
     ensures { result ≡ covered dir column.now (plain_choices choices.now) }
@@ -116,7 +125,7 @@ fn judged_sum(
     column: &[Option<i128>],
     c: u32,
     leader: Leader,
-    choice: &ScaledChoice,
+    choice: &ScaledChoice<'_>,
 ) -> Leader
     requires { IsReady (length column.now) (plain_choice choice.now) }
     ensures { result ≡ judged dir c leader (rounded_sum (opposite dir) column.now (plain_choice choice.now)) }
@@ -131,7 +140,7 @@ fn judged_sum(
 pub(crate) fn followed(
     dir: Dir,
     column: &[Option<i128>],
-    choices: &[ScaledChoice],
+    choices: &[ScaledChoice<'_>],
     count: u32,
 ) -> Leader
     requires some { 0 < length choices.now }

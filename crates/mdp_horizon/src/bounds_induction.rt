@@ -7,7 +7,9 @@ ghost use Rattle.mdp_horizon.specs.{BoundsCode.{plain_objective, IsAsked}, Bound
 
 use crate::bounds::HorizonBounds;
 use crate::bounds_objective::Objective;
+use crate::choice::Arenas;
 use crate::columns::{Columns, Query};
+use bumpalo::Bump;
 use mdp_num::{Frac, Memory};
 use mdp_rows::{Dir, Marks, Model};
 use std::alloc::{AllocError, Global};
@@ -52,7 +54,13 @@ fn backward(alloc: Global, query: Query<'_>, steps: u32) -> Result<Induction, Al
     ensures follow { IfOk result (λ found. found.follow.items ≡ follow query.entry.dir query.entry.one query.entry.model.now (plain_objective query.entry.objective) steps) }
     ensures table { IfOk result (λ found. lists found.table.items ≡ table query.entry.dir query.entry.one query.entry.model.now (plain_objective query.entry.objective) steps) }
 {
-    let rows = query.scaled_states(alloc)?;
+    let terms = Bump::new(alloc);
+    let starts = Bump::new(alloc);
+    let arenas = Arenas {
+        terms: &terms,
+        starts: &starts,
+    };
+    let rows = query.scaled_states(alloc, arenas)?;
     let mut cover = query.end_column(alloc)?;
     let mut follow = query.end_column(alloc)?;
     let mut table = Vec::new(alloc);

@@ -1,3 +1,5 @@
+use bumpalo::Bump;
+
 /// An entry of a row in whole numbers: its probability times the row's common denominator.
 #[derive(Clone, Copy)]
 pub struct Term {
@@ -12,11 +14,24 @@ pub struct Scale {
     pub(crate) start: i128,
 }
 
-/// A choice in whole numbers: its row and what it earns at once, and the latter in units, rounded down and up.
-#[derive(Drop)]
-pub struct ScaledChoice {
-    pub(crate) scale: Scale,
-    pub(crate) terms: Vec<Term>,
+/// What is earned at once in units, rounded down and up; none where it is too wide.
+#[derive(Clone, Copy)]
+pub struct RoundedStart {
     pub(crate) low: Option<i128>,
     pub(crate) high: Option<i128>,
+}
+
+/// A choice in whole numbers: its row and what it earns at once. The latter in units lies apart, since only sums that are too wide need it.
+#[derive(Drop)]
+pub struct ScaledChoice<'b> {
+    pub(crate) scale: Scale,
+    pub(crate) terms: &'b [Term],
+    pub(crate) rounded: &'b RoundedStart,
+}
+
+/// The arenas of choices: one for terms, which each step reads, and one for starts in units.
+#[derive(Clone, Copy)]
+pub struct Arenas<'b> {
+    pub terms: &'b Bump,
+    pub starts: &'b Bump,
 }

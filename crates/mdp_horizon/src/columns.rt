@@ -6,7 +6,7 @@ ghost use Rattle.mdp_horizon.specs.BoundsCode.{plain_choices, plain_objective, I
 
 use crate::best::{covered, followed};
 use crate::bounds_objective::Objective;
-use crate::choice::ScaledChoice;
+use crate::choice::{Arenas, ScaledChoice};
 use crate::leader::Leader;
 use crate::scaling::scaled;
 use mdp_num::Frac;
@@ -79,7 +79,12 @@ impl Query<'_> {
     }
 
     /// The choices of state `s` in whole numbers.
-    fn scaled_state(self, alloc: Global, s: u32) -> Result<Vec<ScaledChoice>, AllocError>
+    fn scaled_state<'b>(
+        self,
+        alloc: Global,
+        arenas: Arenas<'b>,
+        s: u32,
+    ) -> Result<Vec<ScaledChoice<'b>>, AllocError>
         requires one { pos 0 <ℤ self.one }
         requires asked { IsAsked self.model.now (plain_objective self.objective) }
         requires state { s < states_of self.model.now }
@@ -88,20 +93,24 @@ impl Query<'_> {
         let mut choices = Vec::with_capacity(alloc, self.model.choices(s) as usize)?;
         for c in 0..self.model.choices(s) {
             let start = self.earns(s, c);
-            choices.push(scaled(alloc, &start, self.model.row(s, c), self.one)?)?;
+            choices.push(scaled(arenas, &start, self.model.row(s, c), self.one)?)?;
         }
         Ok(choices)
     }
 
     /// The choices of all states in whole numbers.
-    pub(crate) fn scaled_states(self, alloc: Global) -> Result<Vec<Vec<ScaledChoice>>, AllocError>
+    pub(crate) fn scaled_states<'b>(
+        self,
+        alloc: Global,
+        arenas: Arenas<'b>,
+    ) -> Result<Vec<Vec<ScaledChoice<'b>>>, AllocError>
         requires one { pos 0 <ℤ self.one }
         requires asked { IsAsked self.model.now (plain_objective self.objective) }
         ensures { IfOk result (λ rows. AreOf self.entry.one self.entry.model.now (plain_objective self.entry.objective) rows.items) }
     {
         let mut rows = Vec::with_capacity(alloc, self.model.states() as usize)?;
         for s in 0..self.model.states() {
-            rows.push(self.scaled_state(alloc, s)?)?;
+            rows.push(self.scaled_state(alloc, arenas, s)?)?;
         }
         Ok(rows)
     }
@@ -120,7 +129,7 @@ impl Query<'_> {
     }
 
     /// The covering value of state `s`, from the column with a step less.
-    fn cover_at(self, choices: &[ScaledChoice], column: &[Option<i128>], s: u32) -> Option<i128>
+    fn cover_at(self, choices: &[ScaledChoice<'_>], column: &[Option<i128>], s: u32) -> Option<i128>
         requires one { pos 0 <ℤ self.one }
         requires asked { IsAsked self.model.now (plain_objective self.objective) }
         requires state { s < states_of self.model.now }
@@ -136,7 +145,7 @@ impl Query<'_> {
     }
 
     /// The following value of state `s`, from the column with a step less, and its choice.
-    fn follow_at(self, choices: &[ScaledChoice], column: &[Option<i128>], s: u32) -> Leader
+    fn follow_at(self, choices: &[ScaledChoice<'_>], column: &[Option<i128>], s: u32) -> Leader
         requires one { pos 0 <ℤ self.one }
         requires asked { IsAsked self.model.now (plain_objective self.objective) }
         requires state { s < states_of self.model.now }
@@ -159,7 +168,7 @@ impl Query<'_> {
     pub(crate) fn next(
         self,
         alloc: Global,
-        rows: &[Vec<ScaledChoice>],
+        rows: &[Vec<ScaledChoice<'_>>],
         cover: &[Option<i128>],
         follow: &[Option<i128>],
     ) -> Result<Columns, AllocError>
@@ -173,9 +182,9 @@ impl Query<'_> {
         ensures choices { IfOk result (λ made. made.choices.items ≡ choices_next self.entry.dir self.entry.one self.entry.model.now (plain_objective self.entry.objective) follow.now) }
     {
         let mut made = Columns {
-            cover: Vec::new(alloc),
-            follow: Vec::new(alloc),
-            choices: Vec::new(alloc),
+            cover: Vec::with_capacity(alloc, cover.len())?,
+            follow: Vec::with_capacity(alloc, cover.len())?,
+            choices: Vec::with_capacity(alloc, cover.len())?,
         };
         for s in 0..self.model.states() {
             let choices = rows[s as usize].as_slice();
@@ -191,7 +200,7 @@ impl Query<'_> {
     pub(crate) fn cover_next(
         self,
         alloc: Global,
-        rows: &[Vec<ScaledChoice>],
+        rows: &[Vec<ScaledChoice<'_>>],
         column: &[Option<i128>],
     ) -> Result<Vec<Option<i128>>, AllocError>
         requires one { pos 0 <ℤ self.one }
@@ -212,7 +221,7 @@ impl Query<'_> {
     pub(crate) fn follow_next(
         self,
         alloc: Global,
-        rows: &[Vec<ScaledChoice>],
+        rows: &[Vec<ScaledChoice<'_>>],
         column: &[Option<i128>],
     ) -> Result<Vec<Option<i128>>, AllocError>
         requires one { pos 0 <ℤ self.one }

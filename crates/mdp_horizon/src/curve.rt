@@ -7,8 +7,10 @@ ghost use Rattle.mdp_horizon.specs.BoundsCode.{plain_objective, IsAsked};
 
 use crate::bounds_induction::shown;
 use crate::bounds_objective::Objective;
+use crate::choice::Arenas;
 use crate::columns::Query;
 use crate::point::Point;
+use bumpalo::Bump;
 use mdp_num::{Frac, Memory};
 use mdp_rows::{Dir, Marks, Model};
 use std::alloc::{AllocError, Global};
@@ -41,7 +43,13 @@ impl Query<'_> {
         requires state { s < states_of self.model.now }
         ensures { IfOk result (λ curve. curve.items ≡ curve_of self.entry.dir self.entry.one self.entry.model.now (plain_objective self.entry.objective) s steps) }
     {
-        let rows = self.scaled_states(alloc)?;
+        let terms = Bump::new(alloc);
+        let starts = Bump::new(alloc);
+        let arenas = Arenas {
+            terms: &terms,
+            starts: &starts,
+        };
+        let rows = self.scaled_states(alloc, arenas)?;
         let mut cover = self.end_column(alloc)?;
         let mut follow = self.end_column(alloc)?;
         let mut curve = Vec::new(alloc);

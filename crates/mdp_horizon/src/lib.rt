@@ -38,7 +38,7 @@ pub use bounds_induction::{total_bounds, until_bounds};
 pub use bounds_laws::{gap_law, room_law, rounding_law, unit_law};
 pub use bounds_objective::Objective;
 pub use bounds_write::write_horizon_bounds;
-pub use choice::{Scale, ScaledChoice, Term};
+pub use choice::{Arenas, RoundedStart, Scale, ScaledChoice, Term};
 pub use claim::Claim;
 pub use curve::{total_curve, until_curve};
 pub use curve_write::write_curve;

@@ -3,11 +3,13 @@ ghost use Rattle.mdp_spec.specs.Row.{entries};
 ghost use Rattle.mdp_horizon.specs.Scaled.{beyond, common_with, common_in, scaled_start, scale_in, scale_of, terms_of, term_of, rounded_start, scaled};
 ghost use Rattle.mdp_horizon.specs.{Probability.{IsProbability}, BoundsCode.{plain_choice}};
 
-use crate::choice::{Scale, ScaledChoice, Term};
+use crate::choice::{Arenas, RoundedStart, Scale, ScaledChoice, Term};
 use crate::whole::{rounded, times};
+use bumpalo::Bump;
+use bumpalo::collections::into_bump_slice;
 use mdp_num::Frac;
 use mdp_rows::{Dir, Row};
-use std::alloc::{AllocError, Global};
+use std::alloc::AllocError;
 
 /// What a fraction's denominator has beyond the divisors that it shares with `common`: the denominator of their quotient.
 fn beyond(common: i128, fraction: &Frac) -> i128
@@ -89,15 +91,15 @@ fn term_of(target: u32, prob: &Frac, common: i128) -> Term
 }
 
 /// The entries of a row, with their probabilities times `common`.
-fn terms_of(alloc: Global, row: Row<'_>, common: i128) -> Result<Vec<Term>, AllocError>
+fn terms_of<'b>(arena: &'b Bump, row: Row<'_>, common: i128) -> Result<&'b [Term], AllocError>
     requires { unsigned_abs common < 2 ^ 127 }
-    ensures { IfOk result (λ terms. terms.items ≡ terms_of common (entries row.entry.targets.now row.entry.probs.now)) }
+    ensures { IfOk result (λ terms. terms.now ≡ terms_of common (entries row.entry.targets.now row.entry.probs.now)) }
 {
-    let mut terms = Vec::with_capacity(alloc, row.targets.len())?;
+    let mut terms = Vec::with_capacity(arena, row.targets.len())?;
     for i in 0..row.targets.len() {
         terms.push(term_of(row.targets[i], &row.probs[i], common))?;
     }
-    Ok(terms)
+    Ok(into_bump_slice(terms))
 }
 
 /// What is earned at once in units, rounded up for `Max` and down for `Min`.
@@ -109,19 +111,23 @@ fn rounded_start(side: Dir, start: &Frac, one: i128) -> Option<i128>
 }
 
 /// A choice in whole numbers, from its row and what it earns at once, `one` being so many units.
-pub fn scaled(
-    alloc: Global,
+pub fn scaled<'b>(
+    arenas: Arenas<'b>,
     start: &Frac,
     row: Row<'_>,
     one: i128,
-) -> Result<ScaledChoice, AllocError>
+) -> Result<ScaledChoice<'b>, AllocError>
     ensures { IfOk result (λ x. plain_choice x ≡ scaled one start.now (entries row.entry.targets.now row.entry.probs.now)) }
 {
     let scale = scale_of(start, row, one);
-    Ok(ScaledChoice {
-        scale,
-        terms: terms_of(alloc, row, scale.common)?,
+    let terms = terms_of(arenas.terms, row, scale.common)?;
+    let rounded = arenas.starts.try_alloc(RoundedStart {
         low: rounded_start(Dir::Min, start, one),
         high: rounded_start(Dir::Max, start, one),
+    })?;
+    Ok(ScaledChoice {
+        scale,
+        terms,
+        rounded,
     })
 }

@@ -34,16 +34,16 @@ fn farthest_with(side: Dir, column: &[Option<i128>], far: i128, term: Term) -> O
     Some(farther(side, far, value))
 }
 
-impl ScaledChoice {
+impl ScaledChoice<'_> {
     /// The start, and for each term its weight times the value of its target.
     fn total(&self, column: &[Option<i128>]) -> Option<i128>
-        requires targets { All (λ t. t.target < length column.now) self.now.terms.items }
+        requires targets { All (λ t. t.target < length column.now) self.now.terms.now }
         requires narrow { unsigned_abs self.now.scale.start < 2 ^ 127 }
-        ensures value { result ≡ total_of column.now self.now.scale.start self.now.terms.items }
+        ensures value { result ≡ total_of column.now self.now.scale.start self.now.terms.now }
         ensures narrow { IfSome result (λ total. unsigned_abs total < 2 ^ 127) }
     {
         let mut total = self.scale.start;
-        for term in &self.terms {
+        for term in self.terms {
             total = total_with(column, total, *term)?;
         }
         Some(total)
@@ -51,7 +51,7 @@ impl ScaledChoice {
 
     /// The sum before it is divided; none where a term is too wide.
     pub(crate) fn summed(&self, column: &[Option<i128>]) -> Option<i128>
-        requires targets { All (λ t. t.target < length column.now) self.now.terms.items }
+        requires targets { All (λ t. t.target < length column.now) self.now.terms.now }
         requires narrow { unsigned_abs self.now.scale.start < 2 ^ 127 }
         ensures value { result ≡ summed column.now (plain_choice self.now) }
         ensures narrow { IfSome result (λ sum. unsigned_abs sum < 2 ^ 127) }
@@ -65,7 +65,7 @@ impl ScaledChoice {
 
     /// The sum over the common denominator, rounded; none where a term is too wide.
     fn divided(&self, side: Dir, column: &[Option<i128>]) -> Option<i128>
-        requires targets { All (λ t. t.target < length column.now) self.now.terms.items }
+        requires targets { All (λ t. t.target < length column.now) self.now.terms.now }
         requires narrow { unsigned_abs self.now.scale.start < 2 ^ 127 }
         ensures { result ≡ divided side column.now (plain_choice self.now) }
     {
@@ -78,13 +78,13 @@ impl ScaledChoice {
 
     /// The value of a target that lies farthest to the side.
     fn farthest(&self, side: Dir, column: &[Option<i128>]) -> Option<i128>
-        requires some { 0 < length self.now.terms.items }
-        requires targets { All (λ t. t.target < length column.now) self.now.terms.items }
-        ensures { result ≡ farthest side column.now self.now.terms.items }
+        requires some { 0 < length self.now.terms.now }
+        requires targets { All (λ t. t.target < length column.now) self.now.terms.now }
+        ensures { result ≡ farthest side column.now self.now.terms.now }
     {
         let first = self.terms[0];
         let mut far = value_of(column, first)?;
-        for term in &self.terms {
+        for term in self.terms {
             far = farthest_with(side, column, far, *term)?;
         }
         Some(far)
@@ -95,15 +95,15 @@ impl ScaledChoice {
         ensures { result ≡ start_to side (plain_choice self.now) }
     {
         match side {
-            Dir::Max => self.high,
-            Dir::Min => self.low,
+            Dir::Max => self.rounded.high,
+            Dir::Min => self.rounded.low,
         }
     }
 
     /// What is earned at once, rounded, and the value of a target that lies farthest to the side.
     pub(crate) fn trivial(&self, side: Dir, column: &[Option<i128>]) -> Option<i128>
-        requires some { 0 < length self.now.terms.items }
-        requires targets { All (λ t. t.target < length column.now) self.now.terms.items }
+        requires some { 0 < length self.now.terms.now }
+        requires targets { All (λ t. t.target < length column.now) self.now.terms.now }
         ensures { result ≡ trivial side column.now (plain_choice self.now) }
     {
         plus(self.start(side)?, self.farthest(side, column)?)
