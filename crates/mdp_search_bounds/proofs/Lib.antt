@@ -9,4 +9,6 @@ pub mod TrivialBounds
 pub mod Means
 pub mod Sizes
 pub mod Accepted
+pub mod Nearness
+pub mod DiscountExact
 mod Examples

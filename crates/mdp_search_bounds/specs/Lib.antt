@@ -2,3 +2,6 @@ pub mod Held
 pub mod DiscountHeld
 pub mod Extent
 pub mod Values
+pub mod Near
+pub mod Gap
+pub mod Wide

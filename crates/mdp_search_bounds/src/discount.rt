@@ -1,8 +1,8 @@
-ghost use Rattle.std.specs.Prelude.{◌≡◌, ◌<◌, length, IfOk, IfSome};
-ghost use Rattle.mdp_spec.specs.Mdp.{states_of};
+ghost use Rattle.std.specs.Prelude.{◌≡◌, ◌<◌, ◌⊎◌, ℕ, true, length, map, Some, IsSome, IfOk, IfSome};
+ghost use Rattle.mdp_spec.specs.{Mdp.{states_of}, Bounds.{reward_at}};
 ghost use Rattle.mdp_discount_rules.specs.{Rules.{IsFactor}, Checks.{IsDiscount}};
 ghost use Rattle.mdp_discount_bounds.specs.Checks.{IsDiscountBounds};
-ghost use Rattle.mdp_search_bounds.specs.DiscountHeld.{HasDiscountSizes, IsHeldDiscount};
+ghost use Rattle.mdp_search_bounds.specs.{DiscountHeld.{HasDiscountSizes, IsHeldDiscount, AreExactBounds}, Near.{AreValuesNear}, Wide.{IsDiscountWide}};
 
 use crate::finite::finite_bounds;
 use crate::gap::Gap;
@@ -55,9 +55,11 @@ fn simplest_bounds(
 }
 
 /// Whether no value is missing.
-fn are_there(values: &[Option<Frac>]) -> bool {
-    for value in values {
-        if value.is_none() {
+fn are_there(values: &[Option<Frac>]) -> bool
+    ensures { result ≡ true → (s : ℕ) → s < length values.now → IsSome (reward_at values.now s) }
+{
+    for place in 0..values.len() {
+        if values[place].is_none() {
             return false;
         }
     }
@@ -66,7 +68,7 @@ fn are_there(values: &[Option<Frac>]) -> bool {
 
 /// A value for each state, all of them there.
 fn some_values(alloc: Global, values: &[Frac]) -> Result<Vec<Option<Frac>>, AllocError>
-    ensures { IfOk result (λ list. length list.items ≡ length values.now) }
+    ensures { IfOk result (λ list. list.items ≡ map Some values.now) }
 {
     values.iter().map(|value| Some(*value)).collect(alloc)
 }
@@ -75,10 +77,11 @@ impl Discounting<'_> {
     /// An exact answer as bounds: its values are lower and upper ones.
     fn bounds_of(self, alloc: Global, answer: DiscountCert) -> Result<DiscountBounds, AllocError>
         requires { IsDiscount self.dir self.model.now self.name self.factor.now answer.values.items answer.remainder answer.choices.items }
-        ensures { IfOk result (HasDiscountSizes self.entry.model.now) }
+        ensures sizes { IfOk result (HasDiscountSizes self.entry.model.now) }
+        ensures exact { IfOk result (AreExactBounds answer.values.items answer.choices.items) }
     {
         let lower = some_values(alloc, &answer.values)?;
-        let upper = lower.clone()?;
+        let upper = some_values(alloc, &answer.values)?;
         let remainder = greatest_magnitude(&lower, &upper);
         Ok(DiscountBounds {
             lower,
@@ -119,6 +122,10 @@ impl Search for Discounting<'_> {
     ghost is_sized = { λ p bounds. HasDiscountSizes p.model.now bounds };
 
     ghost is_held = { λ p bounds. IsHeldDiscount p.dir p.model.now p.name p.factor.now bounds };
+
+    ghost is_near = { λ p digits bounds. AreValuesNear digits p.model.now bounds.lower.items bounds.upper.items };
+
+    ghost is_wide = { λ p. IsDiscountWide p.dir p.model.now p.name p.factor.now };
 
     fn model(&self) -> &Model {
         self.model
@@ -190,7 +197,7 @@ impl Search for Discounting<'_> {
 
     fn gap(&self, bounds: &DiscountBounds) -> Gap {
         if are_there(&bounds.lower) {
-            Gap::between(&bounds.lower, &bounds.upper)
+            Gap::between_rewards(&bounds.lower, &bounds.upper)
         } else {
             Gap::WIDEST
         }
@@ -223,6 +230,7 @@ pub fn bounds_discount(
     requires name { name < length model.now.names }
     requires factor { IsFactor factor.now }
     ensures rules { IfOk result (λ bounds. IsDiscountBounds dir model.now name factor.now bounds.lower.items bounds.upper.items bounds.remainder bounds.choices.items) }
+    ensures near { IfOk result (λ bounds. AreValuesNear digits model.now bounds.lower.items bounds.upper.items ⊎ IsDiscountWide dir model.now name factor.now) }
     ensures lower { IfOk result (λ bounds. length bounds.lower.items ≡ states_of model.now) }
     ensures upper { IfOk result (λ bounds. length bounds.upper.items ≡ states_of model.now) }
     ensures choices { IfOk result (λ bounds. length bounds.choices.items ≡ states_of model.now) }

@@ -1,6 +1,7 @@
 //! The order in which bounds are tried until the rules say yes: one for every objective.
 
-ghost use Rattle.std.specs.Prelude.{◌≡◌, true, IfOk, IfSome};
+ghost use Rattle.std.specs.Prelude.{◌≡◌, ℕ, ◌↔◌, ◌⊎◌, true, IfOk, IfSome, IfNone};
+ghost use Rattle.mdp_search_bounds.specs.Gap.{ShowsNear};
 
 use crate::few::{Few, all_flags};
 use crate::gap::Gap;
@@ -26,8 +27,14 @@ pub(crate) trait Search {
     // The certificate has one item of each list for each state.
     ghost is_sized: { Self → Self.Cert → Type 0 };
 
-    // The certificate has, and meets the rules.
+    // The certificate has, it meets the rules, and no term of their check is past width.
     ghost is_held: { Self → Self.Cert → Type 0 };
+
+    // The lower and the upper values of the certificate are as near as so many digits say.
+    ghost is_near: { Self → ℕ → Self.Cert → Type 0 };
+
+    // The exact query ends with a term past width, or with an answer of which a check of the rules does.
+    ghost is_wide: { Self → Type 0 };
 
     /// The model.
     fn model(&self) -> &Model;
@@ -55,14 +62,18 @@ pub(crate) trait Search {
     /// Whether the rules say yes to a certificate.
     fn holds(&self, cert: &Self::Cert) -> bool
         requires { is_sized self.now cert.now }
-        ensures { result ≡ true → is_held self.now cert.now };
+        ensures { (result ≡ true) ↔ is_held self.now cert.now };
 
     /// The exact answer, as a lower and an upper value that are the same, if its search comes to no term past width.
     fn exact(&self, alloc: Global) -> Result<Option<Self::Cert>, Memory>
-        ensures { IfOk result (λ found. IfSome found (is_sized self.now)) };
+        ensures sized { IfOk result (λ found. IfSome found (is_sized self.now)) }
+        ensures near { IfOk result (λ found. IfSome found (λ cert. (digits : ℕ) → is_near self.now digits cert)) }
+        ensures held { IfOk result (λ found. IfSome found (λ cert. (is_held self.now cert → ⊥) → is_wide self.now)) }
+        ensures none { IfOk result (λ found. IfNone found (is_wide self.now)) };
 
     /// How near the bounds of a certificate are.
-    fn gap(&self, cert: &Self::Cert) -> Gap;
+    fn gap(&self, cert: &Self::Cert) -> Gap
+        ensures { is_held self.now cert.now → (digits : ℕ) → ShowsNear result digits → is_near self.now digits cert.now };
 
     /// The bounds that say nothing. The rules say yes to them.
     fn trivial(&self, alloc: Global) -> Result<Self::Cert, Memory>
@@ -72,7 +83,9 @@ pub(crate) trait Search {
 /// A certificate, where the rules say yes to it.
 fn held<S: Search>(search: &S, cert: S::Cert) -> Option<S::Cert>
     requires { S.is_sized search.now cert }
-    ensures { IfSome result (S.is_held search.now) }
+    ensures held { IfSome result (S.is_held search.now) }
+    ensures same { IfSome result (λ kept. kept ≡ cert) }
+    ensures none { IfNone result (S.is_held search.now cert → ⊥) }
 {
     if search.holds(&cert) {
         Some(cert)
@@ -245,11 +258,35 @@ fn held_with_fewer<S: Search>(alloc: Global, search: &S) -> Result<Option<S::Cer
 
 /// The exact answer, where the rules say yes to it.
 fn held_answer<S: Search>(alloc: Global, search: &S) -> Result<Option<S::Cert>, Memory>
-    ensures { IfOk result (λ found. IfSome found (S.is_held search.now)) }
+    ensures held { IfOk result (λ found. IfSome found (S.is_held search.now)) }
+    ensures near { IfOk result (λ found. IfSome found (λ cert. (digits : ℕ) → S.is_near search.now digits cert)) }
+    ensures none { IfOk result (λ found. IfNone found (S.is_wide search.now)) }
 {
     match search.exact(alloc)? {
         Some(cert) => Ok(held(search, cert)),
         None => Ok(None),
+    }
+}
+
+/// The exact answer, if it isn't too wide; else what was found, or what is found with fewer digits; else the bounds that say nothing.
+fn answer_or<S: Search>(
+    alloc: Global,
+    search: &S,
+    found: Option<S::Cert>,
+) -> Result<S::Cert, Memory>
+    requires { IfSome found (S.is_held search.now) }
+    ensures held { IfOk result (S.is_held search.now) }
+    ensures near { IfOk result (λ cert. ((digits : ℕ) → S.is_near search.now digits cert) ⊎ S.is_wide search.now) }
+{
+    if let Some(answer) = held_answer(alloc, search)? {
+        return Ok(answer);
+    }
+    if let Some(cert) = found {
+        return Ok(cert);
+    }
+    match held_with_fewer(alloc, search)? {
+        Some(cert) => Ok(cert),
+        None => search.trivial(alloc),
     }
 }
 
@@ -260,19 +297,14 @@ pub(crate) fn bounds_by<S: Search>(
     search: &S,
     digits: u32,
 ) -> Result<S::Cert, Memory>
-    ensures { IfOk result (S.is_held search.now) }
+    ensures held { IfOk result (S.is_held search.now) }
+    ensures near { IfOk result (λ cert. S.is_near search.now digits cert ⊎ S.is_wide search.now) }
 {
-    let found = held_found(alloc, search, digits)?;
-    if !gap_of(search, &found).is_near(digits) {
-        if let Some(answer) = held_answer(alloc, search)? {
-            return Ok(answer);
-        }
-    }
-    if let Some(cert) = found {
+    let Some(cert) = held_found(alloc, search, digits)? else {
+        return answer_or(alloc, search, None);
+    };
+    if search.gap(&cert).is_near(digits) {
         return Ok(cert);
     }
-    match held_with_fewer(alloc, search)? {
-        Some(cert) => Ok(cert),
-        None => search.trivial(alloc),
-    }
+    answer_or(alloc, search, Some(cert))
 }

@@ -1,8 +1,8 @@
-ghost use Rattle.std.specs.Prelude.{◌≡◌, ◌<◌, length, IfOk};
+ghost use Rattle.std.specs.Prelude.{◌≡◌, ◌<◌, ◌⊎◌, length, IfOk};
 ghost use Rattle.mdp_spec.specs.Mdp.{states_of};
 ghost use Rattle.mdp_farkas.specs.Mean.{IsMean};
 ghost use Rattle.mdp_bounds.specs.Mean.{IsMeanBounds};
-ghost use Rattle.mdp_search_bounds.specs.Held.{HasMeanSizes, IsHeldMean};
+ghost use Rattle.mdp_search_bounds.specs.{Held.{HasMeanSizes, IsHeldMean}, Near.{AreNear}, Wide.{IsMeanWide}};
 
 use crate::gap::Gap;
 use crate::ladder::{Search, bounds_by};
@@ -12,7 +12,7 @@ use mdp_bounds::{MeanBoundsCert, holds_bounds_mean, mean_bounds_at_state};
 use mdp_claims::{MeanCert, Verdict};
 use mdp_mean::solve_mean;
 use mdp_mean_search::{ProposedMean, propose_mean};
-use mdp_num::{Frac, Memory};
+use mdp_num::Memory;
 use mdp_proposals::{fractions, numbers};
 use mdp_rows::{Dir, Model};
 use mdp_wide::SolveError;
@@ -27,21 +27,15 @@ struct Averaging<'m> {
     ghost named: { name < length model.now.names },
 }
 
-/// The same values once more.
-fn copied(alloc: Global, values: &[Frac]) -> Result<Vec<Frac>, AllocError>
-    ensures { IfOk result (λ list. length list.items ≡ length values.now) }
-{
-    values.iter().map(|value| *value).collect(alloc)
-}
-
 impl Averaging<'_> {
     /// An exact answer as bounds: its gains are lower and upper ones.
     fn bounds_of(self, alloc: Global, answer: MeanCert) -> Result<MeanBoundsCert, AllocError>
         requires gains { length answer.gains.items ≡ states_of self.model.now }
         requires rules { IsMean self.dir self.model.now self.name answer.gains.items answer.bound.items answer.bias.items answer.spread answer.choices.items }
-        ensures { IfOk result (HasMeanSizes self.entry.model.now) }
+        ensures held { IfOk result (IsHeldMean self.entry.dir self.entry.model.now self.entry.name) }
+        ensures same { IfOk result (λ cert. cert.upper.items ≡ cert.lower.items) }
     {
-        let lower = copied(alloc, &answer.gains)?;
+        let lower = answer.gains.to_vec(alloc)?;
         Ok(MeanBoundsCert {
             lower,
             upper: answer.gains,
@@ -61,6 +55,10 @@ impl Search for Averaging<'_> {
     ghost is_sized = { λ p cert. HasMeanSizes p.model.now cert };
 
     ghost is_held = { λ p cert. IsHeldMean p.dir p.model.now p.name cert };
+
+    ghost is_near = { λ p digits cert. AreNear digits p.model.now cert.lower.items cert.upper.items };
+
+    ghost is_wide = { λ p. IsMeanWide p.dir p.model.now p.name };
 
     fn model(&self) -> &Model {
         self.model
@@ -145,6 +143,7 @@ pub fn bounds_mean(
 ) -> Result<MeanBoundsCert, Memory>
     requires { name < length model.now.names }
     ensures rules { IfOk result (λ cert. IsMeanBounds dir model.now name cert.lower.items cert.upper.items cert.bound.items cert.bias.items cert.spread cert.choices.items) }
+    ensures near { IfOk result (λ cert. AreNear digits model.now cert.lower.items cert.upper.items ⊎ IsMeanWide dir model.now name) }
     ensures lower { IfOk result (λ cert. length cert.lower.items ≡ states_of model.now) }
     ensures upper { IfOk result (λ cert. length cert.upper.items ≡ states_of model.now) }
     ensures bound { IfOk result (λ cert. length cert.bound.items ≡ states_of model.now) }

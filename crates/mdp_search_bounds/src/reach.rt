@@ -1,7 +1,7 @@
-ghost use Rattle.std.specs.Prelude.{◌≡◌, length, IfOk};
+ghost use Rattle.std.specs.Prelude.{◌≡◌, ◌⊎◌, length, IfOk};
 ghost use Rattle.mdp_spec.specs.Mdp.{states_of};
 ghost use Rattle.mdp_bounds.specs.Reach.{IsReachBounds};
-ghost use Rattle.mdp_search_bounds.specs.Held.{HasReachSizes, IsHeldReach};
+ghost use Rattle.mdp_search_bounds.specs.{Held.{HasReachSizes, IsHeldReach}, Near.{AreNear}, Wide.{IsReachWide}};
 
 use crate::gap::Gap;
 use crate::ladder::{Search, bounds_by};
@@ -34,6 +34,10 @@ impl Search for Reaching<'_, '_> {
     ghost is_sized = { λ p cert. HasReachSizes p.model.now cert };
 
     ghost is_held = { λ p cert. IsHeldReach p.dir p.model.now p.goals.now cert };
+
+    ghost is_near = { λ p digits cert. AreNear digits p.model.now cert.lower.items cert.upper.items };
+
+    ghost is_wide = { λ p. IsReachWide p.dir p.model.now p.goals.now };
 
     fn model(&self) -> &Model {
         self.model
@@ -88,7 +92,7 @@ impl Search for Reaching<'_, '_> {
     fn exact(&self, alloc: Global) -> Result<Option<ReachBoundsCert>, Memory> {
         match solve_reach(alloc, self.model, self.goals, self.dir) {
             Ok(answer) => {
-                let lower = answer.values.clone()?;
+                let lower = answer.values.to_vec(alloc)?;
                 Ok(Some(ReachBoundsCert {
                     lower,
                     upper: answer.values,
@@ -127,6 +131,7 @@ pub fn bounds_reach(
 ) -> Result<ReachBoundsCert, Memory>
     requires goals { length goals.now ≡ states_of model.now }
     ensures rules { IfOk result (λ cert. IsReachBounds dir model.now goals.now cert.lower.items cert.upper.items cert.choices.items cert.ranks.items) }
+    ensures near { IfOk result (λ cert. AreNear digits model.now cert.lower.items cert.upper.items ⊎ IsReachWide dir model.now goals.now) }
     ensures lower { IfOk result (λ cert. length cert.lower.items ≡ states_of model.now) }
     ensures upper { IfOk result (λ cert. length cert.upper.items ≡ states_of model.now) }
     ensures choices { IfOk result (λ cert. length cert.choices.items ≡ states_of model.now) }

@@ -1,8 +1,8 @@
-ghost use Rattle.std.specs.Prelude.{◌≡◌, ◌<◌, false, length, IfOk};
+ghost use Rattle.std.specs.Prelude.{◌≡◌, ◌<◌, ◌⊎◌, false, length, map, IfOk};
 ghost use Rattle.mdp_spec.specs.Mdp.{states_of};
 ghost use Rattle.mdp_rows.specs.Negative.{has_negative};
 ghost use Rattle.mdp_bounds.specs.Reward.{IsRewardBounds};
-ghost use Rattle.mdp_search_bounds.specs.Held.{HasRewardSizes, IsHeldReward};
+ghost use Rattle.mdp_search_bounds.specs.{Held.{HasRewardSizes, IsHeldReward}, Near.{AreRewardsNear}, Wide.{IsRewardWide}};
 
 use crate::gap::Gap;
 use crate::ladder::{Search, bounds_by};
@@ -10,13 +10,13 @@ use crate::reward_trivial::trivial_reward;
 use crate::simplest::simplest_rewards_of;
 use mdp_bounds::{RewardBoundsCert, holds_bounds_reward, reward_bounds_at_state};
 use mdp_claims::Verdict;
-use mdp_num::Memory;
+use mdp_num::{Frac, Memory};
 use mdp_proposals::{listed, numbers};
 use mdp_reward::solve_reward;
 use mdp_reward_search::{ProposedReward, propose_reward};
 use mdp_rows::{Dir, Marks, Model};
 use mdp_wide::Unfinished;
-use std::alloc::Global;
+use std::alloc::{AllocError, Global};
 
 /// The search for bounds of the reward of a name until a goal.
 #[derive(Clone, Copy)]
@@ -30,6 +30,13 @@ struct Earning<'m, 'g> {
     ghost none_negative: { has_negative model.now name ≡ false },
 }
 
+/// The same values once more.
+fn copied(alloc: Global, values: &[Option<Frac>]) -> Result<Vec<Option<Frac>>, AllocError>
+    ensures { IfOk result (λ list. list.items ≡ map (λ x. x) values.now) }
+{
+    values.iter().map(|value| *value).collect(alloc)
+}
+
 impl Search for Earning<'_, '_> {
     type Proposal = ProposedReward;
 
@@ -38,6 +45,10 @@ impl Search for Earning<'_, '_> {
     ghost is_sized = { λ p cert. HasRewardSizes p.model.now cert };
 
     ghost is_held = { λ p cert. IsHeldReward p.dir p.model.now p.name p.goals.now cert };
+
+    ghost is_near = { λ p digits cert. AreRewardsNear digits p.model.now cert.lower.items cert.upper.items };
+
+    ghost is_wide = { λ p. IsRewardWide p.dir p.model.now p.name p.goals.now };
 
     fn model(&self) -> &Model {
         self.model
@@ -93,7 +104,7 @@ impl Search for Earning<'_, '_> {
     fn exact(&self, alloc: Global) -> Result<Option<RewardBoundsCert>, Memory> {
         match solve_reward(alloc, self.model, self.name, self.goals, self.dir) {
             Ok(answer) => {
-                let lower = answer.values.clone()?;
+                let lower = copied(alloc, &answer.values)?;
                 Ok(Some(RewardBoundsCert {
                     lower,
                     upper: answer.values,
@@ -107,7 +118,7 @@ impl Search for Earning<'_, '_> {
     }
 
     fn gap(&self, cert: &RewardBoundsCert) -> Gap {
-        Gap::between(&cert.lower, &cert.upper)
+        Gap::between_rewards(&cert.lower, &cert.upper)
     }
 
     fn trivial(&self, alloc: Global) -> Result<RewardBoundsCert, Memory> {
@@ -131,6 +142,7 @@ pub fn bounds_reward(
     requires goals { length goals.now ≡ states_of model.now }
     requires none_negative { has_negative model.now name ≡ false }
     ensures rules { IfOk result (λ cert. IsRewardBounds dir model.now name goals.now cert.lower.items cert.upper.items cert.choices.items cert.ranks.items) }
+    ensures near { IfOk result (λ cert. AreRewardsNear digits model.now cert.lower.items cert.upper.items ⊎ IsRewardWide dir model.now name goals.now) }
     ensures lower { IfOk result (λ cert. length cert.lower.items ≡ states_of model.now) }
     ensures upper { IfOk result (λ cert. length cert.upper.items ≡ states_of model.now) }
     ensures choices { IfOk result (λ cert. length cert.choices.items ≡ states_of model.now) }
