@@ -1,12 +1,11 @@
 -- Exact discounted rewards are bounds, as lower and as upper values, and near.
-use Rattle.std.proofs.Common.{◌≡◌, ◌∙◌, ℕ, zero, suc, ◌<◌, false, List, [], ◌∷◌, length, map, Option, Some, slice_index, refl, sym, ap, ap₂, subst}
+use Rattle.std.proofs.Common.{◌≡◌, ◌∙◌, ℕ, zero, suc, false, List, [], ◌∷◌, map, Option, Some, slice_index, refl, sym, ap, ap₂, subst}
 use Rattle.std.proofs.lemmas.List.{length-map}
 use Rattle.std.specs.Option.{IfSome}
 use Rattle.mdp_math.specs.Rational.{ℚ, ◌+ℚ◌, ◌*ℚ◌, ◌-ℚ◌}
 use Rattle.mdp_math.proofs.{Linear.{linear, known}, Ring.{◌⊕◌, ⊖}}
-use Rattle.mdp_spec.specs.{Mdp.{Mdp, states_of, choices_at, choice_at, row_at, value_at}, Row.{row_sum}, Unit.{reward_of}, Tree.{is_marked}}
+use Rattle.mdp_spec.specs.{Mdp.{Mdp, choice_at, row_at, value_at}, Row.{row_sum}, Unit.{reward_of}, Tree.{is_marked}}
 use Rattle.mdp_spec.specs.{Bounds.{reward_at, finite_part, infinite}, RewardRules.{StaysFinite}}
-use Rattle.mdp_farkas.specs.Reach.{other}
 use Rattle.mdp_rows.specs.{declared.dir.Dir.{Dir}, declared.dir.Dir.TheVariants.{Max, Min}, Better.{IsAsGood}}
 use Rattle.mdp_discount_rules.specs.Rules.{discounted, MeetsDiscount}
 use Rattle.mdp_discount_bounds.specs.Rules.{left_for, Allows, greatest_magnitude, MeetsDiscountBetween}

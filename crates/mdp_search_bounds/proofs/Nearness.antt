@@ -1,13 +1,13 @@
 -- What comes near to what.
-use Rattle.std.proofs.Common.{◌≡◌, ◌∙◌, ℕ, suc, ◌+◌, ◌*◌, ◌/◌, ◌<◌, ◌≤◌, ◌^◌, max, true, not, inl, inr, List, [], ◌∷◌, Option, Some, None, refl, sym, ap, ap₂, subst, subst₂, length, map, get_or, IsSome, arith, ℤ, pos, negsuc, neg_ℤ, ◌*ℤ◌, unsigned_abs}
+use Rattle.std.proofs.Common.{◌≡◌, ◌∙◌, ℕ, ◌+◌, ◌/◌, ◌<◌, ◌≤◌, ◌^◌, max, true, not, inl, inr, List, [], ◌∷◌, Option, Some, None, refl, sym, ap, ap₂, subst, subst₂, length, map, get_or, IsSome, arith, ℤ, pos, negsuc, unsigned_abs}
 use borrow.Author.Count.{below_more}
 use Rattle.std.proofs.{lemmas.List.{get_or_default}, lemmas.Int.{ints, fits_signed_from_abs}, Math.Nat.{one-le-pow, pow-le-pow_right, mul-le-mul_left, div-mul-le_self, max-eq_left, max-eq_right}}
 use mir.Syntax.{w128}
 use Rattle.std.specs.{Prelude.{FitsSigned}, Bool.{◌==◌}, Ordering.{ordering_index}, declared.cmp.Ordering.{Ordering}, declared.cmp.Ordering.TheVariants.{Less, Equal, Greater}}
-use Rattle.mdp_math.specs.{Rational.{ℚ, of_int, ratio, neg_ℚ, ◌+ℚ◌, ◌-ℚ◌, ◌*ℚ◌, ◌≤ℚ◌}, Written.{cmp_ℚ, narrow_ℚ}, Extremes.{greatest}}
-use Rattle.mdp_math.proofs.{Extremes.{greatest-ge}, Laws.{den-pos, is_self, is_neg, is_mul, is_of_int, is_ratio, same_is}, Linear.{linear, known}, Ring.{◌⊕◌, ◌⊗◌, ⊖, lit, ring}, IntegerRing.{int_ring}, Numbers.{le_or}}
-use Rattle.mdp_math.proofs.Order.{0ℚ, 1ℚ, ≤ℚ_refl, ≤ℚ_trans, ≤ℚ_of_eq, ≤ℚ_of_lt, eq_of_cmp, lt_of_cmp, le_of_is, ratio-le, ratio-nonneg, mul-le-mul_left_ℚ, mul-nonneg}
-use Rattle.mdp_math.proofs.{Whole.{one-pos, of_nat-le}, Written.{written_add-some, narrow_ℚ-some}}
+use Rattle.mdp_math.specs.{Rational.{ℚ, of_int, ratio, neg_ℚ, ◌-ℚ◌, ◌*ℚ◌, ◌≤ℚ◌}, Written.{cmp_ℚ, narrow_ℚ}}
+use Rattle.mdp_math.proofs.{Extremes.{greatest-ge}, Laws.{is_self, is_neg, is_mul, is_of_int, is_ratio, same_is}, Linear.{linear, known}, Ring.{◌⊕◌, ◌⊗◌, ⊖, lit, ring}, IntegerRing.{int_ring}, Numbers.{le_or}}
+use Rattle.mdp_math.proofs.Order.{0ℚ, 1ℚ, ≤ℚ_trans, ≤ℚ_of_eq, ≤ℚ_of_lt, eq_of_cmp, lt_of_cmp, le_of_is, ratio-le, ratio-nonneg, mul-le-mul_left_ℚ, mul-nonneg}
+use Rattle.mdp_math.proofs.{Whole.{one-pos}, Written.{written_add-some, narrow_ℚ-some}}
 use Rattle.mdp_num.specs.{Written.{written_sub}, Value.{quotient}}
 use Rattle.mdp_spec.specs.{Mdp.{Mdp, states_of, value_at}, Bounds.{reward_at}}
 use Rattle.mdp_search_bounds.specs.{Gap.{whole_scale}, Near.{scale_of, IsNear, IsRewardNear, IsValueNear, AreNear, AreRewardsNear, AreValuesNear}}

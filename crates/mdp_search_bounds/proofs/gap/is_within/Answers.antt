@@ -1,7 +1,7 @@
-use Rattle.std.proofs.{Common.{◌≡◌, ◌∙◌, ◌^◌, ℤ, arith, pos, subst, sym, to_z, of_z, to_z-of_z}, lemmas.Int.{ints}, Math.Nat.{one-le-pow}}
+use Rattle.std.proofs.{Common.{◌≡◌, ◌∙◌, ◌^◌, arith, pos, subst, sym, to_z, of_z, to_z-of_z}, lemmas.Int.{ints}, Math.Nat.{one-le-pow}}
 use Rattle.std.specs.Prelude.{FitsSigned}
 use mir.Syntax.{w128}
-use Rattle.mdp_math.specs.Rational.{ℚ, ratio, ◌≤ℚ◌}
+use Rattle.mdp_math.specs.Rational.{ℚ, ◌≤ℚ◌}
 use Rattle.mdp_search_bounds.proofs.Nearness.{le_of_order, most_is, ten-fits}
 use Rattle.mdp_search_bounds.proofs.gap.is_within.Goals as goal
 

@@ -1,7 +1,7 @@
-use Rattle.std.proofs.Common.{rules, ◌≡◌, ◌∙◌, ◌^◌, ◌-◌, ℤ, arith, pos, ap, subst, sym, to_z, of_z, to_z-of_z}
+use Rattle.std.proofs.Common.{rules, ◌^◌, ◌-◌, ℤ, arith, subst, to_z-of_z}
 use Rattle.std.specs.Prelude.{FitsSigned}
 use mir.Syntax.{w128}
-use Rattle.mdp_math.specs.Rational.{ℚ, ratio, ◌≤ℚ◌}
+use Rattle.mdp_math.specs.Rational.{ratio, ◌≤ℚ◌}
 use Rattle.mdp_search_bounds.proofs.Nearness.{near_of}
 use Rattle.mdp_search_bounds.proofs.gap.lacking_digits.Goals as goal
 
