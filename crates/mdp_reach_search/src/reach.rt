@@ -11,7 +11,7 @@ use crate::ranks::{max_ranks, min_ranks};
 use mdp_num::Memory;
 use mdp_parts::end_components;
 use mdp_proposals::MOST_DIGITS;
-use mdp_refinement::{Nodes, Scale, Value, item_at};
+use mdp_refinement::{Nodes, Scale, Value, flag_at, item_at, put};
 use mdp_rows::{Dir, Marks, Model};
 use std::alloc::{AllocError, Global};
 
@@ -44,10 +44,10 @@ impl ProposedReach {
         let is_zero = are_zero(alloc, &self.lower)?;
         let ranks = max_ranks(alloc, model, goals, &self.choices, &is_zero)?;
         let mut is_ranked = true;
-        for place in 0..self.ranks.len().min(is_zero.len()) {
-            let rank = item_at(&ranks, place, None);
-            self.ranks[place] = rank.unwrap_or(0);
-            is_ranked = is_ranked && (is_zero[place] || rank.is_some());
+        for s in 0..model.states() {
+            let rank = item_at(&ranks, s as usize, None);
+            put(&mut self.ranks, s, rank.unwrap_or(0));
+            is_ranked = is_ranked && (flag_at(&is_zero, s) || rank.is_some());
         }
         Ok(is_ranked)
     }

@@ -192,6 +192,7 @@ pub fn propose_reward(
     };
     let sought = Sought {
         layout: Layout {
+            earning,
             known: &known,
             is_barred: &is_infinite,
             ..Layout::new(earning, &nodes)
