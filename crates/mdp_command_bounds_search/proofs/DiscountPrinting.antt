@@ -9,7 +9,7 @@ use Rattle.mdp_discount_bounds.specs.{Cert.{Certificate, Fits}, Check.{same_valu
 use Rattle.mdp_discount_text.specs.{BoundsLaws.{IsReadBack}, Reading.{outcome}, BoundsSpelling.{text_of}}
 use Rattle.mdp_job.specs.Refusal.{no_memory, query_reward}
 use Rattle.mdp_command.specs.{Files.{most_bytes}, Said.{Said}}
-use Rattle.mdp_command_bounds_search.specs.{DiscountDue.{ClaimsSo, IsNamedDue, IsDiscountBoundsDue}, DiscountShown.{IsDiscountBoundsPrinted}}
+use Rattle.mdp_command_bounds_search.specs.{DiscountDue.{ClaimsSo, IsNamedDue, IsDiscountBoundsDue}, DiscountShown.{IsDiscountBoundsPrinted}, Near.{IsDiscountNearOrWide}}
 use Rattle.mdp_command_bounds_search.proofs.{DiscountLength.{text_short}, Printing.{right_line}}
 
 -- ---- the line `init`
@@ -32,8 +32,12 @@ init_right s lower upper x y e f l u =
 -- ---- the text
 
 module _ (dir : Dir) (name : List ℕ) (f : ℚ) (m : Mdp) (a : Certificate) (claim : ClaimsSo dir name f a) (accepted : IsAccepted m a) (fits : Fits a) where
-  printed_text : IsMdp m → IsReadBack → AcceptedIsBound → (text : List ℕ) → text ≡ text_of a → IsDiscountBoundsPrinted dir name f m text
-  printed_text mdp back true_of text spelled = record {
+  -- the values are so near, or the exact query is too wide
+  abbrev IsNearSo : ℕ → Type 0
+  IsNearSo digits = IsDiscountNearOrWide digits dir name f m a.lower a.upper
+
+  printed_text : (digits : ℕ) → IsNearSo digits → IsMdp m → IsReadBack → AcceptedIsBound → (text : List ℕ) → text ≡ text_of a → IsDiscountBoundsPrinted dir name f digits m text
+  printed_text digits near mdp back true_of text spelled = record {
     cert = a;
     claim = claim;
     spelled = spelled;
@@ -41,12 +45,14 @@ module _ (dir : Dir) (name : List ℕ) (f : ℚ) (m : Mdp) (a : Certificate) (cl
     reads = ap outcome spelled ∙ back a fits;
     holds = accepted;
     bound = true_of m a mdp fits.discount accepted;
+    near = near;
   }
 
-  pub printed : IsMdp m → IsReadBack → AcceptedIsBound → (said : Said) → (said ≡ Err no_memory) ⊎ (said ≡ Ok (text_of a)) → IfOk said (IsDiscountBoundsPrinted dir name f m)
-  printed mdp back true_of (Ok text) (inl memory) = cc memory
-  printed mdp back true_of (Ok text) (inr e) = printed_text mdp back true_of text (cc e)
-  printed mdp back true_of (Err refusal) e = tt
+  pub printed : (digits : ℕ) → IsNearSo digits → IsMdp m → IsReadBack → AcceptedIsBound → (said : Said) → (said ≡ Err no_memory) ⊎ (said ≡ Ok (text_of a))
+      → IfOk said (IsDiscountBoundsPrinted dir name f digits m)
+  printed digits near mdp back true_of (Ok text) (inl memory) = cc memory
+  printed digits near mdp back true_of (Ok text) (inr e) = printed_text digits near mdp back true_of text (cc e)
+  printed digits near mdp back true_of (Err refusal) e = tt
 
   pub text_due : (r : ℕ) → place_of name m.names ≡ Some r → (said : Said) → (said ≡ Err no_memory) ⊎ (said ≡ Ok (text_of a)) → (said ≡ Err no_memory) ⊎ IsDiscountBoundsDue dir name f m said
   text_due r found said (inl memory) = inl memory

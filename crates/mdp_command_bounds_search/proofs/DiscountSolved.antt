@@ -46,16 +46,17 @@ text_lies_between true_of dir name f m text mdp factor due = by_name true_of dir
 
 -- ---- what is shown of a text
 
-printed_solved : (rule : RowRule) (dir : Dir) (name : List ℕ) (f : ℚ) (m : Mdp) (bytes text : List ℕ) → model_due rule bytes ≡ Ok m
-    → IsDiscountBoundsPrinted dir name f m text → IsDiscountBoundsSolved rule dir name f bytes text
-printed_solved rule dir name f m bytes text is printed =
+printed_solved : (rule : RowRule) (dir : Dir) (name : List ℕ) (f : ℚ) (digits : ℕ) (m : Mdp) (bytes text : List ℕ) → model_due rule bytes ≡ Ok m
+    → IsDiscountBoundsPrinted dir name f digits m text → IsDiscountBoundsSolved rule dir name f digits bytes text
+printed_solved rule dir name f digits m bytes text is printed =
     record {
       true_claim = true_claim_of discounted_between rule m bytes text printed.cert is printed.short printed.reads printed.holds printed.bound;
       claim = printed.claim;
       spelled = printed.spelled;
+      near = printed.near;
     }
 
-pub shown : (rule : RowRule) (dir : Dir) (name : List ℕ) (f : ℚ) (m : Mdp) (said : Said) → IfOk said (IsDiscountBoundsPrinted dir name f m) → (bytes : List ℕ)
-    → model_due rule bytes ≡ Ok m → IfOk said (IsDiscountBoundsSolved rule dir name f bytes)
-shown rule dir name f m (Ok text) printed bytes is = printed_solved rule dir name f m bytes text is printed
-shown rule dir name f m (Err r) printed bytes is = tt
+pub shown : (rule : RowRule) (dir : Dir) (name : List ℕ) (f : ℚ) (digits : ℕ) (m : Mdp) (said : Said) → IfOk said (IsDiscountBoundsPrinted dir name f digits m)
+    → (bytes : List ℕ) → model_due rule bytes ≡ Ok m → IfOk said (IsDiscountBoundsSolved rule dir name f digits bytes)
+shown rule dir name f digits m (Ok text) printed bytes is = printed_solved rule dir name f digits m bytes text is printed
+shown rule dir name f digits m (Err r) printed bytes is = tt

@@ -1,10 +1,11 @@
 -- What is due to `bounds`, computed. `draw` stays at 0, or moves to 1 with 1/3 and to 2 with 2/3; 1 is the goal. Each step costs 1, which is a loss of 1.
 -- `both` has two initial states. `risky` moves from 0, its one safe state, to 1, or to 1 and to the goal 2 with 1/2 each; from 1 the goal is next.
-use Rattle.std.proofs.Common.{◌≡◌, ℕ, List, [], ◌∷◌, Err, refl, pos, Some, None}
+use Rattle.std.proofs.Common.{◌≡◌, ℕ, zero, suc, List, [], ◌∷◌, Err, refl, pos, Some, None, inl, arith}
 use Rattle.std.specs.Prelude.{codes}
 use Rattle.mdp_math.specs.{Gcd.{gcd, gcd_with_fuel}, Rational.{ℚ, of_int, ratio, neg_ℚ, le_ℚ, lt_ℚ, ◌+ℚ◌, ◌*ℚ◌}}
 use Rattle.mdp_math.specs.Written.{narrow, narrow_ℚ, written_add, written_mul}
-use Rattle.mdp_spec.specs.{Mdp.{Entry, Choice, Mdp}, Sub.{sub_of}}
+use Rattle.mdp_math.proofs.Extremes.{le_of_test}
+use Rattle.mdp_spec.specs.{Mdp.{Entry, Choice, Mdp, value_at}, Sub.{sub_of}}
 use Rattle.mdp_spec.proofs.Small.{entry, labelled, number, half, quarter}
 use Rattle.mdp_rows.specs.declared.dir.Dir.TheVariants.{Max, Min}
 use Rattle.mdp_claims.specs.declared.rule.Rule.TheVariants.{ChoiceExists, ValueOnEachChoice}
@@ -13,7 +14,8 @@ use Rattle.mdp_cert.specs.Cert.{PlainClaim}
 use Rattle.mdp_cert.specs.{BoundsCert.{probabilities, rewards, gains, Certificate}, declared.init.BoundsInit.TheVariants.{Missing, Between}}
 use Rattle.mdp_check.specs.{Bounds.{bounds_answer_to}, declared.answer.Answer.TheVariants.{Yes, No}}
 use Rattle.mdp_job.specs.{Job.{reach, until, reward, mean}, Refusal.{PlainRefusal, query_label, query_reward, query_negative, query_size}}
-use Rattle.mdp_command_bounds_search.specs.{Certificate.{certificate_of}, Due.{claim_of, IsBoundsDue}, Laws.{LieBetween}}
+use Rattle.mdp_search_bounds.specs.Near.{IsNear, AreNear}
+use Rattle.mdp_command_bounds_search.specs.{Certificate.{certificate_of}, Due.{claim_of, IsBoundsDue}, Laws.{LieBetween}, Near.{IsNearOrWide}}
 
 abbrev choice : List Entry → Choice
 choice row = record { row = row; rewards = number 1 ∷ neg_ℚ (number 1) ∷ [] }
@@ -144,6 +146,45 @@ goal_way = refl
 
 no_rewards_between : LieBetween Max (until (codes "safe") (codes "goal")) risky (rewards [] [] [] []) → ⊥
 no_rewards_between h = h
+
+-- ---- how near the values come
+
+-- at each of the three states
+each_of_three : (low high : List ℚ) → IsNear 3 (value_at low 0) (value_at high 0) → IsNear 3 (value_at low 1) (value_at high 1) → IsNear 3 (value_at low 2) (value_at high 2) → AreNear 3 draw low high
+each_of_three low high x y z zero lt = x
+each_of_three low high x y z (suc zero) lt = y
+each_of_three low high x y z (suc (suc zero)) lt = z
+each_of_three low high x y z (suc (suc (suc s))) lt = absurd (omega (arith, lt))
+
+-- 333/1000 and 334/1000 are three digits near
+chance : IsNear 3 (ratio (pos 333) 1000) (ratio (pos 334) 1000)
+unfolding gcd gcd_with_fuel ratio of_int le_ℚ neg_ℚ ◌+ℚ◌ ◌*ℚ◌
+chance = le_of_test _ _ refl
+
+certain : IsNear 3 (number 1) (number 1)
+unfolding gcd gcd_with_fuel ratio of_int le_ℚ neg_ℚ ◌+ℚ◌ ◌*ℚ◌
+certain = le_of_test _ _ refl
+
+never : IsNear 3 (number 0) (number 0)
+unfolding gcd gcd_with_fuel ratio of_int le_ℚ neg_ℚ ◌+ℚ◌ ◌*ℚ◌
+never = le_of_test _ _ refl
+
+abbrev lows : List ℚ
+lows = ratio (pos 333) 1000 ∷ number 1 ∷ number 0 ∷ []
+
+abbrev highs : List ℚ
+highs = ratio (pos 334) 1000 ∷ number 1 ∷ number 0 ∷ []
+
+near_goal : IsNearOrWide 3 Max (reach (codes "goal")) draw (probabilities lows highs (1 ∷ 0 ∷ 0 ∷ []) (1 ∷ 0 ∷ 0 ∷ []))
+near_goal = (1, refl, inl (each_of_three lows highs chance certain never))
+
+-- of a label that isn't there nothing is near
+near_unknown : IsNearOrWide 3 Max (reach (codes "done")) draw (probabilities lows highs (1 ∷ 0 ∷ 0 ∷ []) (1 ∷ 0 ∷ 0 ∷ [])) → ⊥
+near_unknown near = cc (near.1)
+
+-- nor are rewards near where probabilities are asked for
+near_rewards : IsNearOrWide 3 Max (reach (codes "goal")) draw (rewards [] [] [] []) → ⊥
+near_rewards near = near
 
 -- ---- what is due
 

@@ -1,6 +1,7 @@
 mod Examples
 pub mod TextLength
 pub mod Printing
+pub mod Near
 pub mod Solved
 pub mod DiscountLength
 pub mod DiscountPrinting

@@ -22,7 +22,8 @@ use Rattle.mdp_check.specs.Check.{labelled_marks, marks_on_way, stays_at, way_of
 use Rattle.mdp_job.specs.{Job.{PlainQuery}, Refusal.{PlainRefusal, no_memory}}
 use Rattle.mdp_command.specs.{Files.{most_bytes}, Said.{Said}}
 use Rattle.mdp_command_bounds_search.specs.Certificate.{HasValues, init_between, certificate_of, AreBounds}
-use Rattle.mdp_command_bounds_search.specs.{Due.{claim_of, label_fault, until_fault, fault_of, IsAcceptedText, IsDueBy, IsBoundsDue}, Shown.{IsBoundsPrinted}}
+use Rattle.mdp_command_bounds_search.specs.Due.{claim_of, label_fault, until_fault, fault_of, IsAcceptedText, IsDueBy, IsBoundsDue}
+use Rattle.mdp_command_bounds_search.specs.{Near.{IsNearOrWide}, Shown.{IsBoundsPrinted}}
 use Rattle.mdp_command_bounds_search.proofs.TextLength.{text_short}
 
 -- ---- the states of a label
@@ -180,28 +181,6 @@ module _ (claim : PlainClaim) (m : Mdp) (body : PlainBounds) (bounds : AreBounds
     body = bounds.valid;
   }
 
-  printed_text : IsMdp m → IsReadBack → AcceptedBoundsAreTrue → Fits (certificate_of claim m body) → (text : List ℕ) → text ≡ text_of (certificate_of claim m body)
-      → IsBoundsPrinted claim m text
-  printed_text mdp back true_of fits text spelled = record {
-    cert = certificate_of claim m body;
-    claim = refl;
-    spelled = spelled;
-    short = subst (λ (t : List ℕ). length t ≤ most_bytes) (sym spelled) (text_short (certificate_of claim m body) fits);
-    reads = ap outcome spelled ∙ back (certificate_of claim m body) fits;
-    holds = accepted;
-    bound = true_of m (certificate_of claim m body) mdp accepted;
-  }
-
-  -- what is said: the text, or that memory is wanting
-  abbrev IsTextOf : Certificate → Said → Type 0
-  IsTextOf c said = (said ≡ Err no_memory) ⊎ (said ≡ Ok (text_of c))
-
-  pub printed : IsMdp m → IsReadBack → AcceptedBoundsAreTrue → (c : Certificate) (said : Said) → c ≡ certificate_of claim m body → Fits c → IsTextOf c said
-      → IfOk said (IsBoundsPrinted claim m)
-  printed mdp back true_of c (Ok text) is fits (inl memory) = cc memory
-  printed mdp back true_of c (Ok text) is fits (inr e) = printed_text mdp back true_of (subst Fits is fits) text (let t : text ≡ text_of c = cc e in t ∙ ap text_of is)
-  printed mdp back true_of c (Err refusal) is fits e = tt
-
   pub accepted_text : (c : Certificate) (said : Said) → c ≡ certificate_of claim m body → Fits c → said ≡ Ok (text_of c) → IsAcceptedText claim m said
   accepted_text c said is fits e = record {
     cert = certificate_of claim m body;
@@ -210,6 +189,36 @@ module _ (claim : PlainClaim) (m : Mdp) (body : PlainBounds) (bounds : AreBounds
     accepted = accepted;
     spelled = e ∙ ap (λ (x : Certificate). let s : Said = Ok (text_of x) in s) is;
   }
+
+-- ---- what is shown of a text
+
+module _ (dir : Dir) (query : PlainQuery) (digits : ℕ) (m : Mdp) (body : PlainBounds) (bounds : AreBounds (claim_of dir query) m body) (near : IsNearOrWide digits dir query m body) where
+  abbrev own : Certificate
+  own = certificate_of (claim_of dir query) m body
+
+  printed_text : IsMdp m → IsReadBack → AcceptedBoundsAreTrue → Fits own → (text : List ℕ) → text ≡ text_of own → IsBoundsPrinted dir query digits m text
+  printed_text mdp back true_of fits text spelled =
+      let holds = accepted (claim_of dir query) m body bounds in
+      record {
+        cert = own;
+        claim = refl;
+        spelled = spelled;
+        short = subst (λ (t : List ℕ). length t ≤ most_bytes) (sym spelled) (text_short own fits);
+        reads = ap outcome spelled ∙ back own fits;
+        holds = holds;
+        bound = true_of m own mdp holds;
+        near = near;
+      }
+
+  -- what is said: the text, or that memory is wanting
+  abbrev IsTextOf : Certificate → Said → Type 0
+  IsTextOf c said = (said ≡ Err no_memory) ⊎ (said ≡ Ok (text_of c))
+
+  pub printed : IsMdp m → IsReadBack → AcceptedBoundsAreTrue → (c : Certificate) (said : Said) → c ≡ own → Fits c → IsTextOf c said
+      → IfOk said (IsBoundsPrinted dir query digits m)
+  printed mdp back true_of c (Ok text) is fits (inl memory) = cc memory
+  printed mdp back true_of c (Ok text) is fits (inr e) = printed_text mdp back true_of (subst Fits is fits) text (let t : text ≡ text_of c = cc e in t ∙ ap text_of is)
+  printed mdp back true_of c (Err refusal) is fits e = tt
 
 -- ---- what is due
 

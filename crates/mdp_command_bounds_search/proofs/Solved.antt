@@ -93,16 +93,17 @@ text_lies_between true_of dir query m text mdp due = by_fault true_of dir query 
 
 -- ---- what is shown of a text
 
-printed_solved : (rule : RowRule) (dir : Dir) (query : PlainQuery) (m : Mdp) (bytes text : List ℕ) → model_due rule bytes ≡ Ok m → IsBoundsPrinted (claim_of dir query) m text
-    → IsBoundsSolved rule dir query bytes text
-printed_solved rule dir query m bytes text is printed =
+printed_solved : (rule : RowRule) (dir : Dir) (query : PlainQuery) (digits : ℕ) (m : Mdp) (bytes text : List ℕ) → model_due rule bytes ≡ Ok m
+    → IsBoundsPrinted dir query digits m text → IsBoundsSolved rule dir query digits bytes text
+printed_solved rule dir query digits m bytes text is printed =
     record {
       true_claim = true_claim_of between rule m bytes text printed.cert is printed.short printed.reads printed.holds printed.bound;
       claim = printed.claim;
       spelled = printed.spelled;
+      near = printed.near;
     }
 
-pub shown : (rule : RowRule) (dir : Dir) (query : PlainQuery) (m : Mdp) (said : Said) → IfOk said (IsBoundsPrinted (claim_of dir query) m) → (bytes : List ℕ)
-    → model_due rule bytes ≡ Ok m → IfOk said (IsBoundsSolved rule dir query bytes)
-shown rule dir query m (Ok text) printed bytes is = printed_solved rule dir query m bytes text is printed
-shown rule dir query m (Err r) printed bytes is = tt
+pub shown : (rule : RowRule) (dir : Dir) (query : PlainQuery) (digits : ℕ) (m : Mdp) (said : Said) → IfOk said (IsBoundsPrinted dir query digits m) → (bytes : List ℕ)
+    → model_due rule bytes ≡ Ok m → IfOk said (IsBoundsSolved rule dir query digits bytes)
+shown rule dir query digits m (Ok text) printed bytes is = printed_solved rule dir query digits m bytes text is printed
+shown rule dir query digits m (Err r) printed bytes is = tt

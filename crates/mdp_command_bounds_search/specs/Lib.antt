@@ -1,5 +1,6 @@
 pub mod Certificate
 pub mod Due
+pub mod Near
 pub mod Shown
 pub mod Laws
 pub mod DiscountDue

@@ -4,7 +4,7 @@ ghost use Rattle.mdp_cert.specs.BoundsCert.{plain_body};
 ghost use Rattle.mdp_check.specs.Check.{labelled_marks};
 ghost use Rattle.mdp_command.specs.Prelude.{plain_query, no_memory, plain_refusal};
 ghost use Rattle.mdp_job.specs.Job.{reach, until, reward, mean};
-ghost use Rattle.mdp_command_bounds_search.specs.{Certificate.{AreBounds}, Due.{claim_of, label_fault, fault_of}};
+ghost use Rattle.mdp_command_bounds_search.specs.{Certificate.{AreBounds}, Due.{claim_of, label_fault, fault_of}, Near.{IsNearOrWide}};
 
 use mdp_cert::BoundsBody;
 use mdp_job::{Query, Refusal};
@@ -38,6 +38,7 @@ fn bounds_of_label(
 ) -> Result<BoundsBody, Refusal>
     ensures fits { OnOk result (fault_of (reach label.now) model.now ≡ None) }
     ensures found { IfOk result (λ body. AreBounds (claim_of dir (reach label.now)) model.now (plain_body body)) }
+    ensures near { IfOk result (λ body. IsNearOrWide digits dir (reach label.now) model.now (plain_body body)) }
     ensures refused { IfErr result (λ r. (plain_refusal r ≡ no_memory) ⊎ (fault_of (reach label.now) model.now ≡ Some (plain_refusal r))) }
 {
     model.known();
@@ -60,6 +61,7 @@ fn bounds_of_until(
 ) -> Result<BoundsBody, Refusal>
     ensures fits { OnOk result (fault_of (until stay.now label.now) model.now ≡ None) }
     ensures found { IfOk result (λ body. AreBounds (claim_of dir (until stay.now label.now)) model.now (plain_body body)) }
+    ensures near { IfOk result (λ body. IsNearOrWide digits dir (until stay.now label.now) model.now (plain_body body)) }
     ensures refused { IfErr result (λ r. (plain_refusal r ≡ no_memory) ⊎ (fault_of (until stay.now label.now) model.now ≡ Some (plain_refusal r))) }
 {
     model.known();
@@ -86,6 +88,7 @@ fn bounds_of_reward(
 ) -> Result<BoundsBody, Refusal>
     ensures fits { OnOk result (fault_of (reward name.now label.now) model.now ≡ None) }
     ensures found { IfOk result (λ body. AreBounds (claim_of dir (reward name.now label.now)) model.now (plain_body body)) }
+    ensures near { IfOk result (λ body. IsNearOrWide digits dir (reward name.now label.now) model.now (plain_body body)) }
     ensures refused { IfErr result (λ r. (plain_refusal r ≡ no_memory) ⊎ (fault_of (reward name.now label.now) model.now ≡ Some (plain_refusal r))) }
 {
     model.known();
@@ -117,6 +120,7 @@ fn bounds_of_mean(
 ) -> Result<BoundsBody, Refusal>
     ensures fits { OnOk result (fault_of (mean name.now) model.now ≡ None) }
     ensures found { IfOk result (λ body. AreBounds (claim_of dir (mean name.now)) model.now (plain_body body)) }
+    ensures near { IfOk result (λ body. IsNearOrWide digits dir (mean name.now) model.now (plain_body body)) }
     ensures refused { IfErr result (λ r. (plain_refusal r ≡ no_memory) ⊎ (fault_of (mean name.now) model.now ≡ Some (plain_refusal r))) }
 {
     model.known();
@@ -139,6 +143,7 @@ pub(crate) fn bounds_of_query(
 ) -> Result<BoundsBody, Refusal>
     ensures fits { OnOk result (fault_of (plain_query query.entry) model.now ≡ None) }
     ensures found { IfOk result (λ body. AreBounds (claim_of dir (plain_query query.entry)) model.now (plain_body body)) }
+    ensures near { IfOk result (λ body. IsNearOrWide digits dir (plain_query query.entry) model.now (plain_body body)) }
     ensures refused { IfErr result (λ r. (plain_refusal r ≡ no_memory) ⊎ (fault_of (plain_query query.entry) model.now ≡ Some (plain_refusal r))) }
 {
     match query {

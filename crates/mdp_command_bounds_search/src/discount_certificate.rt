@@ -70,6 +70,7 @@ pub(crate) fn certificate_of(
     ensures claim { IfOk result (λ cert. ClaimsSo dir name.now factor (plain cert)) }
     ensures accepted { IfOk result (λ cert. IsAccepted model.now (plain cert)) }
     ensures fits { IfOk result (λ cert. Fits (plain cert)) }
+    ensures bounds { IfOk result (λ cert. cert.bounds ≡ bounds) }
 {
     model.known();
     let init = init_of(model, &bounds);

@@ -38,7 +38,7 @@ fn bounds_named(
 ) -> Result<Vec<u8>, Refusal>
     requires { IsFactor factor }
     ensures due { (said result ≡ Err no_memory) ⊎ IsDiscountBoundsDue dir name.now factor model.now (said result) }
-    ensures printed { IfOk (said result) (IsDiscountBoundsPrinted dir name.now factor model.now) }
+    ensures printed { IfOk (said result) (IsDiscountBoundsPrinted dir name.now factor digits model.now) }
 {
     model.known();
     discount_bounds_law();
@@ -56,8 +56,8 @@ fn bounds_named(
 }
 
 /// Reads the model to its end and judges its text, then looks for lower and upper values between which the greatest, or the least, rewards of this name
-/// lie, where a step later counts `factor` times as much. There are such bounds for every model that has the name, though values may be missing; with more
-/// digits the search tries for closer ones. The factor is at least 0 and below 1.
+/// lie, where a step later counts `factor` times as much. There are such bounds for every model that has the name, though values may be missing. None is,
+/// and they are as near as the digits say, unless the exact query, or a check of its answer as bounds, is too wide. The factor is at least 0 and below 1.
 pub fn bounds_discount_file<S: Source>(
     alloc: Global,
     rule: RowRule,
@@ -68,7 +68,7 @@ pub fn bounds_discount_file<S: Source>(
     model: &mut S,
 ) -> Result<Vec<u8>, Refusal>
     requires { IsFactor factor }
-    ensures read { IsDiscountBoundsRead rule dir name.now factor (input S.left S.faults model.old model.new) (said result) }
+    ensures read { IsDiscountBoundsRead rule dir name.now factor digits (input S.left S.faults model.old model.new) (said result) }
     ensures end { IsModelReadToEnd (input S.left S.faults model.old model.new) (said result) }
 {
     match read_model(alloc, model, rule) {

@@ -1,7 +1,7 @@
 ghost use Rattle.std.specs.Prelude.{◌≡◌, ◌⊎◌, Ok, Err, IfOk};
 ghost use Rattle.mdp_command.specs.Prelude.{IsModelReadToEnd, plain_query, no_memory, said, input};
 ghost use Rattle.mdp_cert.specs.{BoundsPlain.{plain}, BoundsSpelling.{text_of}};
-ghost use Rattle.mdp_command_bounds_search.specs.{Due.{claim_of, IsBoundsDue}, Shown.{IsBoundsPrinted, IsBoundsRead}};
+ghost use Rattle.mdp_command_bounds_search.specs.{Due.{IsBoundsDue}, Shown.{IsBoundsPrinted, IsBoundsRead}};
 
 use crate::bounding::bounds_of_query;
 use crate::certificate::{certificate_of, claim_of};
@@ -33,7 +33,7 @@ fn bounds_text(
     digits: u32,
 ) -> Result<Vec<u8>, Refusal>
     ensures due { (said result ≡ Err no_memory) ⊎ IsBoundsDue dir (plain_query query.entry) model.now (said result) }
-    ensures printed { IfOk (said result) (IsBoundsPrinted (claim_of dir (plain_query query.entry)) model.now) }
+    ensures printed { IfOk (said result) (IsBoundsPrinted dir (plain_query query.entry) digits model.now) }
 {
     model.known();
     bounds_checking_law();
@@ -50,8 +50,8 @@ fn bounds_text(
 }
 
 /// Reads the model to its end and judges its text, then looks for lower and upper values between which the greatest, or the least, values of the query
-/// lie: probabilities, rewards until a label, or mean payoffs. There are such bounds for every model that the query fits; with more digits the search tries
-/// for closer ones.
+/// lie: probabilities, rewards until a label, or mean payoffs. There are such bounds for every model that the query fits. They are as near as the digits
+/// say, unless the exact query is too wide.
 pub fn bounds_file<S: Source>(
     alloc: Global,
     rule: RowRule,
@@ -60,7 +60,7 @@ pub fn bounds_file<S: Source>(
     digits: u32,
     model: &mut S,
 ) -> Result<Vec<u8>, Refusal>
-    ensures read { IsBoundsRead rule dir (plain_query query.entry) (input S.left S.faults model.old model.new) (said result) }
+    ensures read { IsBoundsRead rule dir (plain_query query.entry) digits (input S.left S.faults model.old model.new) (said result) }
     ensures end { IsModelReadToEnd (input S.left S.faults model.old model.new) (said result) }
 {
     match read_model(alloc, model, rule) {

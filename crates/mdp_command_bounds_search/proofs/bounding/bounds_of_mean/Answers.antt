@@ -8,3 +8,6 @@ returns-in-Ok-clause-found c =
     let e = c.in-Ok.ensures in
     mean_bounds c.args.dir c.args.name.now c.args.model.now c.in-Some.reward c.known.ensures.model.names.each (sym c.in-Some.ensures) b.lower.items b.upper.items b.bound.items
     b.bias.items b.spread b.choices.items e.rules e.lower e.upper e.bound e.bias e.choices
+
+pub returns-in-Ok-clause-near : goal.returns-in-Ok-clause-near
+returns-in-Ok-clause-near c = (c.in-Some.reward, sym c.in-Some.ensures, c.in-Ok.ensures.near)

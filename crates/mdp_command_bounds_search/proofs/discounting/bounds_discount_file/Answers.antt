@@ -6,4 +6,4 @@ pub returns-in-Err-clause-read : goal.returns-in-Err-clause-read
 returns-in-Err-clause-read g c = model_refused _ _ _ _ _ c.in-Err.ensures.read
 
 pub returns-in-Ok-clause-read : goal.returns-in-Ok-clause-read
-returns-in-Ok-clause-read g c = model_worked _ _ _ _ _ _ c.in-Ok.ensures.read c.bounds_named.ensures.due (shown _ _ _ _ _ _ c.bounds_named.ensures.printed)
+returns-in-Ok-clause-read g c = model_worked _ _ _ _ _ _ c.in-Ok.ensures.read c.bounds_named.ensures.due (shown _ _ _ _ _ _ _ c.bounds_named.ensures.printed)
