@@ -1,5 +1,5 @@
--- What is due to `bounds` of a discounted reward is never a term that is too wide, the best values lie between its values, and what is shown of its text.
-use Rattle.std.proofs.Common.{◌≡◌, ℕ, List, Option, Some, None, Ok, Err, IfOk, sym, ap, subst, ◌∙◌}
+-- What is due to `bounds` of a discounted reward of a name that is there is a text, the best values lie between its values, and what is shown of it.
+use Rattle.std.proofs.Common.{◌≡◌, ℕ, List, Option, Some, None, Ok, Err, IfOk, IsOk, sym, ap, subst, ◌∙◌}
 use Rattle.mdp_math.specs.Rational.{ℚ}
 use Rattle.mdp_spec.specs.{Labels.{place_of}, Mdp.{Mdp}, Row.{IsMdp}}
 use Rattle.mdp_rows.specs.{declared.dir.Dir.{Dir}, declared.rule.RowRule.{RowRule}}
@@ -8,13 +8,13 @@ use Rattle.mdp_discount_bounds.specs.{Between.{DiscountBetween}, Laws.{AcceptedI
 use Rattle.mdp_discount_text.specs.BoundsSpelling.{text_of}
 use Rattle.mdp_command.specs.{Kinds.{discounted_between}, Files.{model_due}, Said.{Said}}
 use Rattle.mdp_command.proofs.TrueClaims.{true_claim_of}
-use Rattle.mdp_command_bounds_search.specs.{DiscountDue.{IsAcceptedText, IsNamedDue}, DiscountLaws.{IsNeverTooWide, IsAnswerTo, TextLiesBetween}}
+use Rattle.mdp_command_bounds_search.specs.{DiscountDue.{IsAcceptedText, IsNamedDue, IsDiscountBoundsDue}, DiscountLaws.{IsAnswerTo, TextLiesBetween}}
 use Rattle.mdp_command_bounds_search.specs.DiscountShown.{IsDiscountBoundsPrinted, IsDiscountBoundsSolved}
 use Rattle.mdp_command_bounds_search.proofs.Solved.{text_is_ok}
 
--- ---- never too wide
+-- ---- a text, and never a term that is too wide
 
-pub never_too_wide : IsNeverTooWide
+pub never_too_wide : (dir : Dir) (name : List ℕ) (f : ℚ) (m : Mdp) (said : Said) (r : ℕ) → place_of name m.names ≡ Some r → IsDiscountBoundsDue dir name f m said → IsOk said
 never_too_wide dir name f m said r found due =
     let a : IsAcceptedText dir name f m said = subst (λ (o : Option ℕ). IsNamedDue dir name f m o said) found due in
     text_is_ok said (text_of a.cert) a.spelled

@@ -1,4 +1,4 @@
--- What is due to `bounds` is never a term that is too wide, the best values lie between its values, and what is shown of its text.
+-- What is due to `bounds` where the query fits is a text, the best values lie between its values, and what is shown of it.
 use Rattle.std.proofs.Common.{◌≡◌, ℕ, Bool, List, Option, Some, None, Ok, Err, IfOk, IsOk, refl, sym, ap, ap₂, subst, ◌∙◌}
 use Rattle.mdp_spec.specs.{Between.{ReachMaxBetween, ReachMinBetween, RewardMaxBetween, RewardMinBetween}, Labels.{place_of, marks_of}, Mdp.{Mdp, states_of}}
 use Rattle.mdp_spec.specs.{Row.{IsMdp}, Until.{UntilMaxBetween, UntilMinBetween}}
@@ -8,16 +8,16 @@ use Rattle.mdp_check.specs.{Bounds.{between_by, IsBoundsTrue}, BoundsLaws.{Accep
 use Rattle.mdp_job.specs.{Job.{PlainQuery, reach, until, reward, mean}, Refusal.{PlainRefusal}}
 use Rattle.mdp_command.specs.{Kinds.{between}, Files.{model_due}, Said.{Said}}
 use Rattle.mdp_command.proofs.TrueClaims.{true_claim_of}
-use Rattle.mdp_command_bounds_search.specs.{Due.{claim_of, fault_of, IsDueBy, IsAcceptedText}, Laws.{IsNeverTooWide, LieBetween, IsAnswerTo, TextLiesBetween}}
+use Rattle.mdp_command_bounds_search.specs.{Due.{claim_of, fault_of, IsDueBy, IsAcceptedText, IsBoundsDue}, Laws.{LieBetween, IsAnswerTo, TextLiesBetween}}
 use Rattle.mdp_command_bounds_search.specs.Shown.{IsBoundsPrinted, IsBoundsSolved}
 use Rattle.mdp_command_bounds_search.proofs.Printing.{marked_at}
 
--- ---- never too wide
+-- ---- a text, and never a term that is too wide
 
 pub text_is_ok : (said : Said) (text : List ℕ) → said ≡ Ok text → IsOk said
 text_is_ok said text e = subst (λ (s : Said). IsOk s) (sym e) refl
 
-pub never_too_wide : IsNeverTooWide
+pub never_too_wide : (dir : Dir) (query : PlainQuery) (m : Mdp) (said : Said) → fault_of query m ≡ None → IsBoundsDue dir query m said → IsOk said
 never_too_wide dir query m said fitting due =
     let a : IsAcceptedText (claim_of dir query) m said = subst (λ (o : Option PlainRefusal). IsDueBy (claim_of dir query) m o said) fitting due in
     text_is_ok said (text_of a.cert) a.spelled

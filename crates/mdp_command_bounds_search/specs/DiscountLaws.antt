@@ -1,18 +1,22 @@
 -- Laws of what is due to `bounds` of a discounted reward, over the definitions alone.
-use Rattle.std.specs.Prelude.{◌≡◌, ℕ, List, Some, Ok, IsOk}
+use Rattle.std.specs.Prelude.{◌≡◌, ℕ, List, Some, Ok}
 use Rattle.mdp_math.specs.Rational.{ℚ}
+use Rattle.mdp_num.specs.Value.{IsNarrow}
 use Rattle.mdp_spec.specs.{Labels.{place_of}, Mdp.{Mdp}, Row.{IsMdp}}
-use Rattle.mdp_rows.specs.declared.dir.Dir.{Dir}
+use Rattle.mdp_rows.specs.{Limits.{IsModel}, declared.dir.Dir.{Dir}}
 use Rattle.mdp_discount_rules.specs.Rules.{IsFactor}
 use Rattle.mdp_discount_bounds.specs.{Between.{DiscountBetween}, Cert.{Certificate}}
 use Rattle.mdp_discount_text.specs.BoundsSpelling.{text_of}
 use Rattle.mdp_command.specs.Said.{Said}
-use Rattle.mdp_command_bounds_search.specs.DiscountDue.{ClaimsSo, IsDiscountBoundsDue}
+use Rattle.mdp_command_bounds_search.specs.{DiscountDue.{ClaimsSo, IsDiscountBoundsDue}, DiscountShown.{IsDiscountBoundsPrinted}}
 
--- never too wide: what is due to a name that the model has is a text, and no refusal
-abbrev pub IsNeverTooWide : Type 0
-IsNeverTooWide =
-    (dir : Dir) (name : List ℕ) (f : ℚ) (m : Mdp) (said : Said) (r : ℕ) → place_of name m.names ≡ Some r → IsDiscountBoundsDue dir name f m said → IsOk said
+-- some text is due to each name that its model has and each factor in width, with any digits, and all that is shown of what `bounds` prints is shown of it:
+-- it reads as its certificate, the rules hold and the claim is true, and the values are as near as the digits say, or the exact query, or a check of its
+-- answer as bounds, is too wide
+abbrev pub HasAText : Type 0
+HasAText =
+    (dir : Dir) (name : List ℕ) (f : ℚ) (digits : ℕ) (m : Mdp) (r : ℕ) → IsModel m → IsFactor f → IsNarrow f → place_of name m.names ≡ Some r
+    → (text : List ℕ) × IsDiscountBoundsDue dir name f m (Ok text) × IsDiscountBoundsPrinted dir name f digits m text
 
 -- the text of a certificate of this claim; the greatest, or the least, discounted rewards of the name lie between its lower and its upper values, and
 -- those of its policy do

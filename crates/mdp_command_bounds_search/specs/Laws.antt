@@ -1,17 +1,20 @@
 -- Laws of what is due to `bounds`, over the definitions alone.
-use Rattle.std.specs.Prelude.{◌≡◌, ℕ, List, Some, None, Ok, IsOk}
+use Rattle.std.specs.Prelude.{◌≡◌, ℕ, List, Some, None, Ok}
 use Rattle.mdp_spec.specs.Between.{ReachMaxBetween, ReachMinBetween, RewardMaxBetween, RewardMinBetween, MeanMaxBetween, MeanMinBetween}
 use Rattle.mdp_spec.specs.Until.{UntilMaxBetween, UntilMinBetween}
 use Rattle.mdp_spec.specs.{Labels.{place_of, marks_of}, Mdp.{Mdp, states_of}, Row.{IsMdp}}
-use Rattle.mdp_rows.specs.{declared.dir.Dir.{Dir}, declared.dir.Dir.TheVariants.{Max, Min}}
+use Rattle.mdp_rows.specs.{Limits.{IsModel}, declared.dir.Dir.{Dir}, declared.dir.Dir.TheVariants.{Max, Min}}
 use Rattle.mdp_cert.specs.{BoundsCert.{PlainBounds, probabilities, rewards, gains}, BoundsSpelling.{text_of}, declared.init.BoundsInit.{BoundsInit}}
 use Rattle.mdp_job.specs.Job.{PlainQuery, reach, until, reward, mean}
 use Rattle.mdp_command.specs.Said.{Said}
-use Rattle.mdp_command_bounds_search.specs.Due.{claim_of, fault_of, IsBoundsDue}
+use Rattle.mdp_command_bounds_search.specs.{Due.{claim_of, fault_of, IsBoundsDue}, Shown.{IsBoundsPrinted}}
 
--- never too wide: what is due to a query that fits the model is a text, and no refusal
-abbrev pub IsNeverTooWide : Type 0
-IsNeverTooWide = (dir : Dir) (query : PlainQuery) (m : Mdp) (said : Said) → fault_of query m ≡ None → IsBoundsDue dir query m said → IsOk said
+-- some text is due to each query that fits its model, with any digits, and all that is shown of what `bounds` prints is shown of it: it reads as its
+-- certificate, the rules hold and the claim is true, and the values are as near as the digits say, or the exact query is too wide
+abbrev pub HasAText : Type 0
+HasAText =
+    (dir : Dir) (query : PlainQuery) (digits : ℕ) (m : Mdp) → IsModel m → fault_of query m ≡ None
+    → (text : List ℕ) × IsBoundsDue dir query m (Ok text) × IsBoundsPrinted dir query digits m text
 
 -- the query's names are those of the model, and the greatest, or the least, probabilities of reaching the label, also by way of states of another label
 -- alone, rewards of the name until the label, or mean payoffs of the name, lie between the lower and the upper values, and those of the policy do

@@ -56,8 +56,9 @@ fn bounds_named(
 }
 
 /// Reads the model to its end and judges its text, then looks for lower and upper values between which the greatest, or the least, rewards of this name
-/// lie, where a step later counts `factor` times as much. There are such bounds for every model that has the name, though values may be missing. None is,
-/// and they are as near as the digits say, unless the exact query, or a check of its answer as bounds, is too wide. The factor is at least 0 and below 1.
+/// lie, where a step later counts `factor` times as much. There are such bounds for every model that has the name, as `bounds_discount_search_law` says,
+/// though values may be missing. None is, and they are as near as the digits say, unless the exact query, or a check of its answer as bounds, is too wide.
+/// The factor is at least 0 and below 1.
 pub fn bounds_discount_file<S: Source>(
     alloc: Global,
     rule: RowRule,

@@ -1,23 +1,43 @@
 ghost use Rattle.mdp_command_bounds_search.specs.DiscountLaws as discount;
-ghost use Rattle.mdp_command_bounds_search.specs.Laws.{IsNeverTooWide, TextLiesBetween};
+ghost use Rattle.mdp_command_bounds_search.specs.Laws.{HasAText, TextLiesBetween};
 
+use mdp_cert::bounds_text_law;
 use mdp_check::bounds_checking_law;
+use mdp_discount::discount_law;
 use mdp_discount_bounds::discount_bounds_law;
+use mdp_discount_text::discount_bounds_text_law;
+use mdp_graph::{along_law, avoid_law, meet_law, rounds_law, sure_all_law};
+use mdp_mean::mean_law;
+use mdp_policy_iteration::path_law;
 
-/// Laws of what is due to `bounds`: where the query fits the model it's a text, and never a term that is too wide; and between the lower and the upper
-/// values of that text lie the greatest, or the least, probabilities, rewards until a label or mean payoffs, and those of its policy.
+/// Laws of what is due to `bounds`: some text is, to each query that fits its model, with values as near as any digits say, unless the exact query is too
+/// wide; and between the lower and the upper values of a text that is due lie the greatest, or the least, probabilities, rewards until a label or mean
+/// payoffs, and those of its policy.
 pub fn bounds_search_law()
-    ensures total { IsNeverTooWide }
+    ensures text { HasAText }
     ensures between { TextLiesBetween }
 {
     bounds_checking_law();
+    bounds_text_law();
+    path_law();
+    along_law();
+    avoid_law();
+    meet_law();
+    rounds_law();
+    sure_all_law();
+    mdp_reach::query_law();
+    mdp_reward::query_law();
+    mean_law();
 }
 
-/// Laws of what is due to `bounds` of a discounted reward: where the model has the name it's a text, and never a term that is too wide; and between the
-/// lower and the upper values of that text lie the greatest, or the least, discounted rewards, and those of its policy.
+/// Laws of what is due to `bounds` of a discounted reward: some text is, to each name that its model has, with values as near as any digits say, unless
+/// the exact query, or a check of its answer as bounds, is too wide; and between the lower and the upper values of a text that is due lie the greatest,
+/// or the least, discounted rewards, and those of its policy.
 pub fn bounds_discount_search_law()
-    ensures total { discount.IsNeverTooWide }
+    ensures text { discount.HasAText }
     ensures between { discount.TextLiesBetween }
 {
     discount_bounds_law();
+    discount_bounds_text_law();
+    discount_law();
 }

@@ -50,8 +50,8 @@ fn bounds_text(
 }
 
 /// Reads the model to its end and judges its text, then looks for lower and upper values between which the greatest, or the least, values of the query
-/// lie: probabilities, rewards until a label, or mean payoffs. There are such bounds for every model that the query fits. They are as near as the digits
-/// say, unless the exact query is too wide.
+/// lie: probabilities, rewards until a label, or mean payoffs. There are such bounds for every model that the query fits, as `bounds_search_law` says. They
+/// are as near as the digits say, unless the exact query is too wide.
 pub fn bounds_file<S: Source>(
     alloc: Global,
     rule: RowRule,

@@ -1,13 +1,16 @@
--- One thing is due to the chain of a policy.
-use Rattle.std.proofs.Common.{◌≡◌, ℕ, ◌⊎◌, inl, inr, Bool, true, false, List, length, Result, Ok, Err, refl, sym, ap, subst, eq-eqb, ◌∙◌, arith}
+-- Exactly one thing is due to the chain of a policy.
+use Rattle.std.proofs.Common.{◌≡◌, ℕ, ◌<◌, ◌⊎◌, inl, inr, Bool, true, false, nat_le, le-leb, List, length, slice_index, Result, Ok, Err, refl, sym, ap, subst, eq-eqb, ◌∙◌, arith}
+use Rattle.std.proofs.lemmas.Bool.{false≢true, cases_lt}
 use Rattle.std.specs.Prelude.{◌==◌}
+use borrow.Author.Tests.{eqb-true, leb-true}
 use Rattle.mdp_math.specs.Result.{◌>>=◌}
-use Rattle.mdp_spec.specs.{Mdp.{Mdp, states_of}, Tree.{IsPolicy}}
+use Rattle.mdp_spec.specs.{Mdp.{Mdp, states_of, choices_at}, Tree.{IsPolicy}}
+use Rattle.mdp_graph.proofs.Falls.{case-any}
 use Rattle.mdp_drn.specs.Writing.{text_of}
-use Rattle.mdp_job.specs.Refusal.{PlainRefusal, no_memory}
+use Rattle.mdp_job.specs.Refusal.{PlainRefusal, no_memory, query_size, query_choice}
 use Rattle.mdp_command.specs.{Files.{second_due}, Said.{Said}}
 use Rattle.mdp_policy.specs.Chain.{chain_of, NamesNoChoice}
-use Rattle.mdp_command_policy.specs.{ChainDue.{choices_in, choices_due, IsChoiceDue, IsSizeDue, IsTextDue, IsChainDue}, ChainLaws.{IsDueOnce}}
+use Rattle.mdp_command_policy.specs.{ChainDue.{choices_in, choices_due, IsChoiceDue, IsSizeDue, IsTextDue, IsChainDue}, ChainLaws.{IsDueOnce, SomethingIsDue}}
 
 not_both : {Q : Type 0} (m : Mdp) (policy : List ℕ) → IsPolicy m policy → NamesNoChoice m policy → Q
 not_both m policy is other = let in_range = is.in_range other.state other.below in let past = other.past in absurd (omega (arith, in_range, past))
@@ -28,6 +31,33 @@ text_once m (Err r) said again d e = d ∙ sym e
 
 pub chain_once : IsDueOnce
 chain_once m bytes said again d e = text_once m (choices_due bytes) said again d e
+
+-- ---- something is due
+
+-- the choices are those of the states, or some choice is past those of its state
+choice_some : (m : Mdp) (policy : List ℕ) → length policy ≡ states_of m → (said : Said) × IsChoiceDue m policy said
+choice_some m policy each =
+    elim (case-any (λ s. nat_le (length (choices_at m s)) (slice_index policy s)) (states_of m)) as (λ _. (said : Said) × IsChoiceDue m policy said) [
+      | inl w ↦ (Err query_choice, inr (record { state = w.0; below = w.1; past = leb-true (length (choices_at m w.0)) (slice_index policy w.0) w.2 }, refl))
+      | inr none ↦ (Ok (text_of (chain_of m policy)), inl (record { one_each = each; in_range = λ s l. inside s (none s l) }, refl))
+    ]
+  where
+    inside : (s : ℕ) → nat_le (length (choices_at m s)) (slice_index policy s) ≡ false → slice_index policy s < length (choices_at m s)
+    inside s no = elim (cases_lt (slice_index policy s) (length (choices_at m s))) [
+      | inl l ↦ l
+      | inr past ↦ absurd (false≢true (sym no ∙ le-leb (length (choices_at m s)) (slice_index policy s) past))
+    ]
+
+size_some : (m : Mdp) (policy : List ℕ) (fits : Bool) → (length policy == states_of m) ≡ fits → (said : Said) × IsSizeDue m policy fits said
+size_some m policy false e = (Err query_size, refl)
+size_some m policy true e = choice_some m policy (eqb-true (length policy) (states_of m) e)
+
+text_some : (m : Mdp) (read : Result (List ℕ) PlainRefusal) → (said : Said) × IsTextDue m read said
+text_some m (Ok policy) = size_some m policy (length policy == states_of m) refl
+text_some m (Err r) = (Err r, refl)
+
+pub chain_due : SomethingIsDue
+chain_due m bytes = text_some m (choices_due bytes)
 
 -- ---- what is due to a chain that was made
 
