@@ -57,16 +57,22 @@ module _ (m : Mdp) (known : IsMdp m) (goals : List Bool) (lower upper : List ℚ
       → Tells (Refutes dir m goals lower upper policy ranks) (at_choices m s (bound_check dir m (covering dir lower upper) s))
   each_tells dir g =
       tells_map (Refutes dir m goals lower upper policy ranks) (bound_check dir m (covering dir lower upper) s) (length (choices_at m s))
-      (λ c i wrong. (lower_column, λ says.
-      refuted (IsRowBound dir m (covering dir lower upper) s c) _ (λ h w. of_stands_at m known (covering dir lower upper) dir s c l i (stands_of_bound dir _ _ h) w) wrong (says l g i)))
+      (λ c i wrong. (
+        lower_column,
+        λ says.
+            refuted (IsRowBound dir m (covering dir lower upper) s c) _ (λ h w. of_stands_at m known (covering dir lower upper) dir s c l i (stands_of_bound dir _ _ h) w) wrong (says l g i),
+      ))
 
   taken_tells : (dir : Dir) → slice_index policy s < length (choices_at m s) → is_marked goals s ≡ false
       → Tells (Refutes dir m goals lower upper policy ranks) (policy_check dir m (followed dir lower upper) s (slice_index policy s) ∷ [])
   taken_tells dir i g =
       tells_one (Refutes dir m goals lower upper policy ranks) (policy_check dir m (followed dir lower upper) s (slice_index policy s))
-      (λ wrong. (lower_column, λ says.
-      refuted (IsRowBound (other dir) m (followed dir lower upper) s (slice_index policy s)) _
-      (λ h w. of_stands_at m known (followed dir lower upper) (other dir) s (slice_index policy s) l i (stands_of_bound (other dir) _ _ h) w) wrong (says l g refl)))
+      (λ wrong. (
+        lower_column,
+        λ says.
+            refuted (IsRowBound (other dir) m (followed dir lower upper) s (slice_index policy s)) _
+            (λ h w. of_stands_at m known (followed dir lower upper) (other dir) s (slice_index policy s) l i (stands_of_bound (other dir) _ _ h) w) wrong (says l g refl),
+      ))
 
   cover_tells : (dir : Dir) → Tells (Refutes dir m goals lower upper policy ranks) (cover_at dir m goals (covering dir lower upper) s)
   cover_tells Max = side_tells Max upper_column (at_choices m s (bound_check Max m upper s)) (each_tells Max)
@@ -88,8 +94,11 @@ module _ (m : Mdp) (known : IsMdp m) (goals : List Bool) (lower upper : List ℚ
       → Tells (Refutes dir m goals lower upper policy ranks) (fall_checks dir m lower ranks s (slice_index policy s))
   falls_tell Max g p =
       tells_one (Refutes Max m goals lower upper policy ranks) (fall_check Max m lower ranks s (slice_index policy s))
-      (λ wrong. (lower_column, λ says.
-      refuted (LeadsOn Max m lower ranks s (slice_index policy s)) _ (λ h w. ap Some (falls_max m lower ranks s (slice_index policy s) h)) wrong (says l g p refl)))
+      (λ wrong. (
+        lower_column,
+        λ says.
+            refuted (LeadsOn Max m lower ranks s (slice_index policy s)) _ (λ h w. ap Some (falls_max m lower ranks s (slice_index policy s) h)) wrong (says l g p refl),
+      ))
   falls_tell Min g p =
       tells_map (Refutes Min m goals lower upper policy ranks) (fall_check Min m lower ranks s) (length (choices_at m s))
       (λ c i wrong. (lower_column, λ says. refuted (LeadsOn Min m lower ranks s c) _ (λ h w. ap Some (falls_min m lower ranks s c h)) wrong (says l g p i)))

@@ -109,14 +109,20 @@ module _ (m : Mdp) (known : IsMdp m) (r : ℕ) (goals : List Bool) (lower upper 
   misses_tell : (dir : Dir) → is_marked (infinite lower) s ≡ true → Tells (Refutes dir m r goals lower upper policy ranks) (infinite_checks dir m lower ranks s taken)
   misses_tell Max i =
       tells_one (Refutes Max m r goals lower upper policy ranks) (miss_check m lower ranks s taken)
-      (λ wrong. (lower_column, λ says.
-      refuted (((slice_index ranks s ≡ 0) × StaysInfinite m lower ranks 0 s taken) ⊎ FallsInfinite m lower ranks s taken) _
-      (λ h w. ap Some (test_of_misses m lower ranks s taken h)) wrong (says refl (l, i) refl)))
+      (λ wrong. (
+        lower_column,
+        λ says.
+            refuted (((slice_index ranks s ≡ 0) × StaysInfinite m lower ranks 0 s taken) ⊎ FallsInfinite m lower ranks s taken) _
+            (λ h w. ap Some (test_of_misses m lower ranks s taken h)) wrong (says refl (l, i) refl),
+      ))
   misses_tell Min i =
       tells_map (Refutes Min m r goals lower upper policy ranks) (all_miss_check m lower ranks s) (length (choices_at m s))
-      (λ c j wrong. (lower_column, λ says.
-      refuted (FallsInfinite m lower ranks s c ⊎ StaysInfinite m lower ranks (slice_index ranks s) s c) _ (λ h w. ap Some (test_of_all_misses m lower ranks s c h)) wrong
-      (says refl (l, i) j)))
+      (λ c j wrong. (
+        lower_column,
+        λ says.
+            refuted (FallsInfinite m lower ranks s c ⊎ StaysInfinite m lower ranks (slice_index ranks s) s c) _ (λ h w. ap Some (test_of_all_misses m lower ranks s c h)) wrong
+            (says refl (l, i) j),
+      ))
 
   lower_half : (dir : Dir) → IsChoice m s taken → IsTransient m goals lower s
       → Tells (Refutes dir m r goals lower upper policy ranks) (half_checks (lower_on_each dir) dir m r lower s taken)
@@ -169,8 +175,11 @@ module _ (m : Mdp) (known : IsMdp m) (r : ℕ) (goals : List Bool) (lower upper 
         (λ takes.
         let i = ltb-true taken (length (choices_at m s)) (Some_same _ _ takes) in
         tells_first Q (order_check lower upper s) (low ++ (high ++ sign_checks m r s))
-        (λ wrong. (lower_column, λ says.
-        refuted (IsOrderedAt lower upper s) _ (λ h w. ap Some (implies (is_marked (infinite lower) s) (is_marked (infinite upper) s) h)) wrong (says l).0))
+        (λ wrong. (
+          lower_column,
+          λ says.
+              refuted (IsOrderedAt lower upper s) _ (λ h w. ap Some (implies (is_marked (infinite lower) s) (is_marked (infinite upper) s) h)) wrong (says l).0,
+        ))
         (λ ordered. tells_append Q low (high ++ sign_checks m r s) (lower_tells i) (λ held. tells_append Q high (sign_checks m r s) (upper_tells i) (λ held. signs_tell))))
 
 pub reward_refuted : (dir : Dir) (m : Mdp) (r : ℕ) (goals : List Bool) (lower upper : List (Option ℚ)) (policy ranks : List ℕ) (fault : Fault) → IsMdp m
