@@ -46,7 +46,7 @@ told (Between s x y) initial body = state_told s initial (has_bounds body s x y)
 -- a rule that says nothing of either column is named by no false check
 nothing_of_one : (Says : Column → Rule → Option ℕ → Option ℕ → Type 0) (f : Fault) → ((side : Column) → Says side InitialState f.state f.choice)
     → IsFalseOfOne (λ side. Says side f.rule f.state f.choice) → f.rule ≡ InitialState → ⊥
-nothing_of_one Says f nothing no = says_nothing (Says no.0) f (nothing no.0) no.1
+nothing_of_one Says f nothing wrong = says_nothing (Says wrong.0) f (nothing wrong.0) wrong.1
 
 module _ (reach_refuted : ReachNoRefutes) (reward_refuted : RewardNoRefutes) (mean_refuted : MeanNoRefutes) (m : Mdp) (known : IsMdp m) (r : ℕ) (goals : List Bool) (states : ℕ) (f : Fault) where
   other_rules : (claim : PlainClaim) (body : PlainBounds) → is_body_of claim states body ≡ true → bounds_verdict_by m r goals claim body ≡ verdict.No f → f.rule ≡ InitialState → ⊥

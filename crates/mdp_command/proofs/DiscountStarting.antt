@@ -10,12 +10,19 @@ use Rattle.mdp_text.specs.{declared.init.Init.{Init}, declared.init.Init.TheVari
 use Rattle.mdp_claims.specs.{declared.rule.Rule.TheVariants.{InitialState}, declared.verdict.Fault.{Fault}, declared.verdict.Verdict.{Verdict}}
 use Rattle.mdp_claims.specs.declared.verdict.Verdict.TheVariants as verdict
 use Rattle.mdp_farkas.specs.Initial.{init_fault, is_value}
-use Rattle.mdp_check.specs.{Says.{IsValueAt, IsRewardAt}, Check as check}
-use Rattle.mdp_check.specs.declared.answer.Answer.TheVariants as answer
+use Rattle.mdp_check.specs.Says.{IsValueAt, IsRewardAt}
+use Rattle.mdp_check.specs.Check as check
 use Rattle.mdp_check.proofs.Starting.{value_is, never, state_is, HoldsOrNamed, state_told, says_nothing, no_by}
-use Rattle.mdp_discount_rules.specs.{Cert as exact, Check as exact_check, Checks.{discount_checks}, Says as exact_says, Laws as exact_laws}
+use Rattle.mdp_discount_rules.specs.Cert as exact
+use Rattle.mdp_discount_rules.specs.Check as exact_check
+use Rattle.mdp_discount_rules.specs.Says as exact_says
+use Rattle.mdp_discount_rules.specs.Laws as exact_laws
 use Rattle.mdp_discount_rules.specs.{declared.answer.DiscountAnswer.{DiscountAnswer}, declared.answer.DiscountAnswer.TheVariants.{No, Size}}
-use Rattle.mdp_discount_bounds.specs.{Cert as bounds, Check as bounds_check, Says as bounds_says, Laws as bounds_laws, declared.init.InitialBounds.{InitialBounds}}
+use Rattle.mdp_discount_bounds.specs.Cert as bounds
+use Rattle.mdp_discount_bounds.specs.Check as bounds_check
+use Rattle.mdp_discount_bounds.specs.Says as bounds_says
+use Rattle.mdp_discount_bounds.specs.Laws as bounds_laws
+use Rattle.mdp_discount_bounds.specs.declared.init.InitialBounds.{InitialBounds}
 use Rattle.mdp_command.specs.DiscountStart.{ExactInitSays, BoundsInitSays, ExactNoOfInit, BoundsNoOfInit}
 
 -- ---- two verdicts, the second one after a yes
@@ -37,7 +44,7 @@ after (verdict.Wide state choice) w = refl
 no_of : (S : Type 0) (u w : Verdict) (f : Fault) → ((u ≡ verdict.Yes) ↔ S) → HoldsOrNamed u → (w ≡ verdict.No f → f.rule ≡ InitialState → ⊥)
     → exact_check.answer_of (exact_check.then_verdict u w) ≡ No f → (f.rule ≡ InitialState) ↔ (S → ⊥)
 no_of S u w f is named rest e =
-    no_by S u w f is named (λ yes no. rest no)
+    no_by S u w f is named (λ holds wrong. rest wrong)
     (ap (λ (v : Verdict). check.answer_of v) (sym (after u w) ∙ no_verdict (exact_check.then_verdict u w) f e))
 
 -- ---- exact values
@@ -64,7 +71,7 @@ exact_no_of_init refuted m c f e = by_size (eqb (length c.values) (states_of m))
     by_reward (Some r) e =
         no_of (ExactInitSays c.init (initial_of m) c.values) (exact_check.init_check c.init (initial_of m) c.values) (exact_check.checks_of m r c) f
         (exact_is c.init (initial_of m) c.values) (exact_told c.init (initial_of m) c.values)
-        (λ no. says_nothing (exact_says.DiscountSays c.dir m r c.factor c.values c.remainder c.choices) f tt (refuted c.dir m r c.factor c.values c.remainder c.choices f no).1) e
+        (λ wrong. says_nothing (exact_says.DiscountSays c.dir m r c.factor c.values c.remainder c.choices) f tt (refuted c.dir m r c.factor c.values c.remainder c.choices f wrong).1) e
 
     by_size : (same : Bool) → cond same (exact_check.at_reward m c (place_of c.name m.names)) Size ≡ No f
         → (f.rule ≡ InitialState) ↔ (ExactInitSays c.init (initial_of m) c.values → ⊥)
@@ -114,9 +121,9 @@ bounds_no_of_init refuted m c f known e = by_size (eqb (length c.lower) (states_
     by_reward (Some r) e =
         no_of (BoundsInitSays c.init (initial_of m) c.lower c.upper) (bounds_check.init_check c.init (initial_of m) c.lower c.upper) (bounds_check.checks_of m r c) f
         (bounds_is c.init (initial_of m) c.lower c.upper) (bounds_told c.init (initial_of m) c.lower c.upper)
-        (λ no.
+        (λ wrong.
         says_nothing (bounds_says.DiscountSays c.dir m r c.factor c.lower c.upper c.remainder c.choices) f tt
-        (refuted c.dir m r c.factor c.lower c.upper c.remainder c.choices f known no)) e
+        (refuted c.dir m r c.factor c.lower c.upper c.remainder c.choices f known wrong)) e
 
     by_size : (same : Bool) → cond same (bounds_check.at_reward m c (place_of c.name m.names)) Size ≡ No f
         → (f.rule ≡ InitialState) ↔ (BoundsInitSays c.init (initial_of m) c.lower c.upper → ⊥)

@@ -6,8 +6,12 @@ use Rattle.mdp_spec.specs.{Labels.{initial_of}, Mdp.{Mdp}, Row.{IsMdp}}
 use Rattle.mdp_text.specs.{declared.init.Init.{Init}, declared.init.Init.TheVariants.{Missing, Finite, Infinite, Start}}
 use Rattle.mdp_claims.specs.{declared.rule.Rule.TheVariants.{InitialState}, declared.verdict.Fault.{Fault}}
 use Rattle.mdp_check.specs.Says.{IsValueAt, IsRewardAt}
-use Rattle.mdp_discount_rules.specs.{Cert as exact, Check as exact_check, declared.answer.DiscountAnswer.TheVariants.{No}}
-use Rattle.mdp_discount_bounds.specs.{Cert as bounds, Check as bounds_check, declared.init.InitialBounds.{InitialBounds}}
+use Rattle.mdp_discount_rules.specs.Cert as exact
+use Rattle.mdp_discount_rules.specs.Check as exact_check
+use Rattle.mdp_discount_rules.specs.declared.answer.DiscountAnswer.TheVariants.{No}
+use Rattle.mdp_discount_bounds.specs.Cert as bounds
+use Rattle.mdp_discount_bounds.specs.Check as bounds_check
+use Rattle.mdp_discount_bounds.specs.declared.init.InitialBounds.{InitialBounds}
 
 -- it is that state with its value, which is finite
 abbrev pub ExactInitSays : Init → Option ℕ → List ℚ → Type 0
@@ -19,7 +23,7 @@ ExactInitSays (Start s) initial v = ⊥
 -- it is that state with its two values, each of which may be missing
 abbrev pub BoundsInitSays : Option InitialBounds → Option ℕ → List (Option ℚ) → List (Option ℚ) → Type 0
 BoundsInitSays None initial lower upper = initial ≡ None
-BoundsInitSays (Some init) initial lower upper = (initial ≡ Some init.state) × IsRewardAt lower init.state init.lower × IsRewardAt upper init.state init.upper
+BoundsInitSays (Some init) initial lower upper = (initial ≡ Some init.state) × (IsRewardAt lower init.state init.lower × IsRewardAt upper init.state init.upper)
 
 -- where the answer is no, it names rule 1 exactly where what the line says is false
 abbrev pub ExactNoOfInit : Type 0
