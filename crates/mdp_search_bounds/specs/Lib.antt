@@ -5,3 +5,4 @@ pub mod Values
 pub mod Near
 pub mod Gap
 pub mod Wide
+pub mod Tried

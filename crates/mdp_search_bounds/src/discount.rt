@@ -127,6 +127,12 @@ impl Search for Discounting<'_> {
 
     ghost is_wide = { λ p. IsDiscountWide p.dir p.model.now p.name p.factor.now };
 
+    ghost is_made = { λ p digits near. Unit {0} };
+
+    ghost is_proposed = { λ p digits cert. Unit {0} };
+
+    ghost is_found = { λ p cert. Unit {0} };
+
     fn model(&self) -> &Model {
         self.model
     }

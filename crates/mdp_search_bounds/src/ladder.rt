@@ -1,7 +1,7 @@
 //! The order in which bounds are tried until the rules say yes: one for every objective.
 
 ghost use Rattle.std.specs.Prelude.{◌≡◌, ℕ, ◌↔◌, ◌⊎◌, true, IfOk, IfSome, IfNone};
-ghost use Rattle.mdp_search_bounds.specs.Gap.{ShowsNear};
+ghost use Rattle.mdp_search_bounds.specs.{Gap.{ShowsNear}, Tried.{IsVain, FewerAreVain, AllAreVain}};
 
 use crate::few::{Few, all_flags};
 use crate::gap::Gap;
@@ -13,8 +13,8 @@ use std::alloc::Global;
 /// How many digits more than were asked for are tried where bounds with the most digits aren't near enough: values have less room before the point with these.
 const SPARE_DIGITS: u32 = 6;
 
-/// The numbers of digits that are tried where more of them came to nothing that meets the rules.
-const FEWER_DIGITS: [u32; 5] = [12, 9, 6, 3, 0];
+/// How many numbers of digits are tried where more of them came to nothing that meets the rules: 12, 9, 6, 3 and 0.
+const FEWER_DIGITS: u32 = 5;
 
 /// A search for bounds of one model, under one objective and direction.
 pub(crate) trait Search {
@@ -36,15 +36,27 @@ pub(crate) trait Search {
     // The exact query ends with a term past width, or with an answer of which a check of the rules does.
     ghost is_wide: { Self → Type 0 };
 
+    // The proposal was made with so many digits.
+    ghost is_made: { Self → ℕ → Self.Proposal → Type 0 };
+
+    // The certificate has the bounds of a proposal that was made with so many digits.
+    ghost is_proposed: { Self → ℕ → Self.Cert → Type 0 };
+
+    // The certificate is what the search came to: the bounds of a proposal, the simplest fractions between them, or the exact answer.
+    ghost is_found: { Self → Self.Cert → Type 0 };
+
     /// The model.
     fn model(&self) -> &Model;
 
     /// What the search proposes with so many digits.
-    fn propose(&self, alloc: Global, digits: u32) -> Result<Self::Proposal, Memory>;
+    fn propose(&self, alloc: Global, digits: u32) -> Result<Self::Proposal, Memory>
+        ensures { IfOk result (is_made self.now digits) };
 
     /// The bounds that it proposed.
     fn proposed(&self, alloc: Global, near: &Self::Proposal) -> Result<Self::Cert, Memory>
-        ensures { IfOk result (is_sized self.now) };
+        ensures sized { IfOk result (is_sized self.now) }
+        ensures proposed { (digits : ℕ) → is_made self.now digits near.now → IfOk result (is_proposed self.now digits) }
+        ensures found { IfOk result (is_found self.now) };
 
     /// The simplest fractions between the bounds that it proposed, as exact values, at the flagged states.
     fn simplest(
@@ -53,7 +65,8 @@ pub(crate) trait Search {
         near: &Self::Proposal,
         is_sought: &[bool],
     ) -> Result<Self::Cert, Memory>
-        ensures { IfOk result (is_sized self.now) };
+        ensures sized { IfOk result (is_sized self.now) }
+        ensures found { IfOk result (is_found self.now) };
 
     /// Whether the rules say yes to a certificate at a state, or there is no such state.
     fn holds_at(&self, cert: &Self::Cert, s: u32) -> bool
@@ -67,6 +80,7 @@ pub(crate) trait Search {
     /// The exact answer, as a lower and an upper value that are the same, if its search comes to no term past width.
     fn exact(&self, alloc: Global) -> Result<Option<Self::Cert>, Memory>
         ensures sized { IfOk result (λ found. IfSome found (is_sized self.now)) }
+        ensures found { IfOk result (λ found. IfSome found (is_found self.now)) }
         ensures near { IfOk result (λ found. IfSome found (λ cert. (digits : ℕ) → is_near self.now digits cert)) }
         ensures held { IfOk result (λ found. IfSome found (λ cert. (is_held self.now cert → ⊥) → is_wide self.now)) }
         ensures none { IfOk result (λ found. IfNone found (is_wide self.now)) };
@@ -112,7 +126,8 @@ fn held_exact<S: Search>(
     search: &S,
     near: &S::Proposal,
 ) -> Result<Option<S::Cert>, Memory>
-    ensures { IfOk result (λ found. IfSome found (S.is_held search.now)) }
+    ensures held { IfOk result (λ found. IfSome found (S.is_held search.now)) }
+    ensures found { IfOk result (λ found. IfSome found (S.is_found search.now)) }
 {
     let few = Few::of(alloc, search.model())?;
     let first = search.simplest(alloc, near, &few.is_needed)?;
@@ -130,7 +145,9 @@ fn held_proposed<S: Search>(
     search: &S,
     near: &S::Proposal,
 ) -> Result<Option<S::Cert>, Memory>
-    ensures { IfOk result (λ found. IfSome found (S.is_held search.now)) }
+    ensures held { IfOk result (λ found. IfSome found (S.is_held search.now)) }
+    ensures found { IfOk result (λ found. IfSome found (S.is_found search.now)) }
+    ensures none { (digits : ℕ) → S.is_made search.now digits near.now → IfOk result (λ found. IfNone found (IsVain (S.is_proposed search.now) (S.is_held search.now) digits)) }
 {
     let cert = search.proposed(alloc, near)?;
     Ok(held(search, cert))
@@ -138,7 +155,9 @@ fn held_proposed<S: Search>(
 
 /// What the search proposes with so many digits, where the rules say yes to it: first the simplest fractions between its bounds, as exact values.
 fn held_near<S: Search>(alloc: Global, search: &S, digits: u32) -> Result<Option<S::Cert>, Memory>
-    ensures { IfOk result (λ found. IfSome found (S.is_held search.now)) }
+    ensures held { IfOk result (λ found. IfSome found (S.is_held search.now)) }
+    ensures found { IfOk result (λ found. IfSome found (S.is_found search.now)) }
+    ensures none { IfOk result (λ found. IfNone found (IsVain (S.is_proposed search.now) (S.is_held search.now) digits)) }
 {
     let near = search.propose(alloc, digits)?;
     if let Some(exact) = held_exact(alloc, search, &near)? {
@@ -162,7 +181,8 @@ fn held_short<S: Search>(
     fine: Gap,
     digits: u32,
 ) -> Result<Option<S::Cert>, Memory>
-    ensures { IfOk result (λ found. IfSome found (S.is_held search.now)) }
+    ensures held { IfOk result (λ found. IfSome found (S.is_held search.now)) }
+    ensures found { IfOk result (λ found. IfSome found (S.is_found search.now)) }
 {
     let enough = fine.enough(digits);
     if !fine.is_near(digits) || enough >= MOST_DIGITS {
@@ -183,7 +203,9 @@ fn held_with_most<S: Search>(
     search: &S,
     digits: u32,
 ) -> Result<Option<S::Cert>, Memory>
-    ensures { IfOk result (λ found. IfSome found (S.is_held search.now)) }
+    ensures held { IfOk result (λ found. IfSome found (S.is_held search.now)) }
+    ensures found { IfOk result (λ found. IfSome found (S.is_found search.now)) }
+    ensures none { IfOk result (λ found. IfNone found (IsVain (S.is_proposed search.now) (S.is_held search.now) 30)) }
 {
     let most = search.propose(alloc, MOST_DIGITS)?;
     if let Some(exact) = held_exact(alloc, search, &most)? {
@@ -204,7 +226,8 @@ fn held_between<S: Search>(
     others: Gap,
     digits: u32,
 ) -> Result<Option<S::Cert>, Memory>
-    ensures { IfOk result (λ found. IfSome found (S.is_held search.now)) }
+    ensures held { IfOk result (λ found. IfSome found (S.is_held search.now)) }
+    ensures found { IfOk result (λ found. IfSome found (S.is_found search.now)) }
 {
     let between = digits.saturating_add(SPARE_DIGITS);
     if between >= MOST_DIGITS {
@@ -219,7 +242,9 @@ fn held_between<S: Search>(
 
 /// What the search finds, where the rules say yes to it: with the most digits, or with fewer where these aren't as near as `digits` say and fewer are nearer.
 fn held_found<S: Search>(alloc: Global, search: &S, digits: u32) -> Result<Option<S::Cert>, Memory>
-    ensures { IfOk result (λ found. IfSome found (S.is_held search.now)) }
+    ensures held { IfOk result (λ found. IfSome found (S.is_held search.now)) }
+    ensures found { IfOk result (λ found. IfSome found (S.is_found search.now)) }
+    ensures none { IfOk result (λ found. IfNone found (IsVain (S.is_proposed search.now) (S.is_held search.now) 30)) }
 {
     let found = held_with_most(alloc, search, digits)?;
     let gap = gap_of(search, &found);
@@ -234,10 +259,12 @@ fn held_found<S: Search>(alloc: Global, search: &S, digits: u32) -> Result<Optio
 
 /// What the search proposes with few digits, the most of them for which the rules say yes to it.
 fn held_with_fewer<S: Search>(alloc: Global, search: &S) -> Result<Option<S::Cert>, Memory>
-    ensures { IfOk result (λ found. IfSome found (S.is_held search.now)) }
+    ensures held { IfOk result (λ found. IfSome found (S.is_held search.now)) }
+    ensures found { IfOk result (λ found. IfSome found (S.is_found search.now)) }
+    ensures none { IfOk result (λ found. IfNone found (FewerAreVain (S.is_proposed search.now) (S.is_held search.now))) }
 {
-    for fewer in FEWER_DIGITS {
-        if let Some(cert) = held_near(alloc, search, fewer)? {
+    for k in 0..FEWER_DIGITS {
+        if let Some(cert) = held_near(alloc, search, 12 - 3 * k)? {
             return Ok(Some(cert));
         }
     }
@@ -247,6 +274,7 @@ fn held_with_fewer<S: Search>(alloc: Global, search: &S) -> Result<Option<S::Cer
 /// The exact answer, where the rules say yes to it.
 fn held_answer<S: Search>(alloc: Global, search: &S) -> Result<Option<S::Cert>, Memory>
     ensures held { IfOk result (λ found. IfSome found (S.is_held search.now)) }
+    ensures found { IfOk result (λ found. IfSome found (S.is_found search.now)) }
     ensures near { IfOk result (λ found. IfSome found (λ cert. (digits : ℕ) → S.is_near search.now digits cert)) }
     ensures none { IfOk result (λ found. IfNone found (S.is_wide search.now)) }
 {
@@ -262,8 +290,11 @@ fn answer_or<S: Search>(
     search: &S,
     found: Option<S::Cert>,
 ) -> Result<S::Cert, Memory>
-    requires { IfSome found (S.is_held search.now) }
+    requires held { IfSome found (S.is_held search.now) }
+    requires found { IfSome found (S.is_found search.now) }
+    requires none { IfNone found (IsVain (S.is_proposed search.now) (S.is_held search.now) 30) }
     ensures held { IfOk result (S.is_held search.now) }
+    ensures found { IfOk result (λ cert. S.is_found search.now cert ⊎ AllAreVain (S.is_proposed search.now) (S.is_held search.now)) }
     ensures near { IfOk result (λ cert. ((digits : ℕ) → S.is_near search.now digits cert) ⊎ S.is_wide search.now) }
 {
     if let Some(answer) = held_answer(alloc, search)? {
@@ -286,6 +317,8 @@ pub(crate) fn bounds_by<S: Search>(
     digits: u32,
 ) -> Result<S::Cert, Memory>
     ensures held { IfOk result (S.is_held search.now) }
+    // What the search didn't come to is answered only where the rules hold of nothing that it proposed.
+    ensures found { IfOk result (λ cert. S.is_found search.now cert ⊎ AllAreVain (S.is_proposed search.now) (S.is_held search.now)) }
     ensures near { IfOk result (λ cert. S.is_near search.now digits cert ⊎ S.is_wide search.now) }
 {
     let Some(cert) = held_found(alloc, search, digits)? else {

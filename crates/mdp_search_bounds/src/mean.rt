@@ -60,6 +60,12 @@ impl Search for Averaging<'_> {
 
     ghost is_wide = { λ p. IsMeanWide p.dir p.model.now p.name };
 
+    ghost is_made = { λ p digits near. Unit {0} };
+
+    ghost is_proposed = { λ p digits cert. Unit {0} };
+
+    ghost is_found = { λ p cert. Unit {0} };
+
     fn model(&self) -> &Model {
         self.model
     }

@@ -39,6 +39,12 @@ impl Search for Reaching<'_, '_> {
 
     ghost is_wide = { λ p. IsReachWide p.dir p.model.now p.goals.now };
 
+    ghost is_made = { λ p digits near. Unit {0} };
+
+    ghost is_proposed = { λ p digits cert. Unit {0} };
+
+    ghost is_found = { λ p cert. Unit {0} };
+
     fn model(&self) -> &Model {
         self.model
     }

@@ -50,6 +50,12 @@ impl Search for Earning<'_, '_> {
 
     ghost is_wide = { λ p. IsRewardWide p.dir p.model.now p.name p.goals.now };
 
+    ghost is_made = { λ p digits near. Unit {0} };
+
+    ghost is_proposed = { λ p digits cert. Unit {0} };
+
+    ghost is_found = { λ p cert. Unit {0} };
+
     fn model(&self) -> &Model {
         self.model
     }
