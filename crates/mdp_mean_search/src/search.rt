@@ -1,15 +1,15 @@
 //! One search, with values of one scale: gains of end components, gains of all states, and relative values of those where end components are left.
 
-use crate::leaving::{leaving_rows, policy_rows};
-use crate::payoffs::Payoffs;
-use crate::values::{all_known, known_range};
-use mdp_num::Frac;
-use mdp_reach_search::{Backward, Gathered, policy_of};
+ghost use Rattle.mdp_parts.specs.FoundEnds.{AreEndsOf};
+
+use mdp_num::{Frac, Memory};
+use mdp_parts::Ends;
+use mdp_reach_search::{Earning, Layout, led_policy, picked_choices};
 use mdp_refinement::{
-    Bound, EndGains, Nodes, Rows, Scale, Solution, Task, Value, item_at, put, quotient, solve,
-    value_at,
+    Bound, Components, EndGains, Nodes, Rows, Scale, Solution, Task, Value, WholeRow, flag_at,
+    item_at, put, quotient, solve, value_at,
 };
-use mdp_rows::Model;
+use mdp_rows::Pred;
 use std::alloc::{AllocError, Global};
 use std::cmp::Ordering;
 
@@ -74,22 +74,24 @@ impl Found {
     }
 }
 
-/// The model, the choices that lead to each state, the nodes that end components and the other states are, and each state as a node of its own.
+/// The nodes that end components and the other states are, and each state as a node of its own; and the end components, each in the order in which it is best
+/// solved.
 #[derive(Drop)]
 pub(crate) struct Places {
-    pub(crate) backward: Backward,
     pub(crate) nodes: Nodes,
     pub(crate) states: Nodes,
+    pub(crate) components: Components,
 }
 
-/// What all steps of a search need: the rows of all choices, none of which was too wide, what is known of end components, the choices that stay in these,
-/// and the scale of relative values where they are left, which has so many units for one.
+/// What all steps of a search need: what choices earn, the maximal end components, the rows of all choices, none of which was too wide, what is known of the
+/// gains of end components, the choices that stay in these, and the scale of relative values where they are left, which has so many units for one.
 #[derive(Clone, Copy)]
-pub(crate) struct Search<'m, 'a> {
-    pub(crate) payoffs: Payoffs<'m>,
+pub(crate) struct Search<'a> {
+    pub(crate) earning: Earning<'a>,
+    pub(crate) ends: &'a Ends,
     pub(crate) places: &'a Places,
     pub(crate) rows: &'a Rows,
-    pub(crate) ends: &'a EndGains,
+    pub(crate) gains: &'a EndGains,
     pub(crate) inner: &'a [u32],
     pub(crate) coarse: Scale,
     pub(crate) units: i128,
@@ -97,7 +99,7 @@ pub(crate) struct Search<'m, 'a> {
 
 /// The scale of relative values where end components are left, beside gains of this one: how near they are costs the gains nothing, so what they have fewer
 /// digits behind the point they have more before it.
-pub(crate) fn coarse(scale: Scale) -> Scale {
+pub(crate) fn coarse_scale(scale: Scale) -> Scale {
     let digits = scale
         .digits
         .min(FEW_DIGITS.max((scale.digits / 3).saturating_mul(2)));
@@ -108,14 +110,22 @@ pub(crate) fn coarse(scale: Scale) -> Scale {
     }
 }
 
-/// What is sought: values that are the greatest, of this bound.
-fn task(bound: Bound, anyway: Option<i128>) -> Task {
-    Task {
+/// The greatest values of this bound on rows: to the end where a bound is known that holds anyway.
+fn solved(
+    alloc: Global,
+    rows: &Rows,
+    given: &[Value],
+    bound: Bound,
+    anyway: Option<i128>,
+    other: Option<&Solution>,
+) -> Result<Solution, AllocError> {
+    let task = Task {
         is_max: true,
         bound,
         anyway,
         to_end: anyway.is_some(),
-    }
+    };
+    solve(alloc, rows, given, task, other)
 }
 
 /// Values of nodes, 0 for those that have no rows.
@@ -129,90 +139,105 @@ fn given_ends(alloc: Global, rows: &Rows, nodes: u32) -> Result<Vec<Value>, Allo
     Ok(given)
 }
 
-/// Whether a row that stops was picked.
-fn is_stop(rows: &Rows, pick: Option<usize>) -> bool {
-    match rows.picked(pick) {
-        Some(row) => row.is_stop(),
-        None => false,
-    }
-}
-
-/// Takes the picks of rows that stop away.
-fn take_stops(rows: &Rows, picks: &mut [Option<usize>]) {
-    for place in 0..picks.len() {
-        if is_stop(rows, picks[place]) {
-            picks[place] = None;
+/// The least and the greatest of the values that are known; 0 where none is.
+fn known_range(values: &[Value]) -> (i128, i128) {
+    let mut range = None;
+    for value in values {
+        if let Some(units) = value.units() {
+            let (least, greatest) = range.unwrap_or((units, units));
+            range = Some((units.min(least), units.max(greatest)));
         }
     }
+    range.unwrap_or((0, 0))
 }
 
-/// The policy that comes to the picks of the nodes, and takes the given choices at the others.
-fn led_policy<'x>(
-    alloc: Global,
-    model: &'x Model,
-    places: &'x Places,
-    rows: &Rows,
-    picks: &[Option<usize>],
-    given: &[u32],
-) -> Result<Vec<u32>, AllocError> {
-    let gathered = Gathered {
-        model,
-        backward: &places.backward,
-        nodes: &places.nodes,
-        inner: None,
-    };
-    policy_of(alloc, gathered, rows, picks, given)
+/// The gains of nodes for one bound, what they were found from, and the choices by which nodes are left.
+#[derive(Drop)]
+struct NodeGains {
+    gains: Vec<i128>,
+    solution: Solution,
+    picked: Vec<Pred>,
 }
 
-impl Search<'_, '_> {
-    /// Whether a state lies in an end component.
-    fn is_in_end(self, s: u32) -> bool {
-        item_at(&self.ends.picks, s as usize, None).is_some()
+impl<'a> Search<'a> {
+    /// The gains of end components for this bound.
+    fn end_gains(self, bound: Bound) -> &'a [Value] {
+        match bound {
+            Bound::Lower => &self.gains.lower,
+            Bound::Upper => &self.gains.upper,
+        }
     }
 
-    /// For each state the gain of its node, within the gains of end components.
-    fn spread(
-        self,
-        alloc: Global,
-        values: &[Value],
-        range: (i128, i128),
-    ) -> Result<Vec<i128>, AllocError> {
+    /// The biases that meet a bound in end components.
+    fn biases(self, bound: Bound) -> &'a [Value] {
+        match bound {
+            Bound::Lower => &self.gains.bias,
+            Bound::Upper => &self.gains.bound,
+        }
+    }
+
+    /// For each state the gain of its node, from the least to the greatest gain of an end component.
+    fn spread(self, alloc: Global, values: &[Value]) -> Result<Vec<i128>, AllocError> {
+        let least = known_range(&self.gains.lower).0;
+        let greatest = known_range(&self.gains.upper).1;
         let mut spread = vec![in alloc; 0i128; self.inner.len()]?;
-        for s in 0..self.payoffs.model.states() {
-            let gain = value_at(values, self.places.nodes.of(s)).unwrap_or(range.0);
-            put(&mut spread, s, gain.max(range.0).min(range.1));
+        for s in 0..self.earning.model.states() {
+            let gain = value_at(values, self.places.nodes.of(s)).unwrap_or(least);
+            put(&mut spread, s, gain.max(least).min(greatest));
         }
         Ok(spread)
     }
 
-    /// The biases that meet a bound in end components.
-    fn biases(&self, bound: Bound) -> &[Value] {
-        match bound {
-            Bound::Lower => &self.ends.bias,
-            Bound::Upper => &self.ends.bound,
-        }
+    /// The greatest gains of the nodes: to stop in an end component with its gain, or to leave it. The search begins with what was found for the other bound.
+    fn node_gains(
+        self,
+        alloc: Global,
+        scale: Scale,
+        bound: Bound,
+        other: Option<&Solution>,
+    ) -> Result<NodeGains, AllocError> {
+        let nodes = &self.places.nodes;
+        let nothing = Earning {
+            name: None,
+            ..self.earning
+        };
+        let layout = Layout {
+            stops: self.end_gains(bound),
+            ..Layout::new(nothing, nodes)
+        };
+        let rows = layout.rows(alloc, scale)?;
+        let given = vec![in alloc; Value::none(); nodes.count() as usize]?;
+        let (least, greatest) = known_range(self.end_gains(bound));
+        let anyway = match bound {
+            Bound::Lower => least,
+            Bound::Upper => greatest,
+        };
+        let solution = solved(alloc, &rows, &given, bound, Some(anyway), other)?;
+        Ok(NodeGains {
+            gains: self.spread(alloc, &solution.values)?,
+            picked: picked_choices(alloc, &rows, &solution.picks)?,
+            solution,
+        })
     }
 
-    /// What a choice earns over the bias and the gain of its state, in coarse units times the denominator of its row, rounded so that it is a bound. None past
-    /// 128 bits.
-    fn earned_over(self, s: u32, c: u32, gains: &[i128], bound: Bound) -> Option<i128> {
-        let place = self.rows.range_of(s).0.checked_add(c as usize)?;
-        let row = self.rows.row(place)?;
-        let gain = item_at(gains, s as usize, 0);
-        let excess = self.rows.excess(row, self.biases(bound))?;
-        let over = excess.checked_sub(row.denominator.checked_mul(gain)?)?;
+    /// What the choice of a row earns over the bias and the gain of its state, in coarse units times the denominator of the row, rounded so that it is a bound.
+    /// None past 128 bits.
+    fn earned_over(self, row: &WholeRow, gains: &[i128], bound: Bound) -> Option<i128> {
+        let first = self.rows.range_of(row.state).0;
+        let fine = self.rows.row(first.checked_add(row.choice as usize)?)?;
+        let gain = item_at(gains, row.state as usize, 0);
+        let excess = self.rows.excess(fine, self.biases(bound))?;
+        let over = excess.checked_sub(fine.denominator.checked_mul(gain)?)?;
         quotient(over, self.units, bound)
     }
 
-    /// Gives the rows of a node as rewards what their choices earn over the bias and the gains of their states. Whether that was possible.
-    fn offset_node(self, rows: &mut Rows, node: u32, gains: &[i128], bound: Bound) -> bool {
-        let (from, to) = rows.range_of(node);
-        for place in from..to {
-            let earned = match rows.row(place) {
-                Some(row) => self.earned_over(row.state, row.choice, gains, bound),
-                None => None,
+    /// Gives all rows as rewards what their choices earn over the bias and the gains of their states. Whether that was possible.
+    fn offset(self, rows: &mut Rows, gains: &[i128], bound: Bound) -> bool {
+        for place in 0..usize::MAX {
+            let Some(row) = rows.row(place).copied() else {
+                break;
             };
-            match earned {
+            match self.earned_over(&row, gains, bound) {
                 Some(reward) => rows.set_reward(place, reward),
                 None => return false,
             }
@@ -220,38 +245,9 @@ impl Search<'_, '_> {
         true
     }
 
-    /// Gives all rows as rewards what their choices earn over the bias and the gains of their states. Whether that was possible.
-    fn offset(self, rows: &mut Rows, nodes: &Nodes, gains: &[i128], bound: Bound) -> bool {
-        for node in 0..nodes.count() {
-            if !self.offset_node(rows, node, gains, bound) {
-                return false;
-            }
-        }
-        true
-    }
-
-    /// The bias of a state with so many coarse units more. None past 128 bits.
-    fn with_offset(self, s: u32, more: i128, bound: Bound) -> Option<i128> {
-        value_at(self.biases(bound), s)?.checked_add(more.checked_mul(self.units)?)
-    }
-
-    /// The biases of the states with so many coarse units more at their nodes. None past 128 bits.
-    fn with_offsets(
-        self,
-        alloc: Global,
-        nodes: &Nodes,
-        offsets: &[i128],
-        bound: Bound,
-    ) -> Result<Option<Vec<i128>>, AllocError> {
-        let mut biases = vec![in alloc; 0i128; self.inner.len()]?;
-        for s in 0..self.payoffs.model.states() {
-            let more = item_at(offsets, nodes.of(s) as usize, 0);
-            match self.with_offset(s, more, bound) {
-                Some(bias) => put(&mut biases, s, bias),
-                None => return Ok(None),
-            }
-        }
-        Ok(Some(biases))
+    /// The bias of a state with as many coarse units more as its node has. None past 128 bits, or where that isn't known.
+    fn with_offset(self, s: u32, offset: Option<i128>, bound: Bound) -> Option<i128> {
+        value_at(self.biases(bound), s)?.checked_add(offset?.checked_mul(self.units)?)
     }
 
     /// Gains with the biases that meet the bound in end components, and so many more at each node that they meet it on these rows too, where that is found.
@@ -259,102 +255,75 @@ impl Search<'_, '_> {
         self,
         alloc: Global,
         gains: Vec<i128>,
-        rows: Rows,
-        nodes: &Nodes,
+        layout: Layout<'_>,
         bound: Bound,
     ) -> Result<Option<Column>, AllocError> {
-        let mut rows = rows;
-        let given = given_ends(alloc, &rows, nodes.count())?;
-        if !self.offset(&mut rows, nodes, &gains, bound) {
+        let mut rows = layout.rows(alloc, self.coarse)?;
+        let given = given_ends(alloc, &rows, layout.nodes.count())?;
+        if !self.offset(&mut rows, &gains, bound) {
             return Ok(None);
         }
-        let solution = solve(alloc, &rows, &given, task(bound, None), None)?;
-        if !solution.is_full {
-            return Ok(None);
+        let found = solved(alloc, &rows, &given, bound, None, None)?;
+        let mut relative = vec![in alloc; 0i128; gains.len()]?;
+        for s in 0..self.earning.model.states() {
+            let offset = value_at(&found.values, layout.nodes.of(s));
+            match self.with_offset(s, offset, bound) {
+                Some(bias) if found.is_full => put(&mut relative, s, bias),
+                _ => return Ok(None),
+            }
         }
-        let Some(offsets) = all_known(alloc, &solution.values)? else {
-            return Ok(None);
-        };
-        match self.with_offsets(alloc, nodes, &offsets, bound)? {
-            Some(relative) => Ok(Some(Column { gains, relative })),
-            None => Ok(None),
-        }
+        Ok(Some(Column { gains, relative }))
     }
 
-    /// At which states the policy with these picks stays in an end component.
-    fn staying(self, alloc: Global, picks: &[Option<usize>]) -> Result<Vec<bool>, AllocError> {
-        let mut is_staying = vec![in alloc; false; self.inner.len()]?;
-        for s in 0..self.payoffs.model.states() {
-            let pick = item_at(picks, self.places.nodes.of(s) as usize, None);
-            put(&mut is_staying, s, pick.is_none() && self.is_in_end(s));
-        }
-        Ok(is_staying)
-    }
-
-    /// The greatest gains of the nodes: to stop in an end component with its gain, or to leave it.
-    fn gains(
-        self,
-        alloc: Global,
-        rows: &Rows,
-        bound: Bound,
-        anyway: i128,
-        other: Option<&Solution>,
-    ) -> Result<Solution, AllocError> {
-        let given = vec![in alloc; Value::none(); self.places.nodes.count() as usize]?;
-        solve(alloc, rows, &given, task(bound, Some(anyway)), other)
-    }
-
-    /// The upper gains with their relative values, and what they were found from.
-    fn upper(
-        self,
-        alloc: Global,
-        scale: Scale,
-        range: (i128, i128),
-    ) -> Result<(Option<Column>, Solution), AllocError> {
-        let (payoffs, nodes) = (self.payoffs, &self.places.nodes);
-        let rows = leaving_rows(alloc, payoffs, nodes, &self.ends.upper, false, scale)?;
-        let found = self.gains(alloc, &rows, Bound::Upper, range.1, None)?;
-        let gains = self.spread(alloc, &found.values, range)?;
-        let own = leaving_rows(alloc, payoffs, nodes, &[], true, self.coarse)?;
-        let column = self.column(alloc, gains, own, nodes, Bound::Upper)?;
-        Ok((column, found))
-    }
-
-    /// The lower gains with their relative values, and the policy that comes to them.
-    fn lower(
-        self,
-        alloc: Global,
-        scale: Scale,
-        range: (i128, i128),
-        upper: &Solution,
-    ) -> Result<(Option<Column>, Vec<u32>), AllocError> {
-        let (payoffs, states) = (self.payoffs, &self.places.states);
+    /// A value for each state where a policy stays in its end component: that of a node that isn't left by one of these choices.
+    fn staying(self, alloc: Global, picked: &[Pred]) -> Result<Vec<Value>, AllocError> {
         let nodes = &self.places.nodes;
-        let rows = leaving_rows(alloc, payoffs, nodes, &self.ends.lower, false, scale)?;
-        let mut found = self.gains(alloc, &rows, Bound::Lower, range.0, Some(upper))?;
-        take_stops(&rows, &mut found.picks);
-        let gains = self.spread(alloc, &found.values, range)?;
-        let model = self.payoffs.model;
-        let choices = led_policy(alloc, model, self.places, &rows, &found.picks, self.inner)?;
-        let is_staying = self.staying(alloc, &found.picks)?;
-        let own = policy_rows(alloc, payoffs, states, &choices, &is_staying, self.coarse)?;
-        let column = self.column(alloc, gains, own, states, Bound::Lower)?;
+        let mut is_left = vec![in alloc; false; nodes.count() as usize]?;
+        for pick in picked {
+            put(&mut is_left, nodes.of(pick.state), true);
+        }
+        let mut staying = vec![in alloc; Value::none(); self.inner.len()]?;
+        for s in 0..self.earning.model.states() {
+            let is_inside = item_at(&self.gains.picks, s as usize, None).is_some();
+            if is_inside && !flag_at(&is_left, nodes.of(s)) {
+                put(&mut staying, s, Value::known(0));
+            }
+        }
+        Ok(staying)
+    }
+
+    /// The lower gains with their relative values, on the rows of a policy that comes to them, and that policy.
+    fn lower(self, alloc: Global, found: NodeGains) -> Result<(Option<Column>, Vec<u32>), Memory>
+        requires { AreEndsOf self.earning.model.now self.ends.now }
+    {
+        let (model, picked) = (self.earning.model, &found.picked);
+        let choices = led_policy(alloc, model, self.ends, picked, self.inner)?;
+        let staying = self.staying(alloc, picked)?;
+        let layout = Layout {
+            policy: Some(&choices),
+            known: &staying,
+            ..Layout::new(self.earning, &self.places.states)
+        };
+        let column = self.column(alloc, found.gains, layout, Bound::Lower)?;
         Ok((column, choices))
     }
 
     /// Upper and lower gains of all states, which have this scale.
-    pub(crate) fn run(self, alloc: Global, scale: Scale) -> Result<Found, AllocError> {
-        let ends = self.ends;
-        let range = (known_range(&ends.lower).0, known_range(&ends.upper).1);
-        let (upper, solution) = self.upper(alloc, scale, range)?;
-        let (lower, choices) = self.lower(alloc, scale, range, &solution)?;
+    pub(crate) fn run(self, alloc: Global, scale: Scale) -> Result<Found, Memory>
+        requires { AreEndsOf self.earning.model.now self.ends.now }
+    {
+        let above = self.node_gains(alloc, scale, Bound::Upper, None)?;
+        let below = self.node_gains(alloc, scale, Bound::Lower, Some(&above.solution))?;
+        let leaving = Layout::new(self.earning, &self.places.nodes);
+        let upper = self.column(alloc, above.gains, leaving, Bound::Upper)?;
+        let (lower, choices) = self.lower(alloc, below)?;
         Ok(Found {
             upper,
             lower,
             choices,
             digits: scale.digits,
-            width: Frac::try_new(ends.width, self.rows.one()).ok(),
-            is_near: ends.is_near,
+            width: Frac::try_new(self.gains.width, self.rows.one()).ok(),
+            is_near: self.gains.is_near,
         })
     }
 }

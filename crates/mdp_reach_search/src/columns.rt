@@ -1,150 +1,210 @@
-//! Both columns of bounds, the lower and the upper values, with the most digits for which components can be refined.
+//! Both columns of bounds, the lower and the upper values, each with the most digits for which components can be refined.
 
+use crate::layout::Layout;
 use mdp_num::Frac;
 use mdp_proposals::fraction;
-use mdp_refinement::{Bound, Rows, Scale, Solution, Task, Value, solve, value_at};
+use mdp_refinement::{
+    Bound, Rows, Scale, Solution, Task, Value, append, flag_at, put, solve, value_at,
+};
+use mdp_rows::{Dir, Pred};
 use std::alloc::{AllocError, Global};
 
-/// How many digits fewer are tried, one after the other.
-const FEWER_DIGITS: [u32; 12] = [0, 1, 3, 6, 9, 12, 15, 18, 21, 24, 27, 30];
+/// How many digits fewer are tried for a bound, one after the other.
+const FEWER_DIGITS: [u32; 11] = [1, 3, 6, 9, 12, 15, 18, 21, 24, 27, 30];
 
-/// What is sought: the best values of nodes.
-pub trait Sought {
-    /// Whether the greatest values are sought, and not the least.
-    fn is_max(&self) -> bool;
-
-    /// The rows of the nodes, for values of this scale.
-    fn rows(&self, alloc: Global, scale: Scale) -> Result<Rows, AllocError>;
-
-    /// The values of nodes that are given, in units of 1 over `one`.
-    fn given(&self, alloc: Global, one: i128) -> Result<Vec<Value>, AllocError>;
-
-    /// A value that is such a bound of each node whatever its rows are, in units of 1 over `one`, if there is one.
-    fn anyway(&self, bound: Bound, one: i128) -> Option<i128>;
-
-    /// The least and the greatest value that the rules ask for, in units of 1 over `one`: where values beyond them are put to them, the rules hold as before.
-    fn limits(&self, one: i128) -> (i128, i128);
+/// What is sought: the best values of nodes, which lie from the least to the greatest number, where there are such. Where values beyond these are put to them,
+/// the rules hold as before.
+#[derive(Clone, Copy)]
+pub struct Sought<'a> {
+    pub layout: Layout<'a>,
+    pub dir: Dir,
+    pub least: Option<i128>,
+    pub greatest: Option<i128>,
+    pub scale: Scale,
 }
 
-/// Solves for one bound, by what was found for the other on the same rows. It ends with the first component that can't be refined, unless it is to go to
-/// the end.
-pub fn solved<S: Sought>(
-    alloc: Global,
-    sought: &S,
-    rows: &Rows,
-    bound: Bound,
-    to_end: bool,
-    other: Option<&Solution>,
-) -> Result<Solution, AllocError> {
-    let one = rows.one();
-    let task = Task {
-        is_max: sought.is_max(),
-        bound,
-        anyway: sought.anyway(bound, one),
-        to_end,
-    };
-    let given = sought.given(alloc, one)?;
-    solve(alloc, rows, &given, task, other)
+/// What the search came to for one bound: the values of nodes in units of 1 over `one`, and the choices that it picked.
+#[derive(Drop)]
+pub struct Column {
+    pub one: i128,
+    pub values: Vec<Value>,
+    pub picked: Vec<Pred>,
+    is_full: bool,
 }
 
-/// What the search came to for both bounds, on the same rows.
+/// Both bounds.
 #[derive(Drop)]
 pub struct Columns {
-    pub rows: Rows,
-    pub scale: Scale,
-    pub lower: Solution,
-    pub upper: Solution,
+    pub lower: Column,
+    pub upper: Column,
 }
 
-/// The value of a node in a solution, put within the limits; none where none was found.
-pub fn value_of<S: Sought>(
-    sought: &S,
+/// The choices of the rows that were picked, but for those that stop.
+pub fn picked_choices(
+    alloc: Global,
     rows: &Rows,
-    solution: &Solution,
-    node: u32,
-) -> Option<Frac> {
-    let one = rows.one();
-    let (least, greatest) = sought.limits(one);
-    let value = value_at(&solution.values, node)?;
-    Some(fraction(value.max(least).min(greatest), one))
+    picks: &[Option<usize>],
+) -> Result<Vec<Pred>, AllocError> {
+    let mut picked = Vec::new(alloc);
+    for pick in picks {
+        match rows.picked(*pick) {
+            Some(row) if !row.is_stop() => {
+                let (state, choice) = (row.state, row.choice);
+                append(&mut picked, Pred { state, choice })?;
+            }
+            _ => {}
+        }
+    }
+    Ok(picked)
 }
 
 impl Columns {
-    /// Solves for both bounds with values of this scale.
-    pub(crate) fn new<S: Sought>(
+    /// The choices that a policy is to come to: those that were picked for the lower bound of greatest values, or for the upper one of least values.
+    pub fn picked(&self, dir: Dir) -> &[Pred] {
+        match dir {
+            Dir::Max => &self.lower.picked,
+            Dir::Min => &self.upper.picked,
+        }
+    }
+}
+
+impl Sought<'_> {
+    /// The least or the greatest number in units of 1 over `one`.
+    fn limit(self, bound: Bound, one: i128) -> Option<i128> {
+        match bound {
+            Bound::Lower => self.least?.checked_mul(one),
+            Bound::Upper => self.greatest?.checked_mul(one),
+        }
+    }
+
+    /// The values of the nodes whose states have a known value, in units of 1 over `one`.
+    fn given(self, alloc: Global, one: i128) -> Result<Vec<Value>, AllocError> {
+        let nodes = self.layout.nodes;
+        let mut given = vec![in alloc; Value::none(); nodes.count() as usize]?;
+        for state in nodes.order() {
+            if let Some(known) = value_at(self.layout.known, *state) {
+                put(
+                    &mut given,
+                    nodes.of(*state),
+                    Value::known(known.saturating_mul(one)),
+                );
+            }
+        }
+        Ok(given)
+    }
+
+    /// Solves for one bound, by what was found for the other on the same rows. It ends with the first component that can't be refined, unless it is to go to
+    /// the end.
+    fn solved(
+        self,
         alloc: Global,
-        sought: &S,
-        scale: Scale,
+        rows: &Rows,
+        bound: Bound,
         to_end: bool,
-    ) -> Result<Columns, AllocError> {
-        let rows = sought.rows(alloc, scale)?;
-        let lower = solved(alloc, sought, &rows, Bound::Lower, to_end, None)?;
-        let upper = upper_by(alloc, sought, &rows, to_end, &lower)?;
+        other: Option<&Solution>,
+    ) -> Result<Solution, AllocError> {
+        let one = rows.one();
+        let task = Task {
+            is_max: self.dir == Dir::Max,
+            bound,
+            anyway: self.limit(bound, one),
+            to_end,
+        };
+        solve(alloc, rows, &self.given(alloc, one)?, task, other)
+    }
+
+    /// The same bound with the most digits, fewer than those of the scale, for which all components can be refined; else as far as the search goes with those of
+    /// the scale. Where fewer digits are tried there is at least as much room before the point as digits are left out.
+    fn coarser(self, alloc: Global, bound: Bound) -> Result<Column, AllocError> {
+        for fewer in FEWER_DIGITS {
+            let scale = Scale {
+                digits: self.scale.digits.saturating_sub(fewer),
+                room: self.scale.room.max(fewer),
+            };
+            let rows = self.layout.rows(alloc, scale)?;
+            let solution = self.solved(alloc, &rows, bound, false, None)?;
+            if solution.is_full {
+                return Column::of(alloc, &rows, solution);
+            }
+            if scale.digits == 0 {
+                break;
+            }
+        }
+        let rows = self.layout.rows(alloc, self.scale)?;
+        let solution = self.solved(alloc, &rows, bound, true, None)?;
+        Column::of(alloc, &rows, solution)
+    }
+
+    /// Both bounds with the digits of the scale, as far as the search goes with them.
+    pub fn columns(self, alloc: Global, to_end: bool) -> Result<Columns, AllocError> {
+        let rows = self.layout.rows(alloc, self.scale)?;
+        let lower = self.solved(alloc, &rows, Bound::Lower, to_end, None)?;
+        let other = if lower.is_full || to_end {
+            Some(&lower)
+        } else {
+            None
+        };
+        let upper = self.solved(alloc, &rows, Bound::Upper, to_end, other)?;
         Ok(Columns {
-            rows,
-            scale,
-            lower,
-            upper,
+            lower: Column::of(alloc, &rows, lower)?,
+            upper: Column::of(alloc, &rows, upper)?,
         })
     }
 
-    /// The rows that were picked for the bound that a policy is to come to: the lower one of greatest values, the upper one of least values.
-    pub fn picks(&self, is_max: bool) -> &[Option<usize>] {
-        if is_max {
-            &self.lower.picks
-        } else {
-            &self.upper.picks
+    /// Each bound with the digits of the scale, or with fewer where components can't be refined with these.
+    pub fn refined_columns(self, alloc: Global) -> Result<Columns, AllocError> {
+        let mut columns = self.columns(alloc, false)?;
+        if !columns.lower.is_full {
+            columns.lower = self.coarser(alloc, Bound::Lower)?;
         }
+        if !columns.upper.is_full {
+            columns.upper = self.coarser(alloc, Bound::Upper)?;
+        }
+        Ok(columns)
     }
 
-    /// Goes to the end for a bound for which it didn't, if it did for the other one. Whether it did.
-    fn finish<S: Sought>(&mut self, alloc: Global, sought: &S) -> Result<bool, AllocError> {
-        if !self.lower.is_full && self.upper.is_full {
-            self.lower = solved(alloc, sought, &self.rows, Bound::Lower, true, None)?;
-            return Ok(true);
+    /// The value of a state in units of 1 over `one` of the column, put within the limits; none where none was found.
+    pub fn units_at(self, column: &Column, state: u32) -> Option<i128> {
+        let value = value_at(&column.values, self.layout.nodes.of(state))?;
+        let least = self.limit(Bound::Lower, column.one).unwrap_or(i128::MIN);
+        let greatest = self.limit(Bound::Upper, column.one).unwrap_or(i128::MAX);
+        Some(value.max(least).min(greatest))
+    }
+
+    /// The values of the states in units; 0 where none was found.
+    pub(crate) fn units(self, alloc: Global, column: &Column) -> Result<Vec<i128>, AllocError> {
+        let states = self.layout.earning.model.states();
+        let mut units = vec![in alloc; 0i128; states as usize]?;
+        for s in 0..states {
+            put(&mut units, s, self.units_at(column, s).unwrap_or(0));
         }
-        if self.lower.is_full && !self.upper.is_full {
-            self.upper = upper_by(alloc, sought, &self.rows, true, &self.lower)?;
+        Ok(units)
+    }
+
+    /// The values of the states that aren't barred; none where none was found.
+    pub fn values(self, alloc: Global, column: &Column) -> Result<Vec<Option<Frac>>, AllocError> {
+        let states = self.layout.earning.model.states();
+        let mut values = vec![in alloc; None; states as usize]?;
+        for s in 0..states {
+            if !flag_at(self.layout.is_barred, s) {
+                if let Some(units) = self.units_at(column, s) {
+                    put(&mut values, s, Some(fraction(units, column.one)));
+                }
+            }
         }
-        Ok(self.lower.is_full)
+        Ok(values)
     }
 }
 
-/// Solves for the upper bound, by what was found for the lower one, where that went to the end.
-fn upper_by<S: Sought>(
-    alloc: Global,
-    sought: &S,
-    rows: &Rows,
-    to_end: bool,
-    lower: &Solution,
-) -> Result<Solution, AllocError> {
-    let other = if lower.is_full || to_end {
-        Some(lower)
-    } else {
-        None
-    };
-    solved(alloc, sought, rows, Bound::Upper, to_end, other)
-}
-
-/// Finds both bounds with the most digits, at most those of the scale, for which all components can be refined for one of them; else as far as the search goes
-/// with the digits of the scale. Where fewer digits are tried there is at least as much room before the point as digits are left out.
-pub fn columns_of<S: Sought>(
-    alloc: Global,
-    sought: &S,
-    most: Scale,
-) -> Result<Columns, AllocError> {
-    for fewer in FEWER_DIGITS {
-        let scale = Scale {
-            digits: most.digits.saturating_sub(fewer),
-            room: most.room.max(fewer),
-        };
-        let mut columns = Columns::new(alloc, sought, scale, false)?;
-        if columns.finish(alloc, sought)? {
-            return Ok(columns);
-        }
-        if scale.digits == 0 {
-            break;
-        }
+impl Column {
+    /// What a solution on these rows says.
+    fn of(alloc: Global, rows: &Rows, solution: Solution) -> Result<Column, AllocError> {
+        let picked = picked_choices(alloc, rows, &solution.picks)?;
+        Ok(Column {
+            one: rows.one(),
+            values: solution.values,
+            picked,
+            is_full: solution.is_full,
+        })
     }
-    Columns::new(alloc, sought, most, true)
 }

@@ -1,16 +1,13 @@
 //! The search for discounted rewards.
 
-ghost use Rattle.std.specs.Prelude.{◌<◌};
-ghost use Rattle.mdp_spec.specs.Mdp.{states_of};
-
-use crate::choice_rows::{Earning, choice_row};
-use crate::columns::{Sought, columns_of, value_of};
-use crate::extent::{discount_limit, units_above};
+use crate::columns::Sought;
+use crate::ends::{single_nodes, with_picked};
+use crate::layout::{Earning, Layout};
 use mdp_num::{Frac, Memory};
 use mdp_proposals::MOST_DIGITS;
-use mdp_refinement::{Bound, Discount, Nodes, Rows, Scale, Solution, Value, digits_of, put};
+use mdp_refinement::{Bound, Scale, Value, digits_of, put, quotient};
 use mdp_rows::{Dir, Model};
-use std::alloc::{AllocError, Global};
+use std::alloc::Global;
 
 /// How many digits a value has room for, before and behind the point.
 const MOST_ROOM: u32 = 36;
@@ -24,102 +21,23 @@ pub struct ProposedDiscount {
     pub choices: Vec<u32>,
 }
 
-/// The parts of a search: each state is a node, and behind them comes one where nothing more is earned. The limit is a number that no value passes.
-#[derive(Clone, Copy)]
-struct Search<'m, 'f, 'a> {
-    earning: Earning<'m>,
-    dir: Dir,
-    factor: &'f Frac,
-    limit: &'a Option<Frac>,
-    nodes: &'a Nodes,
-}
-
-impl Search<'_, '_, '_> {
-    /// Appends the rows of a state's choices.
-    fn push_state(self, rows: &mut Rows, s: u32) -> Result<(), AllocError>
-        requires { s < states_of self.earning.model.now }
-    {
-        let model = self.earning.model;
-        let discount = Discount {
-            factor: self.factor,
-            end: model.states(),
-        };
-        for c in 0..model.choices(s) {
-            let reward = self.earning.of(s, c);
-            rows.push_discounted_row(self.nodes, choice_row(model, s, c), &reward, discount)?;
-        }
-        Ok(())
-    }
-
-    /// The values of the states.
-    fn values(
-        &self,
-        alloc: Global,
-        rows: &Rows,
-        solution: &Solution,
-    ) -> Result<Vec<Option<Frac>>, AllocError> {
-        let states = self.earning.model.states();
-        let mut values = vec![in alloc; None; states as usize]?;
-        for s in 0..states {
-            put(&mut values, s, value_of(self, rows, solution, s));
-        }
-        Ok(values)
-    }
-
-    /// How many digits values have before the point.
-    fn room(self) -> u32 {
-        digits_of(self.limit_in(1))
-    }
-
-    /// The limit in units of 1 over `one`, rounded up.
-    fn limit_in(self, one: i128) -> i128 {
-        match self.limit {
-            Some(limit) => units_above(limit, one),
-            None => i128::MAX,
-        }
-    }
-}
-
-impl Sought for Search<'_, '_, '_> {
-    fn is_max(&self) -> bool {
-        self.dir == Dir::Max
-    }
-
-    fn rows(&self, alloc: Global, scale: Scale) -> Result<Rows, AllocError> {
-        let mut rows = Rows::empty(alloc, self.nodes.count(), scale)?;
-        for s in 0..self.earning.model.states() {
-            rows.push_node()?;
-            self.push_state(&mut rows, s)?;
-        }
-        rows.push_node()?;
-        rows.fit();
-        Ok(rows)
-    }
-
-    fn given(&self, alloc: Global, _one: i128) -> Result<Vec<Value>, AllocError> {
-        let mut given = vec![in alloc; Value::none(); self.nodes.count() as usize]?;
-        put(&mut given, self.earning.model.states(), Value::known(0));
-        Ok(given)
-    }
-
-    fn anyway(&self, _bound: Bound, _one: i128) -> Option<i128> {
-        None
-    }
-
-    fn limits(&self, one: i128) -> (i128, i128) {
-        let limit = self.limit_in(one);
-        (limit.saturating_neg(), limit)
-    }
+/// A whole number that no sum of rewards passes in magnitude where a step later counts `factor` times as much: the greatest magnitude of what a choice earns over
+/// 1 less the factor. None past 128 bits.
+fn limit_of(earning: Earning<'_>, factor: &Frac) -> Option<i128> {
+    let (least, greatest) = earning.range();
+    let most = greatest.max(least.checked_neg()?);
+    let rest = factor.den().checked_sub(factor.num())?;
+    quotient(most.checked_mul(factor.den())?, rest, Bound::Upper)
 }
 
 /// Proposes bounds of the greatest or the least sums of rewards of the name of place `name` where a step later counts `factor` times as much, as multiples of
 /// 10 to the power of -`digits` where the rows allow it, with a policy.
 ///
-/// In each row what a step later counts less leads to a node where nothing more is earned. So each policy leaves its component, and components are solved,
-/// successors first, as for the reward until a goal.
+/// Each state is a node, and behind them comes one where nothing more is earned: in each row what a step later counts less leads there. So each policy leaves
+/// its component, and components are solved, successors first, as for the reward until a goal.
 ///
-/// No value lies further from 0 than the greatest magnitude of a reward over 1 less the factor, rounded up to a unit. That number is an upper value of each
-/// state by the rules, and so are the lesser ones of it and of upper values; its opposite and lower values alike.
+/// No value lies further from 0 than a limit. That number is an upper value of each state by the rules, and so are the lesser ones of it and of upper values;
+/// its opposite and lower values alike.
 pub fn propose_discount(
     alloc: Global,
     model: &Model,
@@ -128,32 +46,36 @@ pub fn propose_discount(
     factor: &Frac,
     digits: u32,
 ) -> Result<ProposedDiscount, Memory> {
-    model.known();
     let states = model.states();
-    let parts = vec![in alloc; None; (states as usize).saturating_add(1)]?;
-    let nodes = Nodes::new(alloc, &parts)?;
-    let limit = discount_limit(model, name, factor);
-    let search = Search {
-        earning: Earning {
-            model,
-            name: Some(name),
+    let nodes = single_nodes(alloc, states.saturating_add(1))?;
+    let mut known = vec![in alloc; Value::none(); (states as usize).saturating_add(1)]?;
+    put(&mut known, states, Value::known(0));
+    let earning = Earning {
+        model,
+        name: Some(name),
+        is_negated: false,
+    };
+    let limit = limit_of(earning, factor).unwrap_or(i128::MAX);
+    let room = digits_of(limit);
+    let sought = Sought {
+        layout: Layout {
+            known: &known,
+            factor: Some(factor),
+            ..Layout::new(earning, &nodes)
         },
         dir,
-        factor,
-        limit: &limit,
-        nodes: &nodes,
+        least: Some(limit.saturating_neg()),
+        greatest: Some(limit),
+        scale: Scale {
+            digits: digits.min(MOST_DIGITS).min(MOST_ROOM.saturating_sub(room)),
+            room,
+        },
     };
-    let room = search.room();
-    let scale = Scale {
-        digits: digits.min(MOST_DIGITS).min(MOST_ROOM.saturating_sub(room)),
-        room,
-    };
-    let columns = columns_of(alloc, &search, scale)?;
+    let columns = sought.refined_columns(alloc)?;
+    let first = vec![in alloc; 0; states as usize]?;
     Ok(ProposedDiscount {
-        lower: search.values(alloc, &columns.rows, &columns.lower)?,
-        upper: search.values(alloc, &columns.rows, &columns.upper)?,
-        choices: columns
-            .rows
-            .choices_of(alloc, columns.picks(search.is_max()))?,
+        lower: sought.values(alloc, &columns.lower)?,
+        upper: sought.values(alloc, &columns.upper)?,
+        choices: with_picked(alloc, columns.picked(dir), &first)?,
     })
 }

@@ -1,268 +1,199 @@
-//! The end components that are to be one node each.
+//! The end components that are one node each, and policies that leave them.
 
-ghost use Rattle.std.specs.Prelude.{◌≡◌, ◌<◌, length};
+ghost use Rattle.std.specs.Prelude.{◌≡◌, ◌<◌, length, IsTrue, IfOk, OnOk};
 ghost use Rattle.mdp_spec.specs.Mdp.{states_of, choices_at};
+ghost use Rattle.mdp_rows.specs.{Draft.{has_state}, Head.{IsSameHead}, Replay.{no_rewards}};
+ghost use Rattle.mdp_parts.specs.FoundEnds.{AreEndsOf};
 
-use crate::backward::Backward;
-use crate::choices::ChoiceFlags;
-use crate::decided::Decided;
-use mdp_refinement::{Components, Graph, flag_at, number, number_at, put, strong_components};
-use mdp_rows::{Dir, Marks, Model, Pred};
+use crate::layout::Layout;
+use mdp_num::{Frac, Memory};
+use mdp_parts::{Ends, toward_targets};
+use mdp_refinement::{Nodes, Value, number_at, put, value_at};
+use mdp_rows::{Builder, Marks, Model, Pred, RowRule, give_choice, names_of, zeros_of};
 use std::alloc::{AllocError, Global};
 
-/// The choices that are left, how many each state has, and the states that have none, so many, in the order in which they lost the last.
-#[derive(Drop)]
-struct Left {
-    choices: ChoiceFlags,
-    counts: Vec<u32>,
-    gone: Vec<u32>,
-    gone_count: usize,
+/// Each of so many states is a node.
+pub fn single_nodes(alloc: Global, states: u32) -> Result<Nodes, AllocError> {
+    let parts = vec![in alloc; None; states as usize]?;
+    Nodes::new(alloc, &parts)
 }
 
-/// How many flags are set.
-fn count_set(flags: &[bool]) -> u32 {
-    let mut count = 0u32;
-    for flag in flags {
-        count = count.saturating_add(u32::from(*flag));
+/// The nodes where the states of an end component are one, if their value isn't known.
+pub fn joined_nodes(
+    alloc: Global,
+    model: &Model,
+    ends: &Ends,
+    known: &[Value],
+) -> Result<Nodes, AllocError>
+    requires { AreEndsOf model.now ends.now }
+{
+    let mut parts = vec![in alloc; None; model.states() as usize]?;
+    for s in 0..model.states() {
+        if value_at(known, s).is_none() {
+            put(&mut parts, s, ends.of(s));
+        }
     }
-    count
+    Nodes::new(alloc, &parts)
 }
 
-impl Left {
-    /// The flagged choices.
-    fn new(alloc: Global, model: &Model, choices: ChoiceFlags) -> Result<Left, AllocError> {
-        let mut left = Left {
-            choices,
-            counts: vec![in alloc; 0; model.states() as usize]?,
-            gone: vec![in alloc; 0; model.states() as usize]?,
-            gone_count: 0,
+/// The given choices, but for those that were picked.
+pub(crate) fn with_picked(
+    alloc: Global,
+    picked: &[Pred],
+    given: &[u32],
+) -> Result<Vec<u32>, AllocError> {
+    let mut choices = given.to_vec(alloc)?;
+    for pick in picked {
+        put(&mut choices, pick.state, pick.choice);
+    }
+    Ok(choices)
+}
+
+/// The states with a picked choice.
+fn exits_of(alloc: Global, states: u32, picked: &[Pred]) -> Result<Marks, AllocError>
+    ensures { IfOk result (λ exits. length exits ≡ states) }
+{
+    let mut is_exit = vec![in alloc; false; states as usize]?;
+    for pick in picked {
+        let place = pick.state as usize;
+        if place < is_exit.len() {
+            is_exit[place] = true;
+        }
+    }
+    Ok(Marks::from_values(is_exit))
+}
+
+/// The given choices, but for those that were picked, and for those by which the other states of an end component come to a state with such a one.
+pub fn led_policy(
+    alloc: Global,
+    model: &Model,
+    ends: &Ends,
+    picked: &[Pred],
+    given: &[u32],
+) -> Result<Vec<u32>, Memory>
+    requires { AreEndsOf model.now ends.now }
+{
+    let mut choices = with_picked(alloc, picked, given)?;
+    let exits = exits_of(alloc, model.states(), picked)?;
+    let inward = toward_targets(alloc, model, ends, &exits)?;
+    for s in 0..model.states() {
+        if inward.marks.at(s) && !exits.at(s) {
+            put(&mut choices, s, number_at(&inward.choices, s));
+        }
+    }
+    Ok(choices)
+}
+
+/// Gives the open state of a builder a choice that stays and earns nothing.
+fn give_loop(builder: &mut Builder, zeros: &[Frac], s: u32) -> Result<(), Memory>
+    requires open { IsTrue (has_state builder.old) }
+    requires zeros { zeros.now ≡ no_rewards builder.old.names }
+    ensures same { OnOk result (IsSameHead builder.old builder.new) }
+    ensures state_open { OnOk result (IsTrue (has_state builder.new)) }
+{
+    let Ok(()) = builder.choice(zeros) else {
+        return Err(Memory);
+    };
+    match builder.entry(s, Frac::whole(1)) {
+        Ok(()) => Ok(()),
+        Err(_) => Err(Memory),
+    }
+}
+
+impl Layout<'_> {
+    /// Whether a choice earns nothing, at a state that has rows.
+    fn is_free(self, s: u32, c: u32) -> bool {
+        self.is_open(s) && self.earning.of(s, c).sign() == 0
+    }
+
+    /// Whether some choice of a state earns nothing.
+    fn has_free_at(self, s: u32) -> bool
+        requires { s < states_of self.earning.model.now }
+    {
+        (0..self.earning.model.choices(s)).any(|c| self.is_free(s, c))
+    }
+
+    /// Whether some choice earns nothing.
+    pub(crate) fn has_free(self) -> bool {
+        (0..self.earning.model.states()).any(|s| self.has_free_at(s))
+    }
+
+    /// Gives a builder a choice of a state, if it earns nothing, and else a loop.
+    fn give_free_at(
+        self,
+        alloc: Global,
+        builder: &mut Builder,
+        zeros: &[Frac],
+        s: u32,
+        c: u32,
+    ) -> Result<(), Memory>
+        requires state { s < states_of self.earning.model.now }
+        requires choice { c < length (choices_at self.earning.model.now s) }
+        requires names { builder.old.names ≡ self.earning.model.now.names }
+        requires zeros { zeros.now ≡ no_rewards self.earning.model.now.names }
+        requires open { IsTrue (has_state builder.old) }
+        ensures same { OnOk result (IsSameHead builder.old builder.new) }
+        ensures state_open { OnOk result (IsTrue (has_state builder.new)) }
+    {
+        if self.is_free(s, c) {
+            give_choice(alloc, builder, self.earning.model, s, c)
+        } else {
+            give_loop(builder, zeros, s)
+        }
+    }
+
+    /// Gives a builder the choices of a state that earn nothing, and loops in place of the others.
+    fn give_free(
+        self,
+        alloc: Global,
+        builder: &mut Builder,
+        zeros: &[Frac],
+        s: u32,
+    ) -> Result<(), Memory>
+        requires state { s < states_of self.earning.model.now }
+        requires names { builder.old.names ≡ self.earning.model.now.names }
+        requires zeros { zeros.now ≡ no_rewards self.earning.model.now.names }
+        requires open { IsTrue (has_state builder.old) }
+        ensures same { OnOk result (IsSameHead builder.old builder.new) }
+    {
+        for c in 0..self.earning.model.choices(s) {
+            self.give_free_at(alloc, builder, zeros, s, c)?;
+        }
+        Ok(())
+    }
+
+    /// Gives a builder a state with these choices.
+    fn give_state(
+        self,
+        alloc: Global,
+        builder: &mut Builder,
+        zeros: &[Frac],
+        s: u32,
+    ) -> Result<(), Memory>
+        requires state { s < states_of self.earning.model.now }
+        requires names { builder.old.names ≡ self.earning.model.now.names }
+        requires zeros { zeros.now ≡ no_rewards self.earning.model.now.names }
+        ensures same { OnOk result (IsSameHead builder.old builder.new) }
+    {
+        let Ok(()) = builder.state(zeros) else {
+            return Err(Memory);
         };
+        self.give_free(alloc, builder, zeros, s)
+    }
+
+    /// The model with the choices that earn nothing, and with loops in place of the others. Its end components are those of such choices.
+    pub(crate) fn free_model(self, alloc: Global) -> Result<Model, Memory> {
+        let model = self.earning.model;
+        model.known();
+        let names = names_of(alloc, model)?;
+        let zeros = zeros_of(alloc, model)?;
+        let mut builder = Builder::new(alloc, model.states(), RowRule::Exact, names)?;
         for s in 0..model.states() {
-            let count = count_set(left.choices.of(s));
-            left.set_count(s, count);
+            self.give_state(alloc, &mut builder, &zeros, s)?;
         }
-        Ok(left)
-    }
-
-    /// Notes how many choices of a state are left, of which it had more before, or none was counted.
-    fn set_count(&mut self, s: u32, count: u32) {
-        put(&mut self.counts, s, count);
-        if count == 0 {
-            put(&mut self.gone, number(self.gone_count), s);
-            self.gone_count = self.gone_count.saturating_add(1);
+        match builder.finish() {
+            Ok(free) => Ok(free),
+            Err(_) => Err(Memory),
         }
-    }
-
-    /// Whether each choice of a state is left.
-    fn of(&self, s: u32) -> &[bool] {
-        self.choices.of(s)
-    }
-
-    /// Forbids choice `c` of state `s`, if it is left.
-    fn forbid(&mut self, s: u32, c: u32) {
-        if self.choices.clear(s, c) {
-            let count = number_at(&self.counts, s).saturating_sub(1);
-            self.set_count(s, count);
-        }
-    }
-
-    /// Forbids all choices of a state.
-    fn forbid_state(&mut self, s: u32, choices: u32) {
-        for c in 0..choices {
-            self.forbid(s, c);
-        }
-    }
-
-    /// Forbids the choices of the states that aren't marked.
-    fn keep_marked(&mut self, model: &Model, marks: &Marks)
-        requires { length marks.now ≡ states_of model.now }
-    {
-        for s in 0..model.states() {
-            if !marks.at(s) {
-                self.forbid_state(s, model.choices(s));
-            }
-        }
-    }
-
-    /// Forbids choices.
-    fn forbid_each(&mut self, choices: &[Pred]) {
-        for choice in choices {
-            self.forbid(choice.state, choice.choice);
-        }
-    }
-
-    /// Forbids the choices that lead to a state without a choice, of those from a place in their order on. How many such states there are then.
-    fn spread(&mut self, backward: &Backward, from: usize) -> usize {
-        for place in from..self.counts.len() {
-            if place >= self.gone_count {
-                break;
-            }
-            let s = number_at(&self.gone, number(place));
-            self.forbid_each(backward.of(s));
-        }
-        self.gone_count
-    }
-
-    /// Forbids the choices of a state that are left and leave its part. Whether there were any.
-    fn forbid_leaving_at(&mut self, model: &Model, parts: &Components, s: u32) -> bool
-        requires { s < states_of model.now }
-    {
-        let mut any = false;
-        for c in 0..model.choices(s) {
-            if flag_at(self.of(s), c) && !stays(model, parts, s, c) {
-                self.forbid(s, c);
-                any = true;
-            }
-        }
-        any
-    }
-
-    /// Forbids the choices that are left and leave the part of their state. Whether there were any.
-    fn forbid_leaving(&mut self, model: &Model, parts: &Components) -> bool {
-        let mut any = false;
-        for s in 0..model.states() {
-            if self.forbid_leaving_at(model, parts, s) {
-                any = true;
-            }
-        }
-        any
-    }
-
-    /// Whether each state has a choice.
-    fn have_choice(&self, alloc: Global) -> Result<Vec<bool>, AllocError> {
-        let mut flags = vec![in alloc; false; self.counts.len()]?;
-        for s in 0..number(self.counts.len()) {
-            put(&mut flags, s, number_at(&self.counts, s) > 0);
-        }
-        Ok(flags)
-    }
-}
-
-/// Whether a choice stays in the part of its state.
-fn stays(model: &Model, parts: &Components, s: u32, c: u32) -> bool
-    requires state { s < states_of model.now }
-    requires choice { c < length (choices_at model.now s) }
-{
-    let part = parts.of(s);
-    for target in model.row(s, c).targets {
-        if parts.of(*target) != part {
-            return false;
-        }
-    }
-    true
-}
-
-/// The part of a state; none where it is in none.
-fn part_of(parts: &Components, s: u32) -> Option<u32> {
-    let part = parts.of(s);
-    if part == u32::MAX { None } else { Some(part) }
-}
-
-/// Appends the edges of a state: those of its choices that are left.
-fn push_edges(graph: &mut Graph, model: &Model, is_left: &[bool], s: u32) -> Result<(), AllocError>
-    requires { s < states_of model.now }
-{
-    for c in 0..model.choices(s) {
-        if flag_at(is_left, c) {
-            push_targets(graph, model.row(s, c).targets)?;
-        }
-    }
-    Ok(())
-}
-
-/// Appends an edge to each target.
-fn push_targets(graph: &mut Graph, targets: &[u32]) -> Result<(), AllocError> {
-    for target in targets {
-        graph.push_edge(*target)?;
-    }
-    Ok(())
-}
-
-/// The strong components of the choices that are left, at the states that have one.
-fn components_of(alloc: Global, model: &Model, left: &Left) -> Result<Components, AllocError> {
-    let mut graph = Graph::empty(alloc);
-    for s in 0..model.states() {
-        graph.push_node()?;
-        push_edges(&mut graph, model, left.of(s), s)?;
-    }
-    strong_components(alloc, &graph, &left.have_choice(alloc)?)
-}
-
-/// The maximal end components inside a set of states by the flagged choices.
-///
-/// Each round takes the strong components of the choices that are left and forbids each choice that leaves its own, until none does (de Alfaro 1997).
-/// Between rounds a state that has no choice left takes from the others the choices that lead to it, so that states which fall away one after the other
-/// take no round each.
-pub fn end_components(
-    alloc: Global,
-    model: &Model,
-    backward: &Backward,
-    inside: &Marks,
-    choices: ChoiceFlags,
-) -> Result<Components, AllocError>
-    requires { length inside.now ≡ states_of model.now }
-{
-    let mut left = Left::new(alloc, model, choices)?;
-    left.keep_marked(model, inside);
-    let mut spread = left.spread(backward, 0);
-    let mut parts = components_of(alloc, model, &left)?;
-    for _ in 0..model.states() {
-        if !left.forbid_leaving(model, &parts) {
-            break;
-        }
-        spread = left.spread(backward, spread);
-        parts = components_of(alloc, model, &left)?;
-    }
-    Ok(parts)
-}
-
-/// The component of each state, if it is in one.
-pub fn parts_in(
-    alloc: Global,
-    model: &Model,
-    parts: &Components,
-) -> Result<Vec<Option<u32>>, AllocError> {
-    let mut found = no_parts(alloc, model)?;
-    for s in 0..model.states() {
-        put(&mut found, s, part_of(parts, s));
-    }
-    Ok(found)
-}
-
-/// The maximal end component of each state, if it is in one, of those inside a set of states by the flagged choices.
-pub fn ends_inside(
-    alloc: Global,
-    model: &Model,
-    backward: &Backward,
-    inside: &Marks,
-    choices: ChoiceFlags,
-) -> Result<Vec<Option<u32>>, AllocError>
-    requires { length inside.now ≡ states_of model.now }
-{
-    let parts = end_components(alloc, model, backward, inside, choices)?;
-    parts_in(alloc, model, &parts)
-}
-
-/// No end component at any state.
-pub fn no_parts(alloc: Global, model: &Model) -> Result<Vec<Option<u32>>, AllocError> {
-    vec![in alloc; None; model.states() as usize]
-}
-
-/// For each state the end component that is to be one node, if it is in one: the states of an end component have one greatest probability. For the least
-/// probability there is no end component where the graph doesn't decide the value.
-pub(crate) fn joined_parts(
-    alloc: Global,
-    model: &Model,
-    backward: &Backward,
-    decided: &Decided,
-    dir: Dir,
-) -> Result<Vec<Option<u32>>, AllocError> {
-    match dir {
-        Dir::Max => {
-            let open = Marks::from_values(decided.are_open(alloc, model.states())?);
-            let all = ChoiceFlags::all(alloc, model)?;
-            ends_inside(alloc, model, backward, &open, all)
-        }
-        Dir::Min => no_parts(alloc, model),
     }
 }

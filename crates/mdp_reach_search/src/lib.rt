@@ -1,36 +1,28 @@
-//! Bounds of the probability to reach a goal and of the best discounted rewards, near to each other, proposed by a search, and what the searches for
-//! other bounds share with it. Nothing is promised of what it proposes: it is to be checked against the rules of mdp_bounds and mdp_discount_bounds.
+//! Bounds near to each other, proposed by a search: of the probability to reach a goal, of the reward until a goal and of the discounted reward. Nothing is
+//! promised of what it proposes: it is to be checked against the rules of mdp_bounds and mdp_discount_bounds.
 //!
-//! To be read in this order: `propose_reach` (propose.rt), the graph's part of it (decided.rt, ends.rt), the rows (choice_rows.rt), both bounds on these
-//! (columns.rt, where mdp_refinement solves them), the policy and its ranks (routes.rt, policy.rt, ranks.rt); then `propose_discount` (discounted.rt).
+//! All three are shortest path problems: nodes with rows that earn something and lead out of their component. To be read in this order: `propose_reach`
+//! (reach.rt), the graph's part of it (decided.rt, ends.rt), the rows (layout.rt), both bounds on these (columns.rt, where mdp_refinement solves them), the
+//! ranks (ranks.rt); then `propose_reward` (reward.rt) and `propose_discount` (discounted.rt).
 //!
 //! The states whose probability is 0 or 1, and the end components that are one node each: de Alfaro, Formal Verification of Probabilistic Systems (1997);
-//! Baier and Katoen, Principles of Model Checking (2008), chapter 10. That a step later counts less as a step to an end: Puterman, Markov Decision
-//! Processes (1994), chapter 6.
+//! Baier and Katoen, Principles of Model Checking (2008), chapter 10. The equations of rewards: Bertsekas and Tsitsiklis, An Analysis of Stochastic Shortest
+//! Path Problems (1991); that states between which one goes for nothing share a value: de Alfaro, Computing Minimum and Maximum Reachability Times in
+//! Probabilistic Systems (1999). That a step later counts less as a step to an end: Puterman, Markov Decision Processes (1994), chapter 6.
 #![tactic(auto)]
 
-mod backward;
-mod choice_rows;
-mod choices;
 mod columns;
 mod decided;
 mod discounted;
 mod ends;
-mod extent;
-mod lists;
-mod policy;
-mod propose;
+mod layout;
 mod ranks;
-mod routes;
+mod reach;
+mod reward;
 
-pub use backward::Backward;
-pub use choice_rows::{Earning, Opening, choice_row, sized_rows};
-pub use choices::ChoiceFlags;
-pub use columns::{Columns, Sought, columns_of, solved, value_of};
+pub use columns::picked_choices;
 pub use discounted::{ProposedDiscount, propose_discount};
-pub use ends::{end_components, ends_inside, no_parts, parts_in};
-pub use extent::{discount_limit, extent_of, greatest_reward};
-pub use lists::flags_of;
-pub use policy::{Gathered, policy_of};
-pub use propose::{ProposedReach, propose_reach};
-pub use ranks::max_ranks;
+pub use ends::{joined_nodes, led_policy, single_nodes};
+pub use layout::{Earning, Layout};
+pub use reach::{ProposedReach, propose_reach};
+pub use reward::{ProposedReward, propose_reward};

@@ -155,22 +155,6 @@ fn gap_of<S: Search>(search: &S, cert: &Option<S::Cert>) -> Gap {
     }
 }
 
-/// What the search proposes with so many digits, where the rules say yes to it and it is nearer than others.
-fn held_nearer<S: Search>(
-    alloc: Global,
-    search: &S,
-    digits: u32,
-    others: Gap,
-) -> Result<Option<S::Cert>, Memory>
-    ensures { IfOk result (λ found. IfSome found (S.is_held search.now)) }
-{
-    let cert = held_near(alloc, search, digits)?;
-    if gap_of(search, &cert).is_nearer(others) {
-        return Ok(cert);
-    }
-    Ok(None)
-}
-
 /// Bounds in as few digits as come as near as `digits` say, where the rules say yes to them. `fine` is the gap of those with the most.
 fn held_short<S: Search>(
     alloc: Global,
@@ -226,7 +210,11 @@ fn held_between<S: Search>(
     if between >= MOST_DIGITS {
         return Ok(None);
     }
-    held_nearer(alloc, search, between, others)
+    let cert = held_near(alloc, search, between)?;
+    if gap_of(search, &cert).is_nearer(others) {
+        return Ok(cert);
+    }
+    Ok(None)
 }
 
 /// What the search finds, where the rules say yes to it: with the most digits, or with fewer where these aren't as near as `digits` say and fewer are nearer.
