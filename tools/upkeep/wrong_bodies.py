@@ -4,8 +4,8 @@
     tools/wrong_bodies --test
 
 The gate tries one wrong body a crate (must-fail/), since each costs a whole check of its crate. Here those that stand in different functions of a crate
-share a copy of it and one check, which proves those functions alone; one that calls another of them is tried again without it. As many checks run at a
-time as there are processors and memory for them. What was found is kept in out/wrong-bodies beside a sum over the crate's sources, the entry and the
+share a copy of it and one check, which proves those functions alone; one that calls another of them is tried again without it. As many crates are tried at
+a time as there are processors and memory for them. What was found is kept in out/wrong-bodies beside a sum over the crate's sources, the entry and the
 toolchain, so a later call goes on where this one stopped; what each check printed is beside it. --again forgets what is kept, --crate tries the
 bodies of one crate alone, --list prints the table and what is kept of it. The libraries below are those that tools/build keeps, where it has all of them
 (bin/mdp), and else those that `rt check` makes and keeps in out/rlib.
@@ -340,20 +340,22 @@ def tried_twice(name, bodies, trial, checked):
 
 
 class Trial:
-    """What the trials of groups share: the libraries, a room for copies, and for each crate the folders of what was checked of it before."""
+    """What the trials share: the libraries, and a room for copies."""
 
     def __init__(self, room, libraries):
         self.room, self.libraries = room, libraries
-        self.checked = collections.defaultdict(list)
 
-    def try_group(self, name, bodies):
+    def try_crate(self, name, bodies):
+        """Tries the wrong bodies of a crate, group by group: what was checked for one group needn't be for the next."""
+        checked = pathlib.Path(tempfile.mkdtemp(dir=self.room))
+        for group in rounds(bodies):
+            self.try_group(name, group, checked)
+
+    def try_group(self, name, bodies, checked):
         """Tries wrong bodies of a crate that stand in different functions, and keeps what was found."""
         began, source = time.monotonic(), source_sum(name)
-        with LOCK:
-            checked = self.checked[name].pop() if self.checked[name] else pathlib.Path(tempfile.mkdtemp(dir=self.room))
         ends = tried_twice(name, bodies, self, checked)
         with LOCK:
-            self.checked[name].append(checked)
             keep(name, {**kept_of(name), **{body.sum(source): [body.name, *ends[body.name]] for body in bodies}})
             print(f"{name}: {len(bodies)} in {time.monotonic() - began:.0f} seconds", flush=True)
             print(*(f"    {body.name}: {' '.join(ends[body.name])[:180]}" for body in bodies), sep="\n", flush=True)
@@ -375,7 +377,7 @@ def try_all(by_crate):
         trial = Trial(pathlib.Path(folder), Libraries(pathlib.Path(folder), [*left]))
         order = sorted(left, key=lambda name: -build.times_of(name, trial.libraries.deps)[0])
         with concurrent.futures.ThreadPoolExecutor(build.processors()) as at_once:
-            for done in [at_once.submit(trial.try_group, name, group) for name in order for group in rounds(left[name])]:
+            for done in [at_once.submit(trial.try_crate, name, left[name]) for name in order]:
                 done.result()
 
 

@@ -1,12 +1,12 @@
 -- Verdicts, computed.
-use Rattle.std.proofs.Common.{◌≡◌, ℕ, ◌+◌, ◌-◌, ◌*◌, ◌^◌, ◌∙◌, Bool, true, false, true≢false, List, [], ◌∷◌, refl, sym, pos, Option, Some, None, Less, arith}
-use Rattle.mdp_math.specs.{Gcd.{gcd, gcd_with_fuel}, Rational.{ℚ, of_int, ratio, le_ℚ, lt_ℚ, neg_ℚ, ◌+ℚ◌, ◌*ℚ◌}}
+use Rattle.std.proofs.Common.{◌≡◌, ℕ, ◌+◌, ◌-◌, ◌*◌, ◌^◌, ◌∙◌, Bool, true, false, true≢false, List, [], ◌∷◌, refl, sym, subst, pos, Option, Some, None, Less, arith}
+use Rattle.mdp_math.specs.{Gcd.{gcd, gcd_with_fuel}, Rational.{ℚ, of_int, ratio, le_ℚ, lt_ℚ, neg_ℚ, ◌+ℚ◌, ◌*ℚ◌, ◌≤ℚ◌}}
 use Rattle.mdp_math.specs.Written.{narrow, narrow_ℚ, written_add, written_mul, written_compare, cmp_ℚ}
-use Rattle.mdp_math.proofs.{Extremes.{le_of_test, test_of_le}, Tables.{AreEqual}}
+use Rattle.mdp_math.proofs.{Extremes.{le_of_test, test_of_le}, Options.{Some_same}, Tables.{AreEqual}}
 use Rattle.mdp_spec.specs.{Mdp.{Entry, Mdp, row_at}, Row.{row_sum}, RewardRules.{backup}}
-use Rattle.mdp_spec.proofs.Small.{entry, half, number, third, split, split_goals}
-use Rattle.mdp_farkas.specs.{Verdict.{verdict_of}, Upper.{upper_checks}}
-use Rattle.mdp_bounds.specs.{Sum.{plain_add, told_sum}, Reach.{bounds_checks}, Says.{ReachSays, RewardSays, MeanSays}, Reward.{reward_bounds_checks}}
+use Rattle.mdp_spec.proofs.Small.{entry, half, minus, number, third, split, split_goals}
+use Rattle.mdp_farkas.specs.{Verdict.{verdict_of}, Upper.{upper_checks}, Compare.{0ℚ}}
+use Rattle.mdp_bounds.specs.{Sum.{plain_add, told_sum}, Reach.{bounds_checks}, Says.{Column, lower_column, upper_column, ReachSays, RewardSays, MeanSays}, Reward.{reward_bounds_checks}}
 use Rattle.mdp_bounds.specs.Mean.{mean_bounds_checks}
 use Rattle.mdp_rows.specs.declared.dir.Dir.TheVariants.{Max}
 use Rattle.mdp_claims.specs.{declared.verdict.Verdict.{Verdict}, declared.verdict.Verdict.TheVariants.{Yes, No, Wide}}
@@ -74,7 +74,7 @@ abbrev at_most_row : ℚ → Bool
 at_most_row low = le_ℚ low (row_sum (row_at split 0 1) (low ∷ number 1 ∷ number 0 ∷ []))
 
 abbrev reach_says : ℚ → Rule → Option ℕ → Option ℕ → Type 0
-reach_says low = ReachSays Max split split_goals (low ∷ number 1 ∷ number 0 ∷ []) (number 1 ∷ number 1 ∷ number 0 ∷ []) (1 ∷ 0 ∷ 0 ∷ []) (1 ∷ 0 ∷ 0 ∷ [])
+reach_says x = ReachSays Max split split_goals (x ∷ number 1 ∷ number 0 ∷ []) (number 1 ∷ number 1 ∷ number 0 ∷ []) (1 ∷ 0 ∷ 0 ∷ []) (1 ∷ 0 ∷ 0 ∷ []) lower_column
 
 quarter_passes : at_most_row (ratio (pos 1) 4) ≡ true
 unfolding gcd gcd_with_fuel ratio of_int le_ℚ ◌+ℚ◌ ◌*ℚ◌
@@ -152,7 +152,7 @@ costs_judged = refl
 
 -- what the rules of those no say: a lower value is at most what the policy's choice earns, and is infinite only where the upper one is
 abbrev costs_say : Option ℚ → Option ℚ → Rule → Option ℕ → Option ℕ → Type 0
-costs_say low high = RewardSays Max trial 0 (false ∷ true ∷ []) (low ∷ Some (number 0) ∷ []) (high ∷ Some (number 0) ∷ []) (0 ∷ 0 ∷ []) (1 ∷ 0 ∷ [])
+costs_say x y = RewardSays Max trial 0 (false ∷ true ∷ []) (x ∷ Some (number 0) ∷ []) (y ∷ Some (number 0) ∷ []) (0 ∷ 0 ∷ []) (1 ∷ 0 ∷ []) lower_column
 
 abbrev at_most_earned : ℚ → Bool
 at_most_earned low = le_ℚ low (backup trial 0 0 0 (low ∷ number 0 ∷ []))
@@ -173,6 +173,27 @@ three_refused says = true≢false (sym (test_of_le _ _ (says (omega arith, refl,
 
 order_refused : costs_say None (Some (number 3)) RewardValue (Some 0) None → ⊥
 order_refused says = true≢false (sym ((says (omega arith)).0 refl))
+
+-- a rule that is asked of both columns says it of each: of 0 below -1 it is false of the upper values alone
+abbrev crossed_say : Column → Rule → Option ℕ → Option ℕ → Type 0
+crossed_say = RewardSays Max trial 0 (false ∷ true ∷ []) (Some (number 0) ∷ Some (number 0) ∷ []) (Some (minus 1 1) ∷ Some (number 0) ∷ []) (0 ∷ 0 ∷ []) (1 ∷ 0 ∷ [])
+
+zero_passes : le_ℚ 0ℚ (number 0) ≡ true
+unfolding gcd gcd_with_fuel ratio of_int le_ℚ
+zero_passes = refl
+
+minus_one_fails : le_ℚ 0ℚ (minus 1 1) ≡ false
+unfolding gcd gcd_with_fuel ratio of_int le_ℚ neg_ℚ
+minus_one_fails = refl
+
+lower_said : crossed_say lower_column RewardValue (Some 0) None
+lower_said = λ l. (
+  λ i. absurd (true≢false (sym i)),
+  (λ x e. subst (λ (y : ℚ). 0ℚ ≤ℚ y) (Some_same _ _ e) (le_of_test _ _ zero_passes), λ g. absurd (true≢false (sym g))),
+)
+
+upper_refused : crossed_say upper_column RewardValue (Some 0) None → ⊥
+upper_refused says = true≢false (sym (test_of_le _ _ ((says (omega arith)).1.0 (minus 1 1) refl)) ∙ minus_one_fails)
 
 -- ---- mean payoff: a state with two loops, of reward 1 and 3
 

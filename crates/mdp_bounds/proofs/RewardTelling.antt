@@ -14,7 +14,7 @@ use Rattle.mdp_farkas.proofs.RewardRules.{stays_of_test, test_of_stays, test_of_
 use Rattle.mdp_farkas.proofs.Telling.{refuted, Tells, tells_none, tells_first, tells_one, tells_append, tells_if, tells_flat, tells_map}
 use Rattle.mdp_bounds.specs.Reward.{is_zero, lower_on_each, order_check, nonneg_check, goal_checks, earning_check, earning_checks, policy_earning_check, sign_check, sign_checks}
 use Rattle.mdp_bounds.specs.Reward.{half_checks, finite_checks, kind_checks, lower_checks, upper_value_checks, reward_bounds_at, reward_bounds_checks}
-use Rattle.mdp_bounds.specs.Says.{IsChoice, IsTaken, IsRewardValue, StaysAt, IsSeen, IsEarningBound, RewardSays}
+use Rattle.mdp_bounds.specs.Says.{lower_column, upper_column, IsFalseOfOne, IsOrderedAt, IsChoice, IsTaken, IsRewardValue, StaysAt, IsSeen, IsEarningBound, RewardSays}
 use Rattle.mdp_bounds.proofs.{Earnings.{nonneg_true, zero_true, earning_sound}, RewardRules.{implies}, ReachTelling.{stands_of_bound}}
 
 -- ---- one value, whatever is shown of a fault
@@ -92,7 +92,7 @@ module _ (Q : Fault → Type 0) (m : Mdp) (known : IsMdp m) (r : ℕ) (goals : L
 -- ---- all rules at a state
 
 abbrev Refutes : Dir → Mdp → ℕ → List Bool → List (Option ℚ) → List (Option ℚ) → List ℕ → List ℕ → Fault → Type 0
-Refutes dir m r goals lower upper policy ranks f = RewardSays dir m r goals lower upper policy ranks f.rule f.state f.choice → ⊥
+Refutes dir m r goals lower upper policy ranks f = IsFalseOfOne (λ side. RewardSays dir m r goals lower upper policy ranks side f.rule f.state f.choice)
 
 module _ (m : Mdp) (known : IsMdp m) (r : ℕ) (goals : List Bool) (lower upper : List (Option ℚ)) (policy ranks : List ℕ) (s : ℕ) (l : s < states_of m) where
   abbrev taken : ℕ
@@ -101,81 +101,90 @@ module _ (m : Mdp) (known : IsMdp m) (r : ℕ) (goals : List Bool) (lower upper 
   falls_tell : (dir : Dir) → IsTransient m goals lower s → Tells (Refutes dir m r goals lower upper policy ranks) (rank_fall_checks dir m ranks s taken)
   falls_tell Max t =
       tells_map (Refutes Max m r goals lower upper policy ranks) (rank_fall_check m ranks s) (length (choices_at m s))
-      (λ c i wrong says. refuted (Falls m ranks s c) _ (λ h w. ap Some (test_of_falls m lower ranks s c h)) wrong (says t i))
+      (λ c i wrong. (lower_column, λ says. refuted (Falls m ranks s c) _ (λ h w. ap Some (test_of_falls m lower ranks s c h)) wrong (says t i)))
   falls_tell Min t =
       tells_one (Refutes Min m r goals lower upper policy ranks) (rank_fall_check m ranks s taken)
-      (λ wrong says. refuted (Falls m ranks s taken) _ (λ h w. ap Some (test_of_falls m lower ranks s taken h)) wrong (says t refl))
+      (λ wrong. (lower_column, λ says. refuted (Falls m ranks s taken) _ (λ h w. ap Some (test_of_falls m lower ranks s taken h)) wrong (says t refl)))
 
   misses_tell : (dir : Dir) → is_marked (infinite lower) s ≡ true → Tells (Refutes dir m r goals lower upper policy ranks) (infinite_checks dir m lower ranks s taken)
   misses_tell Max i =
       tells_one (Refutes Max m r goals lower upper policy ranks) (miss_check m lower ranks s taken)
-      (λ wrong says.
-      refuted (((slice_index ranks s ≡ 0) × StaysInfinite m lower ranks 0 s taken) ⊎ FallsInfinite m lower ranks s taken) _
-      (λ h w. ap Some (test_of_misses m lower ranks s taken h)) wrong (says refl (l, i) refl))
+      (λ wrong. (
+        lower_column,
+        λ says.
+            refuted (((slice_index ranks s ≡ 0) × StaysInfinite m lower ranks 0 s taken) ⊎ FallsInfinite m lower ranks s taken) _
+            (λ h w. ap Some (test_of_misses m lower ranks s taken h)) wrong (says refl (l, i) refl),
+      ))
   misses_tell Min i =
       tells_map (Refutes Min m r goals lower upper policy ranks) (all_miss_check m lower ranks s) (length (choices_at m s))
-      (λ c j wrong says.
-      refuted (FallsInfinite m lower ranks s c ⊎ StaysInfinite m lower ranks (slice_index ranks s) s c) _ (λ h w. ap Some (test_of_all_misses m lower ranks s c h)) wrong
-      (says refl (l, i) j))
+      (λ c j wrong. (
+        lower_column,
+        λ says.
+            refuted (FallsInfinite m lower ranks s c ⊎ StaysInfinite m lower ranks (slice_index ranks s) s c) _ (λ h w. ap Some (test_of_all_misses m lower ranks s c h)) wrong
+            (says refl (l, i) j),
+      ))
 
   lower_half : (dir : Dir) → IsChoice m s taken → IsTransient m goals lower s
       → Tells (Refutes dir m r goals lower upper policy ranks) (half_checks (lower_on_each dir) dir m r lower s taken)
   lower_half Max i t =
-      policy_tells (Refutes Max m r goals lower upper policy ranks) m known r goals lower policy ranks s l t Max i (λ wrong says. wrong says)
+      policy_tells (Refutes Max m r goals lower upper policy ranks) m known r goals lower policy ranks s l t Max i (λ wrong. (lower_column, wrong))
   lower_half Min i t =
-      each_tells (Refutes Min m r goals lower upper policy ranks) m known r goals lower policy ranks s l t Min (λ c wrong says. wrong says)
+      each_tells (Refutes Min m r goals lower upper policy ranks) m known r goals lower policy ranks s l t Min (λ c wrong. (lower_column, wrong))
 
   upper_half : (dir : Dir) → IsChoice m s taken → IsTransient m goals upper s
       → Tells (Refutes dir m r goals lower upper policy ranks) (half_checks (not (lower_on_each dir)) dir m r upper s taken)
   upper_half Max i t =
-      each_tells (Refutes Max m r goals lower upper policy ranks) m known r goals upper policy ranks s l t Max (λ c wrong says. wrong says)
+      each_tells (Refutes Max m r goals lower upper policy ranks) m known r goals upper policy ranks s l t Max (λ c wrong. (upper_column, wrong))
   upper_half Min i t =
-      policy_tells (Refutes Min m r goals lower upper policy ranks) m known r goals upper policy ranks s l t Min i (λ wrong says. wrong says)
+      policy_tells (Refutes Min m r goals lower upper policy ranks) m known r goals upper policy ranks s l t Min i (λ wrong. (upper_column, wrong))
 
   module _ (dir : Dir) where
     abbrev Q : Fault → Type 0
-    Q f = RewardSays dir m r goals lower upper policy ranks f.rule f.state f.choice → ⊥
+    Q f = Refutes dir m r goals lower upper policy ranks f
 
     abbrev low_finite : List Check
     low_finite = finite_checks (lower_on_each dir) dir m r lower s taken
 
     lower_tells : IsChoice m s taken → Tells Q (lower_checks dir m r goals lower ranks s taken)
     lower_tells i =
-        kind_tells Q m known r goals lower policy ranks s l (λ wrong says. wrong (says l).1) (infinite_checks dir m lower ranks s taken) (low_finite ++ rank_fall_checks dir m ranks s taken)
+        kind_tells Q m known r goals lower policy ranks s l (λ wrong. (lower_column, λ says. wrong (says l).1)) (infinite_checks dir m lower ranks s taken) (low_finite ++ rank_fall_checks dir m ranks s taken)
         (λ g i. misses_tell dir i)
         (λ t.
         tells_append Q low_finite (rank_fall_checks dir m ranks s taken)
         (tells_append Q (stay_checks dir m lower s taken) (half_checks (lower_on_each dir) dir m r lower s taken)
-        (stays_tell Q m known r goals lower policy ranks s l t dir (λ c wrong says. wrong says.0)) (λ held. lower_half dir i t)) (λ held. falls_tell dir t))
+        (stays_tell Q m known r goals lower policy ranks s l t dir (λ c wrong. (lower_column, wrong))) (λ held. lower_half dir i t)) (λ held. falls_tell dir t))
 
     upper_tells : IsChoice m s taken → Tells Q (upper_value_checks dir m r goals upper ranks s taken)
     upper_tells i =
-        kind_tells Q m known r goals upper policy ranks s l (λ wrong says. wrong (says l).2) [] (finite_checks (not (lower_on_each dir)) dir m r upper s taken) (λ g i. tells_none Q)
+        kind_tells Q m known r goals upper policy ranks s l (λ wrong. (upper_column, λ says. wrong (says l).1)) [] (finite_checks (not (lower_on_each dir)) dir m r upper s taken) (λ g i. tells_none Q)
         (λ t.
         tells_append Q (stay_checks dir m upper s taken) (half_checks (not (lower_on_each dir)) dir m r upper s taken)
-        (stays_tell Q m known r goals upper policy ranks s l t dir (λ c wrong says. wrong says.1)) (λ held. upper_half dir i t))
+        (stays_tell Q m known r goals upper policy ranks s l t dir (λ c wrong. (upper_column, wrong))) (λ held. upper_half dir i t))
 
     signs_tell : Tells Q (sign_checks m r s)
     signs_tell =
         tells_map Q (sign_check m r s) (length (choices_at m s))
-        (λ c i wrong says. refuted (0ℚ ≤ℚ reward_of (choice_at m s c) r) _ (λ h w. ap Some (test_of_le 0ℚ (reward_of (choice_at m s c) r) h)) wrong (says l i))
+        (λ c i wrong. (lower_column, λ says. refuted (0ℚ ≤ℚ reward_of (choice_at m s c) r) _ (λ h w. ap Some (test_of_le 0ℚ (reward_of (choice_at m s c) r) h)) wrong (says l i)))
 
     state_tells : Tells Q (reward_bounds_at dir m r goals lower upper ranks s taken)
     state_tells =
         let low : List Check = lower_checks dir m r goals lower ranks s taken in
         let high : List Check = upper_value_checks dir m r goals upper ranks s taken in
         tells_first Q (choice_exists m s taken) (order_check lower upper s ∷ (low ++ (high ++ sign_checks m r s)))
-        (λ wrong says. refuted (IsChoice m s taken) _ (λ i w. ap Some (lt-ltb taken (length (choices_at m s)) i)) wrong (says l refl))
+        (λ wrong. (lower_column, λ says. refuted (IsChoice m s taken) _ (λ i w. ap Some (lt-ltb taken (length (choices_at m s)) i)) wrong (says l refl)))
         (λ takes.
         let i = ltb-true taken (length (choices_at m s)) (Some_same _ _ takes) in
         tells_first Q (order_check lower upper s) (low ++ (high ++ sign_checks m r s))
-        (λ wrong says.
-        refuted (is_marked (infinite lower) s ≡ true → is_marked (infinite upper) s ≡ true) _
-        (λ h w. ap Some (implies (is_marked (infinite lower) s) (is_marked (infinite upper) s) h)) wrong (says l).0)
+        (λ wrong. (
+          lower_column,
+          λ says.
+              refuted (IsOrderedAt lower upper s) _ (λ h w. ap Some (implies (is_marked (infinite lower) s) (is_marked (infinite upper) s) h)) wrong (says l).0,
+        ))
         (λ ordered. tells_append Q low (high ++ sign_checks m r s) (lower_tells i) (λ held. tells_append Q high (sign_checks m r s) (upper_tells i) (λ held. signs_tell))))
 
 pub reward_refuted : (dir : Dir) (m : Mdp) (r : ℕ) (goals : List Bool) (lower upper : List (Option ℚ)) (policy ranks : List ℕ) (fault : Fault) → IsMdp m
-    → verdict_of (reward_bounds_checks dir m r goals lower upper policy ranks) ≡ No fault → RewardSays dir m r goals lower upper policy ranks fault.rule fault.state fault.choice → ⊥
+    → verdict_of (reward_bounds_checks dir m r goals lower upper policy ranks) ≡ No fault
+    → IsFalseOfOne (λ side. RewardSays dir m r goals lower upper policy ranks side fault.rule fault.state fault.choice)
 reward_refuted dir m r goals lower upper policy ranks fault known =
     tells_flat (Refutes dir m r goals lower upper policy ranks) (λ s. reward_bounds_at dir m r goals lower upper ranks s (slice_index policy s)) (states_of m)
     (λ s l. state_tells m known r goals lower upper policy ranks s l dir) fault

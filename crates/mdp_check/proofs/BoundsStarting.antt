@@ -5,10 +5,10 @@ use Rattle.mdp_math.specs.Rational.{ℚ}
 use Rattle.mdp_math.proofs.Booleans.{and-both}
 use Rattle.mdp_spec.specs.{Mdp.{Mdp, states_of}, Row.{IsMdp}, Labels.{initial_of}}
 use Rattle.mdp_spec.proofs.Subsystem.{sub_is_mdp}
-use Rattle.mdp_claims.specs.{declared.rule.Rule.TheVariants.{InitialState}, declared.verdict.Fault.{Fault}}
+use Rattle.mdp_claims.specs.{declared.rule.Rule.{Rule}, declared.rule.Rule.TheVariants.{InitialState}, declared.verdict.Fault.{Fault}}
 use Rattle.mdp_claims.specs.declared.verdict.Verdict.TheVariants as verdict
 use Rattle.mdp_farkas.specs.Initial.{init_fault, is_value}
-use Rattle.mdp_bounds.specs.Says.{ReachSays, RewardSays, MeanSays}
+use Rattle.mdp_bounds.specs.Says.{Column, IsFalseOfOne, ReachSays, RewardSays, MeanSays}
 use Rattle.mdp_bounds.specs.Laws.{ReachNoRefutes, RewardNoRefutes, MeanNoRefutes}
 use Rattle.mdp_cert.specs.{Cert.{PlainClaim, upper, reach, until, reward, mean, witness}, BoundsCert.{PlainBounds, probabilities, rewards, gains, Certificate, is_body_of}}
 use Rattle.mdp_cert.specs.{declared.init.BoundsInit.{BoundsInit}, declared.init.BoundsInit.TheVariants.{Missing, Between}}
@@ -43,19 +43,27 @@ told (Between s x y) initial body = state_told s initial (has_bounds body s x y)
 
 -- ---- the rules of the claim don't name rule 1
 
+-- a rule that says nothing of either column is named by no false check
+nothing_of_one : (Says : Column → Rule → Option ℕ → Option ℕ → Type 0) (f : Fault) → ((side : Column) → Says side InitialState f.state f.choice)
+    → IsFalseOfOne (λ side. Says side f.rule f.state f.choice) → f.rule ≡ InitialState → ⊥
+nothing_of_one Says f nothing wrong = says_nothing (Says wrong.0) f (nothing wrong.0) wrong.1
+
 module _ (reach_refuted : ReachNoRefutes) (reward_refuted : RewardNoRefutes) (mean_refuted : MeanNoRefutes) (m : Mdp) (known : IsMdp m) (r : ℕ) (goals : List Bool) (states : ℕ) (f : Fault) where
   other_rules : (claim : PlainClaim) (body : PlainBounds) → is_body_of claim states body ≡ true → bounds_verdict_by m r goals claim body ≡ verdict.No f → f.rule ≡ InitialState → ⊥
   other_rules (upper label) (probabilities low high choices ranks) fits e = absurd (let t = fits in cc)
   other_rules (upper label) (rewards low high choices ranks) fits e = absurd (let t = fits in cc)
   other_rules (upper label) (gains low high bound bias choices k) fits e = absurd (let t = fits in cc)
-  other_rules (reach dir label) (probabilities low high choices ranks) fits e = says_nothing (ReachSays dir m goals low high choices ranks) f tt (reach_refuted dir m goals low high choices ranks f known e)
+  other_rules (reach dir label) (probabilities low high choices ranks) fits e = nothing_of_one (ReachSays dir m goals low high choices ranks) f (λ side. tt) (reach_refuted dir m goals low high choices ranks f known e)
   other_rules (reach dir label) (rewards low high choices ranks) fits e = absurd (let t = fits in cc)
   other_rules (reach dir label) (gains low high bound bias choices k) fits e = absurd (let t = fits in cc)
-  other_rules (until dir stay label) (probabilities low high choices ranks) fits e = says_nothing (ReachSays dir (way_of m goals stay) goals low high choices ranks) f tt (reach_refuted dir (way_of m goals stay) goals low high choices ranks f (sub_is_mdp m goals (stay_marks m stay) known) e)
+  other_rules (until dir stay label) (probabilities low high choices ranks) fits e =
+      nothing_of_one (ReachSays dir (way_of m goals stay) goals low high choices ranks) f (λ side. tt)
+      (reach_refuted dir (way_of m goals stay) goals low high choices ranks f (sub_is_mdp m goals (stay_marks m stay) known) e)
   other_rules (until dir stay label) (rewards low high choices ranks) fits e = absurd (let t = fits in cc)
   other_rules (until dir stay label) (gains low high bound bias choices k) fits e = absurd (let t = fits in cc)
   other_rules (reward dir name label) (probabilities low high choices ranks) fits e = absurd (let t = fits in cc)
-  other_rules (reward dir name label) (rewards low high choices ranks) fits e = says_nothing (RewardSays dir m r goals low high choices ranks) f tt (reward_refuted dir m r goals low high choices ranks f known e)
+  other_rules (reward dir name label) (rewards low high choices ranks) fits e =
+      nothing_of_one (RewardSays dir m r goals low high choices ranks) f (λ side. tt) (reward_refuted dir m r goals low high choices ranks f known e)
   other_rules (reward dir name label) (gains low high bound bias choices k) fits e = absurd (let t = fits in cc)
   other_rules (mean dir name) (probabilities low high choices ranks) fits e = absurd (let t = fits in cc)
   other_rules (mean dir name) (rewards low high choices ranks) fits e = absurd (let t = fits in cc)

@@ -19,7 +19,9 @@ use Rattle.mdp_check.proofs.Starting.{init_is_checked, told, says_nothing, no_by
 
 -- ---- the rules of the claim don't name rule 1
 
-module _ (upper_refuted : UpperNoRefutes) (reach_refuted : ReachNoRefutes) (reward_refuted : RewardNoRefutes) (mean_refuted : MeanNoRefutes) (flow_refuted : FlowNoRefutes) (floor_refuted : FloorNoRefutes) (m : Mdp) (r : ℕ) (goals : List Bool) (each : length goals ≡ states_of m) (init : Init) (states : ℕ) (size : states ≡ states_of m) (f : Fault) where
+module _ (upper_refuted : UpperNoRefutes) (reach_refuted : ReachNoRefutes) (reward_refuted : RewardNoRefutes) (mean_refuted : MeanNoRefutes)
+    (flow_refuted : FlowNoRefutes) (floor_refuted : FloorNoRefutes)
+    (m : Mdp) (r : ℕ) (goals : List Bool) (each : length goals ≡ states_of m) (init : Init) (states : ℕ) (size : states ≡ states_of m) (f : Fault) where
   abbrev start : ℕ
   start = start_of init
 
@@ -62,7 +64,8 @@ module _ (upper_refuted : UpperNoRefutes) (reach_refuted : ReachNoRefutes) (rewa
   other_rules (reach dir label) (flow kept wide flows) fits rule1 e = absurd (let t = fits in cc)
   other_rules (reach dir label) (floor kept wide values ranks) fits rule1 e = absurd (let t = fits in cc)
   other_rules (until dir stay label) (bounds z) fits rule1 e = absurd (let t = fits in cc)
-  other_rules (until dir stay label) (policy z choices ranks) fits rule1 e = says_nothing (ReachSays dir (way_of m goals stay) goals z choices ranks) f tt (reach_refuted dir (way_of m goals stay) goals z choices ranks f e).1
+  other_rules (until dir stay label) (policy z choices ranks) fits rule1 e =
+      says_nothing (ReachSays dir (way_of m goals stay) goals z choices ranks) f tt (reach_refuted dir (way_of m goals stay) goals z choices ranks f e).1
   other_rules (until dir stay label) (rewards v choices ranks) fits rule1 e = absurd (let t = fits in cc)
   other_rules (until dir stay label) (gains g bound bias choices k) fits rule1 e = absurd (let t = fits in cc)
   other_rules (until dir stay label) (flow kept wide flows) fits rule1 e = absurd (let t = fits in cc)

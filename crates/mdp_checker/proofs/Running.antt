@@ -91,7 +91,8 @@ module _ (model cert : Input) (out : Output) (ended : Status) where
 
   -- ---- yes
 
-  yes_read : ReadsAsModel → ReadsItsTexts → (rule : RowRule) (text : List ℕ) → IsCheckRead None rule model cert (Ok text) → IsAtEnd model.after → IsAtEnd cert.after → WroteAll out text → IsYesTrue (Ok rule) model cert out
+  yes_read : ReadsAsModel → ReadsItsTexts → (rule : RowRule) (text : List ℕ) → IsCheckRead None rule model cert (Ok text)
+      → IsAtEnd model.after → IsAtEnd cert.after → WroteAll out text → IsYesTrue (Ok rule) model cert out
   yes_read kept reads rule text (inl from) model_end cert_end w = record {
     rule = rule;
     words = refl;

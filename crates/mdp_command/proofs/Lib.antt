@@ -9,3 +9,4 @@ mod BoundsExamples
 mod DiscountExamples
 mod KindExamples
 pub mod Accepting
+pub mod DiscountStarting

@@ -13,3 +13,4 @@ pub mod Kinds
 pub mod CheckDue
 pub mod CheckShown
 pub mod CheckLaws
+pub mod DiscountStart

@@ -1,4 +1,5 @@
 ghost use Rattle.mdp_command.specs.{Kinds.{checker_of}, CheckLaws.{YesIsAccepted, AcceptedIsTrue, ReadsItsText, NamesItsKind}, declared.kind.CertificateKind.{CertificateKind}};
+ghost use Rattle.mdp_command.specs.DiscountStart.{ExactNoOfInit, BoundsNoOfInit};
 
 use mdp_cert::{bounds_text_law, text_law};
 use mdp_check::{bounds_checking_law, checking_law};
@@ -24,4 +25,14 @@ pub fn check_law()
     discount_bounds_law();
     discount_bounds_text_law();
     model_law();
+}
+
+/// What a no at rule 1 to a certificate of discounted rewards, or of bounds of them, means: what the line `init` says of the model's initial state is false.
+/// Where that is false and the answer is no, it is at no other rule.
+pub fn discount_start_law()
+    ensures exact { ExactNoOfInit }
+    ensures bounds { BoundsNoOfInit }
+{
+    mdp_discount_rules::discount_no_law();
+    mdp_discount_bounds::discount_no_law();
 }

@@ -15,7 +15,7 @@ mod writing;
 pub use checking::check_files;
 pub use files::{read_model, read_second};
 pub use kind::{CertificateKind, kind_of};
-pub use laws::check_law;
+pub use laws::{check_law, discount_start_law};
 pub use printing::certificate_text;
 pub use saying::answered;
 pub use words::{behind_name, exit_of, words_given};
