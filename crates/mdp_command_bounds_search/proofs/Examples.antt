@@ -1,6 +1,6 @@
 -- What is due to `bounds`, computed. `draw` stays at 0, or moves to 1 with 1/3 and to 2 with 2/3; 1 is the goal. Each step costs 1, which is a loss of 1.
 -- `both` has two initial states. `risky` moves from 0, its one safe state, to 1, or to 1 and to the goal 2 with 1/2 each; from 1 the goal is next.
-use Rattle.std.proofs.Common.{◌≡◌, ℕ, zero, suc, List, [], ◌∷◌, Err, refl, pos, Some, None, inl, arith}
+use Rattle.std.proofs.Common.{◌≡◌, ℕ, zero, suc, List, [], ◌∷◌, Ok, Err, refl, pos, Some, None, inl, arith}
 use Rattle.std.specs.Prelude.{codes}
 use Rattle.mdp_math.specs.{Gcd.{gcd, gcd_with_fuel}, Rational.{ℚ, of_int, ratio, neg_ℚ, le_ℚ, lt_ℚ, ◌+ℚ◌, ◌*ℚ◌}}
 use Rattle.mdp_math.specs.Written.{narrow, narrow_ℚ, written_add, written_mul}
@@ -15,7 +15,7 @@ use Rattle.mdp_cert.specs.{BoundsCert.{probabilities, rewards, gains, Certificat
 use Rattle.mdp_check.specs.{Bounds.{bounds_answer_to}, declared.answer.Answer.TheVariants.{Yes, No}}
 use Rattle.mdp_job.specs.{Job.{reach, until, reward, mean}, Refusal.{PlainRefusal, query_label, query_reward, query_negative, query_size}}
 use Rattle.mdp_search_bounds.specs.Near.{IsNear, AreNear}
-use Rattle.mdp_command_bounds_search.specs.{Certificate.{certificate_of}, Due.{claim_of, IsBoundsDue}, Laws.{LieBetween}, Near.{IsNearOrWide}}
+use Rattle.mdp_command_bounds_search.specs.{Certificate.{certificate_of}, Due.{claim_of, fault_of, IsBoundsDue}, Laws.{LieBetween}, Near.{IsNearOrWide}}
 
 abbrev choice : List Entry → Choice
 choice row = record { row = row; rewards = number 1 ∷ neg_ℚ (number 1) ∷ [] }
@@ -235,3 +235,26 @@ no_until_refusal refusal d = cc (d.spelled)
 
 no_mean_refusal : (refusal : PlainRefusal) → IsBoundsDue Max (mean (codes "gain")) draw (Err refusal) → ⊥
 no_mean_refusal refusal d = cc (d.spelled)
+
+-- ---- to which queries some text is due
+
+-- to each that fits, as these do
+fits_goal : fault_of (reach (codes "goal")) draw ≡ None
+fits_goal = refl
+
+fits_way : fault_of (until (codes "safe") (codes "goal")) risky ≡ None
+fits_way = refl
+
+fits_gain : fault_of (mean (codes "gain")) draw ≡ None
+fits_gain = refl
+
+-- and to no other
+no_text : (text : List ℕ) → IsBoundsDue Max (reach (codes "done")) draw (Ok text) → ⊥
+no_text text d = cc d
+
+no_text_of_time : (text : List ℕ) → IsBoundsDue Max (mean (codes "time")) draw (Ok text) → ⊥
+no_text_of_time text d = cc d
+
+no_text_below_zero : (text : List ℕ) → IsBoundsDue Min (reward (codes "gain") (codes "goal")) draw (Ok text) → ⊥
+unfolding of_int neg_ℚ lt_ℚ ratio gcd gcd_with_fuel
+no_text_below_zero text d = cc d

@@ -1,10 +1,10 @@
 -- Some text is due to each reward name that the model has and each discount factor, and all that is shown of a text is shown of it.
-use Rattle.std.proofs.Common.{◌≡◌, ℕ, ◌<◌, ◌≤◌, ◌^◌, List, length, Option, Some, None, Ok, Err, inl, inr, refl, sym, subst, ◌∙◌, arith, lt-ltb}
+use Rattle.std.proofs.Common.{◌≡◌, ℕ, ◌<◌, ◌≤◌, ◌^◌, List, length, Option, Some, None, Ok, inl, inr, refl, sym, subst, ◌∙◌, arith, lt-ltb}
 use Rattle.std.proofs.lemmas.List.Elements.{All-get_or}
 use Rattle.std.specs.{List.{All}, Option.{IfSome}, Prelude.{IsTrue}}
 use Rattle.mdp_math.specs.Rational.{ℚ}
 use Rattle.mdp_num.specs.Value.{IsNarrow}
-use Rattle.mdp_spec.specs.{Bounds.{reward_at}, Labels.{place_of, initial_of}, Mdp.{Mdp, states_of}, Row.{IsMdp}}
+use Rattle.mdp_spec.specs.{Bounds.{reward_at}, Labels.{place_of, initial_of}, Mdp.{Mdp}}
 use Rattle.mdp_rows.specs.{Limits.{IsModel}, Name.{IsRewardName}, declared.dir.Dir.{Dir}}
 use Rattle.mdp_rows.proofs.FoundNames.{found_among, name_of_reward}
 use Rattle.mdp_text.proofs.InitialState.{initial_below}
@@ -12,7 +12,7 @@ use Rattle.mdp_check.proofs.Accepting.{below_names}
 use Rattle.mdp_claims.specs.declared.verdict.Verdict.TheVariants.{Yes}
 use Rattle.mdp_discount_rules.specs.Rules.{IsFactor}
 use Rattle.mdp_discount.specs.Laws.{CanAsk, HasAnEnd, AnswersMeetRules}
-use Rattle.mdp_discount_bounds.specs.{Cert.{Certificate, IsValueNarrow, is_init, Fits}, Check.{init_check, IsAccepted}, Checks.{IsDiscountBounds}, Laws.{AcceptedIsBound}}
+use Rattle.mdp_discount_bounds.specs.{Cert.{Certificate, IsValueNarrow, is_init, Fits}, Check.{init_check, IsAccepted}, Laws.{AcceptedIsBound}}
 use Rattle.mdp_discount_bounds.specs.declared.init.InitialBounds.{InitialBounds}
 use Rattle.mdp_discount_text.specs.{BoundsLaws.{IsReadBack}, BoundsSpelling.{text_of}}
 use Rattle.mdp_command.specs.Said.{Said}

@@ -1,12 +1,11 @@
 -- Some text is due to each query that fits its model, and all that is shown of a text is shown of it.
-use Rattle.std.proofs.Common.{◌≡◌, ℕ, ◌<◌, Bool, true, false, List, length, Option, Some, None, Ok, Err, inl, inr, refl, ap, subst, ◌∙◌, arith, if◌then◌else◌}
-use Rattle.std.proofs.{lemmas.Bool.{cases_Bool}, lemmas.List.Elements.{All-get_or}}
+use Rattle.std.proofs.Common.{◌≡◌, ℕ, ◌<◌, Bool, true, false, List, length, Option, Some, None, Ok, inl, inr, refl, ap, arith, if◌then◌else◌}
+use Rattle.std.proofs.{lemmas.List.Elements.{All-get_or}}
 use Rattle.std.specs.{List.{All}, Prelude.{option_map}}
 use Rattle.mdp_math.specs.Rational.{ℚ}
 use Rattle.mdp_num.specs.Value.{IsNarrow}
 use Rattle.mdp_spec.specs.{Bounds.{reward_at}, Labels.{place_of, marks_of, initial_of}, Mdp.{Mdp, states_of, value_at}, Row.{IsMdp}, Sub.{sub_of}}
-use Rattle.mdp_spec.proofs.Subsystem.{sub-states}
-use Rattle.mdp_rows.specs.{Limits.{IsModel}, Negative.{has_negative}, declared.dir.Dir.{Dir}}
+use Rattle.mdp_rows.specs.{Negative.{has_negative}, declared.dir.Dir.{Dir}}
 use Rattle.mdp_rows.proofs.CutModels.{sub_is_model}
 use Rattle.mdp_text.proofs.InitialState.{initial_below}
 use Rattle.mdp_graph.specs.Laws.{RestMeets}
@@ -15,7 +14,7 @@ use Rattle.mdp_reach.specs.Laws as reach
 use Rattle.mdp_reward.specs.Laws as reward
 use Rattle.mdp_reward.proofs.Answering.{PassLaws}
 use Rattle.mdp_mean.specs.Laws as mean
-use Rattle.mdp_cert.specs.{Cert.{PlainClaim, IsValueNarrow}, declared.init.BoundsInit.{BoundsInit}}
+use Rattle.mdp_cert.specs.{Cert.{PlainClaim, IsValueNarrow}}
 use Rattle.mdp_cert.specs.{BoundsCert.{PlainBounds, probabilities, rewards, gains, IsInitInWidth, IsBodyInWidth, Fits}, BoundsLaws.{IsReadBack}, BoundsSpelling.{text_of}}
 use Rattle.mdp_check.specs.BoundsLaws.{AcceptedBoundsAreTrue}
 use Rattle.mdp_check.proofs.Accepting.{below_names}

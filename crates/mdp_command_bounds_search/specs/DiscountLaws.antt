@@ -7,7 +7,6 @@ use Rattle.mdp_rows.specs.{Limits.{IsModel}, declared.dir.Dir.{Dir}}
 use Rattle.mdp_discount_rules.specs.Rules.{IsFactor}
 use Rattle.mdp_discount_bounds.specs.{Between.{DiscountBetween}, Cert.{Certificate}}
 use Rattle.mdp_discount_text.specs.BoundsSpelling.{text_of}
-use Rattle.mdp_command.specs.Said.{Said}
 use Rattle.mdp_command_bounds_search.specs.{DiscountDue.{ClaimsSo, IsDiscountBoundsDue}, DiscountShown.{IsDiscountBoundsPrinted}}
 
 -- some text is due to each name that its model has and each factor in width, with any digits, and all that is shown of what `bounds` prints is shown of it:

@@ -6,7 +6,6 @@ use Rattle.mdp_spec.specs.{Labels.{place_of, marks_of}, Mdp.{Mdp, states_of}, Ro
 use Rattle.mdp_rows.specs.{Limits.{IsModel}, declared.dir.Dir.{Dir}, declared.dir.Dir.TheVariants.{Max, Min}}
 use Rattle.mdp_cert.specs.{BoundsCert.{PlainBounds, probabilities, rewards, gains}, BoundsSpelling.{text_of}, declared.init.BoundsInit.{BoundsInit}}
 use Rattle.mdp_job.specs.Job.{PlainQuery, reach, until, reward, mean}
-use Rattle.mdp_command.specs.Said.{Said}
 use Rattle.mdp_command_bounds_search.specs.{Due.{claim_of, fault_of, IsBoundsDue}, Shown.{IsBoundsPrinted}}
 
 -- some text is due to each query that fits its model, with any digits, and all that is shown of what `bounds` prints is shown of it: it reads as its
