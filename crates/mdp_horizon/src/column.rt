@@ -18,6 +18,7 @@ fn short(value: Option<i128>) -> Option<i64>
 }
 
 /// The values as wider ones, and one more.
+#[inline(never)]
 fn widened(
     alloc: Global,
     values: &[i64],
@@ -53,6 +54,7 @@ impl Column {
     }
 
     /// Appends a value.
+    #[inline(always)]
     pub(crate) fn push(&mut self, alloc: Global, value: Option<i128>) -> Result<(), AllocError>
         ensures { OnOk result (values_of self.new ≡ values_of self.old ++ value ∷ []) }
     {

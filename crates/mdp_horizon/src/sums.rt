@@ -38,6 +38,7 @@ fn farthest_with(side: Dir, column: &Column, far: i128, term: Term) -> Option<i1
 
 impl ScaledChoice<'_> {
     /// The start, and for each term its weight times the value of its target, with each product and each sum tested.
+    #[inline(never)]
     fn wide_total(&self, column: &Column) -> Option<i128>
         requires targets { All (λ t. t.target < length (values_of column.now)) (plain_terms self.now.terms) }
         requires narrow { unsigned_abs self.now.scale.start < 2 ^ 127 }
@@ -52,6 +53,7 @@ impl ScaledChoice<'_> {
     }
 
     /// The start, and for each term its weight times the value of its target.
+    #[inline(always)]
     fn total(&self, column: &Column) -> Option<i128>
         requires targets { All (λ t. t.target < length (values_of column.now)) (plain_terms self.now.terms) }
         requires narrow { unsigned_abs self.now.scale.start < 2 ^ 127 }
@@ -118,6 +120,7 @@ impl ScaledChoice<'_> {
     }
 
     /// What is earned at once, rounded, and the value of a target that lies farthest to the side.
+    #[inline(never)]
     pub(crate) fn trivial(&self, side: Dir, column: &Column) -> Option<i128>
         requires some { 0 < length (plain_terms self.now.terms) }
         requires targets { All (λ t. t.target < length (values_of column.now)) (plain_terms self.now.terms) }
