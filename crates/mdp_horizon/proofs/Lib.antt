@@ -21,6 +21,7 @@ pub mod More
 pub mod Fractions
 pub mod Ready
 pub mod Loops
+pub mod ShortSums
 pub mod Probabilities
 pub mod ExactSums
 pub mod Both

@@ -28,3 +28,7 @@ rest_at g xs c a d l =
     drop-cons (map g xs) c d (omega (arith, length-map xs g))
     ∙ ap (λ y. y ∷ drop (suc c) (map g xs)) (get_or-map g xs c a d l)
     ∙ ap (λ k. g (get_or xs c a) ∷ drop k (map g xs)) on
+
+-- the same with what is known to stand there
+pub rest_with : {A B : Type 0} (g : A → B) (xs : List A) (c : ℕ) (a : A) (d : B) → c < length xs → a ≡ get_or xs c a → drop c (map g xs) ≡ g a ∷ drop (c + 1) (map g xs)
+rest_with g xs c a d l e = rest_at g xs c a d l ∙ ap (λ y. g y ∷ drop (c + 1) (map g xs)) (sym e)

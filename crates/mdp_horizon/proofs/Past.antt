@@ -1,5 +1,5 @@
 -- A quotient that doesn't lie beyond the best one changes nothing.
-use Rattle.std.proofs.Common.{◌≡◌, ◌∙◌, ℕ, zero, suc, ◌<◌, Bool, true, false, if◌then◌else◌, List, Option, Some, None, refl, sym, ap, subst, arith}
+use Rattle.std.proofs.Common.{◌≡◌, ◌∙◌, ℕ, ◌<◌, Bool, true, false, if◌then◌else◌, List, Option, Some, None, refl, sym, ap, subst, arith}
 use Rattle.std.proofs.{Common.{ℤ, pos, negsuc, neg_ℤ, ◌+ℤ◌, ◌*ℤ◌, ◌<ℤ◌, ◌≤ℤ◌, int_lt}, lemmas.Int.{ints}}
 use Rattle.std.specs.Int.{int_div_euclid}
 use Rattle.mdp_math.specs.{Integers.{neg_ℤ-*ℤ}, Rational.{ℚ, of_int, ◌*ℚ◌, ◌≤ℚ◌}, Written.{narrow, ◌>>=◌}}

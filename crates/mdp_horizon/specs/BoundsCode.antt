@@ -1,12 +1,23 @@
 -- The types of the code, as contracts see them.
-use Rattle.std.specs.{Prelude.{◌≡◌, ℕ, ◌<◌, ◌^◌, List, map, length, All, Vec, ℤ, unsigned_abs}, List.{range_with_len}, Global.{Global}}
+use Rattle.std.specs.{Prelude.{◌≡◌, ℕ, ◌<◌, ◌^◌, List, map, length, All, Vec, Option, ℤ, unsigned_abs}, List.{range_with_len}, Global.{Global}}
 use Rattle.mdp_spec.specs.Mdp.{Mdp, states_of}
 use Rattle.mdp_horizon.specs.{Objective.{Objective}, Objective.Objective.{until, total}, Scaled.{Scaled}, Columns.{scaled_state}}
 use Rattle.mdp_horizon.specs.{declared.choice.ScaledChoice.{ScaledChoice}, declared.bounds_objective.Objective.{Objective as Asked}}
 use Rattle.mdp_horizon.specs.declared.bounds_objective.Objective.TheVariants.{Until, Total}
+use Rattle.mdp_horizon.specs.{declared.choice.Term.{Term}, declared.choice.Terms.{Terms}, declared.column.Column.{Column}, Short.{wide_terms, known}}
+use Rattle.mdp_horizon.specs.declared.choice.Terms.TheVariants as terms
+use Rattle.mdp_horizon.specs.declared.column.Column.TheVariants as column
+
+abbrev pub plain_terms : Terms → List Term
+plain_terms (terms.Short ts) = wide_terms ts.terms.now
+plain_terms (terms.Wide ts) = ts.now
+
+abbrev pub values_of : Column → List (Option ℤ)
+values_of (column.Short values) = known values.items
+values_of (column.Wide values) = values.items
 
 abbrev pub plain_choice : ScaledChoice → Scaled
-plain_choice x = record { scale = x.scale; terms = x.terms.now; low = x.rounded.now.low; high = x.rounded.now.high }
+plain_choice x = record { scale = x.scale; terms = plain_terms x.terms; low = x.rounded.now.low; high = x.rounded.now.high }
 
 abbrev pub plain_choices : List ScaledChoice → List Scaled
 plain_choices xs = map plain_choice xs

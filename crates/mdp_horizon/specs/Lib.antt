@@ -11,6 +11,7 @@ pub mod Laws
 pub mod Errors
 pub mod Whole
 pub mod Scaled
+pub mod Short
 pub mod Probability
 pub mod Exact
 pub mod Gap

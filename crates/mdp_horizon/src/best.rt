@@ -1,9 +1,10 @@
 ghost use Rattle.std.specs.Prelude.{◌≡◌, ◌<◌, ◌^◌, length, Some, pos, ◌<ℤ◌, unsigned_abs, false};
 ghost use Rattle.mdp_horizon.specs.Columns.{covered, covered_with, covered_from, followed, followed_from, judged, is_ahead};
 ghost use Rattle.mdp_horizon.specs.{Scaled.{rounded_sum}, Whole.{rounded, farther, opposite}, Past.{IsReached}};
-ghost use Rattle.mdp_horizon.specs.BoundsCode.{plain_choice, plain_choices, IsReady, AreReady};
+ghost use Rattle.mdp_horizon.specs.BoundsCode.{plain_choice, plain_choices, values_of, IsReady, AreReady};
 
 use crate::choice::ScaledChoice;
+use crate::column::Column;
 use crate::leader::Leader;
 use crate::whole::{farther, opposite, rounded, times};
 use mdp_rows::Dir;
@@ -43,14 +44,9 @@ fn farther_quotient(dir: Dir, far: i128, n: i128, d: i128) -> i128
 }
 
 /// The sum of a choice, where it lies farther than `far`.
-fn covered_with(
-    dir: Dir,
-    column: &[Option<i128>],
-    far: i128,
-    choice: &ScaledChoice<'_>,
-) -> Option<i128>
-    requires { IsReady (length column.now) (plain_choice choice.now) }
-    ensures { result ≡ covered_with dir column.now far (plain_choice choice.now) }
+fn covered_with(dir: Dir, column: &Column, far: i128, choice: &ScaledChoice<'_>) -> Option<i128>
+    requires { IsReady (length (values_of column.now)) (plain_choice choice.now) }
+    ensures { result ≡ covered_with dir (values_of column.now) far (plain_choice choice.now) }
 {
     match choice.summed(column) {
         Some(sum) => Some(farther_quotient(dir, far, sum, choice.scale.common)),
@@ -59,14 +55,10 @@ fn covered_with(
 }
 
 /// The farthest of the choices' sums, rounded; none where one of them is missing.
-pub(crate) fn covered(
-    dir: Dir,
-    column: &[Option<i128>],
-    choices: &[ScaledChoice<'_>],
-) -> Option<i128>
+pub(crate) fn covered(dir: Dir, column: &Column, choices: &[ScaledChoice<'_>]) -> Option<i128>
     requires some { 0 < length choices.now }
-    requires ready { AreReady (length column.now) choices.now }
-    ensures { result ≡ covered dir column.now (plain_choices choices.now) }
+    requires ready { AreReady (length (values_of column.now)) choices.now }
+    ensures { result ≡ covered dir (values_of column.now) (plain_choices choices.now) }
 {
     let mut far = choices[0].rounded_sum(dir, column)?;
     for c in 1..choices.len() {
@@ -122,13 +114,13 @@ fn judged_quotient(dir: Dir, c: u32, leader: Leader, n: i128, d: i128) -> Leader
 /// The leader after the sum of choice `c`, rounded the other way.
 fn judged_sum(
     dir: Dir,
-    column: &[Option<i128>],
+    column: &Column,
     c: u32,
     leader: Leader,
     choice: &ScaledChoice<'_>,
 ) -> Leader
-    requires { IsReady (length column.now) (plain_choice choice.now) }
-    ensures { result ≡ judged dir c leader (rounded_sum (opposite dir) column.now (plain_choice choice.now)) }
+    requires { IsReady (length (values_of column.now)) (plain_choice choice.now) }
+    ensures { result ≡ judged dir c leader (rounded_sum (opposite dir) (values_of column.now) (plain_choice choice.now)) }
 {
     match choice.summed(column) {
         Some(sum) => judged_quotient(dir, c, leader, sum, choice.scale.common),
@@ -139,14 +131,14 @@ fn judged_sum(
 /// The first choice with the best sum, rounded the other way.
 pub(crate) fn followed(
     dir: Dir,
-    column: &[Option<i128>],
+    column: &Column,
     choices: &[ScaledChoice<'_>],
     count: u32,
 ) -> Leader
     requires some { 0 < length choices.now }
     requires count { count ≡ length choices.now }
-    requires ready { AreReady (length column.now) choices.now }
-    ensures { result ≡ followed dir column.now (plain_choices choices.now) }
+    requires ready { AreReady (length (values_of column.now)) choices.now }
+    ensures { result ≡ followed dir (values_of column.now) (plain_choices choices.now) }
 {
     let mut leader = Leader {
         value: choices[0].rounded_sum(opposite(dir), column),

@@ -3,11 +3,12 @@ ghost use Rattle.mdp_spec.specs.Mdp.{states_of};
 ghost use Rattle.mdp_rows.specs.declared.dir.Dir.TheVariants.{Max, Min};
 ghost use Rattle.mdp_horizon.specs.{Between.{MaxBetween, MinBetween}, Objective.Objective.{until, total}, Answer.{lists}};
 ghost use Rattle.mdp_horizon.specs.{Columns.{shown, cover, follow, table, bounds_of}, Gap.{NoneIsWide, AreNearBounds}, Finer.{unit_of}, Finite.{AreProbabilities}};
-ghost use Rattle.mdp_horizon.specs.{BoundsCode.{plain_objective, IsAsked}, BoundsAnswer.{plain}};
+ghost use Rattle.mdp_horizon.specs.{BoundsCode.{plain_objective, values_of, IsAsked}, BoundsAnswer.{plain}};
 
 use crate::bounds::HorizonBounds;
 use crate::bounds_objective::Objective;
 use crate::choice::Arenas;
+use crate::column::Column;
 use crate::columns::{Columns, Query};
 use bumpalo::Bump;
 use mdp_num::{Frac, Memory};
@@ -25,15 +26,17 @@ pub(crate) fn shown(value: Option<i128>, one: i128) -> Option<Frac>
 /// A column of values as fractions.
 fn shown_column(
     alloc: Global,
-    column: &[Option<i128>],
+    column: &Column,
+    states: u32,
     one: i128,
 ) -> Result<Vec<Option<Frac>>, AllocError>
-    requires { pos 0 <ℤ one }
-    ensures { IfOk result (λ values. values.items ≡ map (shown one) column.now) }
+    requires one { pos 0 <ℤ one }
+    requires states { states ≡ length (values_of column.now) }
+    ensures { IfOk result (λ values. values.items ≡ map (shown one) (values_of column.now)) }
 {
-    let mut values = Vec::with_capacity(alloc, column.len())?;
-    for value in column {
-        values.push(shown(*value, one))?;
+    let mut values = Vec::with_capacity(alloc, states as usize)?;
+    for s in 0..states {
+        values.push(shown(column.at(s), one))?;
     }
     Ok(values)
 }
@@ -41,8 +44,8 @@ fn shown_column(
 /// The columns with `steps` steps left, and the choices of each step, those of the last step first.
 #[derive(Drop)]
 struct Induction {
-    cover: Vec<Option<i128>>,
-    follow: Vec<Option<i128>>,
+    cover: Column,
+    follow: Column,
     table: Vec<Vec<u32>>,
 }
 
@@ -50,8 +53,8 @@ struct Induction {
 fn backward(alloc: Global, query: Query<'_>, steps: u32) -> Result<Induction, AllocError>
     requires one { pos 0 <ℤ query.one }
     requires asked { IsAsked query.model.now (plain_objective query.objective) }
-    ensures cover { IfOk result (λ found. found.cover.items ≡ cover query.entry.dir query.entry.one query.entry.model.now (plain_objective query.entry.objective) steps) }
-    ensures follow { IfOk result (λ found. found.follow.items ≡ follow query.entry.dir query.entry.one query.entry.model.now (plain_objective query.entry.objective) steps) }
+    ensures cover { IfOk result (λ found. values_of found.cover ≡ cover query.entry.dir query.entry.one query.entry.model.now (plain_objective query.entry.objective) steps) }
+    ensures follow { IfOk result (λ found. values_of found.follow ≡ follow query.entry.dir query.entry.one query.entry.model.now (plain_objective query.entry.objective) steps) }
     ensures table { IfOk result (λ found. lists found.table.items ≡ table query.entry.dir query.entry.one query.entry.model.now (plain_objective query.entry.objective) steps) }
 {
     let terms = Bump::new(alloc);
@@ -91,8 +94,9 @@ fn bounded(alloc: Global, query: Query<'_>, steps: u32) -> Result<HorizonBounds,
     ensures { IfOk result (λ found. plain found ≡ bounds_of query.entry.dir query.entry.one query.entry.model.now (plain_objective query.entry.objective) steps) }
 {
     let found = backward(alloc, query, steps)?;
-    let cover = shown_column(alloc, &found.cover, query.one)?;
-    let follow = shown_column(alloc, &found.follow, query.one)?;
+    let states = query.model.states();
+    let cover = shown_column(alloc, &found.cover, states, query.one)?;
+    let follow = shown_column(alloc, &found.follow, states, query.one)?;
     let steps = found.table;
     match query.dir {
         Dir::Max => Ok(HorizonBounds {

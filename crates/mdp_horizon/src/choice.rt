@@ -1,3 +1,4 @@
+use crate::short_terms::ShortTerms;
 use bumpalo::Bump;
 
 /// An entry of a row in whole numbers: its probability times the row's common denominator.
@@ -5,6 +6,20 @@ use bumpalo::Bump;
 pub struct Term {
     pub(crate) target: u32,
     pub(crate) weight: i128,
+}
+
+/// The same with a weight of 64 bits.
+#[derive(Clone, Copy)]
+pub struct ShortTerm {
+    pub(crate) target: u32,
+    pub(crate) weight: i64,
+}
+
+/// The entries of a row: short ones, unless a weight is too wide for that.
+#[derive(Clone, Copy)]
+pub enum Terms<'b> {
+    Short(ShortTerms<'b>),
+    Wide(&'b [Term]),
 }
 
 /// A common denominator of a row and of what is earned at once, and the latter in units times it; 0 where one of these is too wide.
@@ -25,7 +40,7 @@ pub struct RoundedStart {
 #[derive(Drop)]
 pub struct ScaledChoice<'b> {
     pub(crate) scale: Scale,
-    pub(crate) terms: &'b [Term],
+    pub(crate) terms: Terms<'b>,
     pub(crate) rounded: &'b RoundedStart,
 }
 

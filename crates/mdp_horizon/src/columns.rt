@@ -2,11 +2,12 @@ ghost use Rattle.std.specs.Prelude.{◌≡◌, ◌<◌, ◌≤◌, ◌^◌, leng
 ghost use Rattle.mdp_spec.specs.Mdp.{states_of, choices_at};
 ghost use Rattle.mdp_horizon.specs.Objective.{earns};
 ghost use Rattle.mdp_horizon.specs.Columns.{stopped, ended, scaled_state, cover_at, follow_at, end_column, cover_next, follow_next, choices_next, shown};
-ghost use Rattle.mdp_horizon.specs.BoundsCode.{plain_choices, plain_objective, IsAsked, AreOf};
+ghost use Rattle.mdp_horizon.specs.BoundsCode.{plain_choices, plain_objective, values_of, IsAsked, AreOf};
 
 use crate::best::{covered, followed};
 use crate::bounds_objective::Objective;
 use crate::choice::{Arenas, ScaledChoice};
+use crate::column::Column;
 use crate::leader::Leader;
 use crate::scaling::scaled;
 use mdp_num::Frac;
@@ -25,8 +26,8 @@ pub(crate) struct Query<'a> {
 /// Two columns of values, and the choices of a step.
 #[derive(Drop)]
 pub(crate) struct Columns {
-    pub cover: Vec<Option<i128>>,
-    pub follow: Vec<Option<i128>>,
+    pub cover: Column,
+    pub follow: Column,
     pub choices: Vec<u32>,
 }
 
@@ -116,26 +117,26 @@ impl Query<'_> {
     }
 
     /// The values of all states with no step left.
-    pub(crate) fn end_column(self, alloc: Global) -> Result<Vec<Option<i128>>, AllocError>
+    pub(crate) fn end_column(self, alloc: Global) -> Result<Column, AllocError>
         requires one { pos 0 <ℤ self.one }
         requires asked { IsAsked self.model.now (plain_objective self.objective) }
-        ensures { IfOk result (λ column. column.items ≡ end_column self.entry.dir self.entry.one self.entry.model.now (plain_objective self.entry.objective)) }
+        ensures { IfOk result (λ column. values_of column ≡ end_column self.entry.dir self.entry.one self.entry.model.now (plain_objective self.entry.objective)) }
     {
-        let mut column = Vec::with_capacity(alloc, self.model.states() as usize)?;
+        let mut column = Column::with_capacity(alloc, self.model.states() as usize)?;
         for s in 0..self.model.states() {
-            column.push(Some(self.ended(s)))?;
+            column.push(alloc, Some(self.ended(s)))?;
         }
         Ok(column)
     }
 
     /// The covering value of state `s`, from the column with a step less.
-    fn cover_at(self, choices: &[ScaledChoice<'_>], column: &[Option<i128>], s: u32) -> Option<i128>
+    fn cover_at(self, choices: &[ScaledChoice<'_>], column: &Column, s: u32) -> Option<i128>
         requires one { pos 0 <ℤ self.one }
         requires asked { IsAsked self.model.now (plain_objective self.objective) }
         requires state { s < states_of self.model.now }
         requires choices { plain_choices choices.now ≡ scaled_state self.one self.model.now (plain_objective self.objective) s }
-        requires column { length column.now ≡ states_of self.model.now }
-        ensures { result ≡ cover_at self.entry.dir self.entry.one self.entry.model.now (plain_objective self.entry.objective) column.now s }
+        requires column { length (values_of column.now) ≡ states_of self.model.now }
+        ensures { result ≡ cover_at self.entry.dir self.entry.one self.entry.model.now (plain_objective self.entry.objective) (values_of column.now) s }
     {
         self.model.known();
         match self.stopped(s) {
@@ -145,13 +146,13 @@ impl Query<'_> {
     }
 
     /// The following value of state `s`, from the column with a step less, and its choice.
-    fn follow_at(self, choices: &[ScaledChoice<'_>], column: &[Option<i128>], s: u32) -> Leader
+    fn follow_at(self, choices: &[ScaledChoice<'_>], column: &Column, s: u32) -> Leader
         requires one { pos 0 <ℤ self.one }
         requires asked { IsAsked self.model.now (plain_objective self.objective) }
         requires state { s < states_of self.model.now }
         requires choices { plain_choices choices.now ≡ scaled_state self.one self.model.now (plain_objective self.objective) s }
-        requires column { length column.now ≡ states_of self.model.now }
-        ensures { result ≡ follow_at self.entry.dir self.entry.one self.entry.model.now (plain_objective self.entry.objective) column.now s }
+        requires column { length (values_of column.now) ≡ states_of self.model.now }
+        ensures { result ≡ follow_at self.entry.dir self.entry.one self.entry.model.now (plain_objective self.entry.objective) (values_of column.now) s }
     {
         self.model.known();
         let count = self.model.choices(s);
@@ -169,28 +170,29 @@ impl Query<'_> {
         self,
         alloc: Global,
         rows: &[Vec<ScaledChoice<'_>>],
-        cover: &[Option<i128>],
-        follow: &[Option<i128>],
+        cover: &Column,
+        follow: &Column,
     ) -> Result<Columns, AllocError>
         requires one { pos 0 <ℤ self.one }
         requires asked { IsAsked self.model.now (plain_objective self.objective) }
         requires rows { AreOf self.one self.model.now (plain_objective self.objective) rows.now }
-        requires cover { length cover.now ≡ states_of self.model.now }
-        requires follow { length follow.now ≡ states_of self.model.now }
-        ensures cover { IfOk result (λ made. made.cover.items ≡ cover_next self.entry.dir self.entry.one self.entry.model.now (plain_objective self.entry.objective) cover.now) }
-        ensures follow { IfOk result (λ made. made.follow.items ≡ follow_next self.entry.dir self.entry.one self.entry.model.now (plain_objective self.entry.objective) follow.now) }
-        ensures choices { IfOk result (λ made. made.choices.items ≡ choices_next self.entry.dir self.entry.one self.entry.model.now (plain_objective self.entry.objective) follow.now) }
+        requires cover { length (values_of cover.now) ≡ states_of self.model.now }
+        requires follow { length (values_of follow.now) ≡ states_of self.model.now }
+        ensures cover { IfOk result (λ made. values_of made.cover ≡ cover_next self.entry.dir self.entry.one self.entry.model.now (plain_objective self.entry.objective) (values_of cover.now)) }
+        ensures follow { IfOk result (λ made. values_of made.follow ≡ follow_next self.entry.dir self.entry.one self.entry.model.now (plain_objective self.entry.objective) (values_of follow.now)) }
+        ensures choices { IfOk result (λ made. made.choices.items ≡ choices_next self.entry.dir self.entry.one self.entry.model.now (plain_objective self.entry.objective) (values_of follow.now)) }
     {
+        let states = self.model.states() as usize;
         let mut made = Columns {
-            cover: Vec::with_capacity(alloc, cover.len())?,
-            follow: Vec::with_capacity(alloc, cover.len())?,
-            choices: Vec::with_capacity(alloc, cover.len())?,
+            cover: Column::with_capacity(alloc, states)?,
+            follow: Column::with_capacity(alloc, states)?,
+            choices: Vec::with_capacity(alloc, states)?,
         };
         for s in 0..self.model.states() {
             let choices = rows[s as usize].as_slice();
             let leader = self.follow_at(choices, follow, s);
-            made.cover.push(self.cover_at(choices, cover, s))?;
-            made.follow.push(leader.value)?;
+            made.cover.push(alloc, self.cover_at(choices, cover, s))?;
+            made.follow.push(alloc, leader.value)?;
             made.choices.push(leader.choice)?;
         }
         Ok(made)
@@ -201,18 +203,18 @@ impl Query<'_> {
         self,
         alloc: Global,
         rows: &[Vec<ScaledChoice<'_>>],
-        column: &[Option<i128>],
-    ) -> Result<Vec<Option<i128>>, AllocError>
+        column: &Column,
+    ) -> Result<Column, AllocError>
         requires one { pos 0 <ℤ self.one }
         requires asked { IsAsked self.model.now (plain_objective self.objective) }
         requires rows { AreOf self.one self.model.now (plain_objective self.objective) rows.now }
-        requires column { length column.now ≡ states_of self.model.now }
-        ensures { IfOk result (λ made. made.items ≡ cover_next self.entry.dir self.entry.one self.entry.model.now (plain_objective self.entry.objective) column.now) }
+        requires column { length (values_of column.now) ≡ states_of self.model.now }
+        ensures { IfOk result (λ made. values_of made ≡ cover_next self.entry.dir self.entry.one self.entry.model.now (plain_objective self.entry.objective) (values_of column.now)) }
     {
-        let mut made = Vec::with_capacity(alloc, column.len())?;
+        let mut made = Column::with_capacity(alloc, self.model.states() as usize)?;
         for s in 0..self.model.states() {
             let choices = rows[s as usize].as_slice();
-            made.push(self.cover_at(choices, column, s))?;
+            made.push(alloc, self.cover_at(choices, column, s))?;
         }
         Ok(made)
     }
@@ -222,19 +224,19 @@ impl Query<'_> {
         self,
         alloc: Global,
         rows: &[Vec<ScaledChoice<'_>>],
-        column: &[Option<i128>],
-    ) -> Result<Vec<Option<i128>>, AllocError>
+        column: &Column,
+    ) -> Result<Column, AllocError>
         requires one { pos 0 <ℤ self.one }
         requires asked { IsAsked self.model.now (plain_objective self.objective) }
         requires rows { AreOf self.one self.model.now (plain_objective self.objective) rows.now }
-        requires column { length column.now ≡ states_of self.model.now }
-        ensures { IfOk result (λ made. made.items ≡ follow_next self.entry.dir self.entry.one self.entry.model.now (plain_objective self.entry.objective) column.now) }
+        requires column { length (values_of column.now) ≡ states_of self.model.now }
+        ensures { IfOk result (λ made. values_of made ≡ follow_next self.entry.dir self.entry.one self.entry.model.now (plain_objective self.entry.objective) (values_of column.now)) }
     {
-        let mut made = Vec::with_capacity(alloc, column.len())?;
+        let mut made = Column::with_capacity(alloc, self.model.states() as usize)?;
         for s in 0..self.model.states() {
             let choices = rows[s as usize].as_slice();
             let leader = self.follow_at(choices, column, s);
-            made.push(leader.value)?;
+            made.push(alloc, leader.value)?;
         }
         Ok(made)
     }

@@ -3,11 +3,12 @@ ghost use Rattle.mdp_spec.specs.Mdp.{states_of};
 ghost use Rattle.mdp_rows.specs.declared.dir.Dir.TheVariants.{Max, Min};
 ghost use Rattle.mdp_horizon.specs.{Objective.Objective.{until, total}, Whole.{whole_at}, Gap.{NoneIsWide}, Finer.{unit_of}};
 ghost use Rattle.mdp_horizon.specs.Curve.{point_by, curve_of, IsMaxCurve, IsMinCurve, IsFiniteCurve, IsNearCurve, IsCurveOfBounds};
-ghost use Rattle.mdp_horizon.specs.BoundsCode.{plain_objective, IsAsked};
+ghost use Rattle.mdp_horizon.specs.BoundsCode.{plain_objective, values_of, IsAsked};
 
 use crate::bounds_induction::shown;
 use crate::bounds_objective::Objective;
 use crate::choice::Arenas;
+use crate::column::Column;
 use crate::columns::Query;
 use crate::point::Point;
 use bumpalo::Bump;
@@ -17,19 +18,14 @@ use std::alloc::{AllocError, Global};
 
 impl Query<'_> {
     /// The lower and the upper value of state `s` in the two columns.
-    fn values_at(
-        self,
-        cover: &[Option<i128>],
-        follow: &[Option<i128>],
-        s: u32,
-    ) -> (Option<Frac>, Option<Frac>)
+    fn values_at(self, cover: &Column, follow: &Column, s: u32) -> (Option<Frac>, Option<Frac>)
         requires one { pos 0 <ℤ self.one }
-        requires cover { s < length cover.now }
-        requires follow { s < length follow.now }
-        ensures { record { lower = result.0; upper = result.1 } ≡ point_by self.entry.dir self.entry.one (whole_at cover.now s) (whole_at follow.now s) }
+        requires cover { s < length (values_of cover.now) }
+        requires follow { s < length (values_of follow.now) }
+        ensures { record { lower = result.0; upper = result.1 } ≡ point_by self.entry.dir self.entry.one (whole_at (values_of cover.now) s) (whole_at (values_of follow.now) s) }
     {
-        let covering = shown(cover[s as usize], self.one);
-        let following = shown(follow[s as usize], self.one);
+        let covering = shown(cover.at(s), self.one);
+        let following = shown(follow.at(s), self.one);
         match self.dir {
             Dir::Max => (following, covering),
             Dir::Min => (covering, following),

@@ -1,9 +1,10 @@
 ghost use Rattle.std.specs.Prelude.{◌≡◌, ◌<◌, ◌≤◌, ◌^◌, length, pos, ◌<ℤ◌, ◌≤ℤ◌, unsigned_abs, IfOk, IfSome, All};
 ghost use Rattle.mdp_spec.specs.Row.{entries};
 ghost use Rattle.mdp_horizon.specs.Scaled.{beyond, common_with, common_in, scaled_start, scale_in, scale_of, terms_of, term_of, rounded_start, scaled};
-ghost use Rattle.mdp_horizon.specs.{Probability.{IsProbability}, BoundsCode.{plain_choice}};
+ghost use Rattle.mdp_horizon.specs.{Probability.{IsProbability}, Short.{wide_term, wide_terms, weights_of}, BoundsCode.{plain_choice, plain_terms}};
 
-use crate::choice::{Arenas, RoundedStart, Scale, ScaledChoice, Term};
+use crate::choice::{Arenas, RoundedStart, Scale, ScaledChoice, ShortTerm, Term, Terms};
+use crate::short_terms::ShortTerms;
 use crate::whole::{rounded, times};
 use bumpalo::Bump;
 use bumpalo::collections::into_bump_slice;
@@ -90,8 +91,67 @@ fn term_of(target: u32, prob: &Frac, common: i128) -> Term
     Term { target, weight }
 }
 
-/// The entries of a row, with their probabilities times `common`.
-fn terms_of<'b>(arena: &'b Bump, row: Row<'_>, common: i128) -> Result<&'b [Term], AllocError>
+/// An entry with a weight of 64 bits; none where it is wider.
+fn short_term(term: Term) -> Option<ShortTerm>
+    ensures { IfSome result (λ short. wide_term short ≡ term) }
+{
+    let weight = i64::try_from(term.weight).ok()?;
+    Some(ShortTerm {
+        target: term.target,
+        weight,
+    })
+}
+
+/// The magnitudes of all weights together; none where they pass 64 bits.
+fn weights_of(terms: &[ShortTerm]) -> Option<u64>
+    ensures { IfSome result (λ sum. sum ≡ weights_of terms.now) }
+{
+    let mut sum = 0u64;
+    for term in terms {
+        sum = sum.checked_add(term.weight.unsigned_abs())?;
+    }
+    Some(sum)
+}
+
+/// The entries of a row, with their probabilities times `common`; none where one of them isn't short.
+fn short_list<'b>(
+    arena: &'b Bump,
+    row: Row<'_>,
+    common: i128,
+) -> Result<Option<&'b [ShortTerm]>, AllocError>
+    requires { unsigned_abs common < 2 ^ 127 }
+    ensures { IfOk result (λ found. IfSome found (λ terms. wide_terms terms.now ≡ terms_of common (entries row.entry.targets.now row.entry.probs.now))) }
+{
+    let mut terms = Vec::with_capacity(arena, row.targets.len())?;
+    for i in 0..row.targets.len() {
+        let Some(term) = short_term(term_of(row.targets[i], &row.probs[i], common)) else {
+            return Ok(None);
+        };
+        terms.push(term)?;
+    }
+    Ok(Some(into_bump_slice(terms)))
+}
+
+/// The same, where they are short together.
+fn short_terms<'b>(
+    arena: &'b Bump,
+    row: Row<'_>,
+    common: i128,
+) -> Result<Option<ShortTerms<'b>>, AllocError>
+    requires { unsigned_abs common < 2 ^ 127 }
+    ensures { IfOk result (λ found. IfSome found (λ short. wide_terms short.terms.now ≡ terms_of common (entries row.entry.targets.now row.entry.probs.now))) }
+{
+    let Some(terms) = short_list(arena, row, common)? else {
+        return Ok(None);
+    };
+    match weights_of(terms) {
+        Some(sum) if sum < 1 << 63 => Ok(Some(ShortTerms { terms })),
+        _ => Ok(None),
+    }
+}
+
+/// The entries of a row, with their probabilities times `common`, as wide ones.
+fn wide_list<'b>(arena: &'b Bump, row: Row<'_>, common: i128) -> Result<&'b [Term], AllocError>
     requires { unsigned_abs common < 2 ^ 127 }
     ensures { IfOk result (λ terms. terms.now ≡ terms_of common (entries row.entry.targets.now row.entry.probs.now)) }
 {
@@ -100,6 +160,17 @@ fn terms_of<'b>(arena: &'b Bump, row: Row<'_>, common: i128) -> Result<&'b [Term
         terms.push(term_of(row.targets[i], &row.probs[i], common))?;
     }
     Ok(into_bump_slice(terms))
+}
+
+/// The entries of a row, with their probabilities times `common`.
+fn terms_of<'b>(arena: &'b Bump, row: Row<'_>, common: i128) -> Result<Terms<'b>, AllocError>
+    requires { unsigned_abs common < 2 ^ 127 }
+    ensures { IfOk result (λ terms. plain_terms terms ≡ terms_of common (entries row.entry.targets.now row.entry.probs.now)) }
+{
+    match short_terms(arena, row, common)? {
+        Some(short) => Ok(Terms::Short(short)),
+        None => Ok(Terms::Wide(wide_list(arena, row, common)?)),
+    }
 }
 
 /// What is earned at once in units, rounded up for `Max` and down for `Min`.

@@ -22,6 +22,7 @@ pub(crate) fn plus(a: i128, b: i128) -> Option<i128>
 }
 
 /// n/d, rounded down. Numbers of 64 bits are divided as such.
+#[inline(always)]
 fn quotient(n: i128, d: i128) -> i128
     requires { pos 0 <ℤ d }
     ensures { result ≡ int_div_euclid n d }
@@ -33,6 +34,7 @@ fn quotient(n: i128, d: i128) -> i128
 }
 
 /// n/d, rounded up for `Max` and down for `Min`.
+#[inline(always)]
 pub(crate) fn rounded(side: Dir, n: i128, d: i128) -> i128
     requires narrow { unsigned_abs n < 2 ^ 127 }
     requires positive { pos 0 <ℤ d }

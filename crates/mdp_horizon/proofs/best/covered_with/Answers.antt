@@ -2,7 +2,7 @@ use Rattle.std.proofs.Common.{◌≡◌, ◌∙◌, ℤ, Option, Some, sym, ap, 
 use mir.Syntax.{w128}
 use mir.Val.{SFits}
 use Rattle.mdp_math.specs.Written.{◌>>=◌}
-use Rattle.mdp_horizon.specs.{Whole.{rounded, farther}, BoundsCode.{plain_choice}}
+use Rattle.mdp_horizon.specs.{Whole.{rounded, farther}, BoundsCode.{values_of, plain_choice}}
 use Rattle.mdp_horizon.proofs.Past.{sum_divided, sum_trivial, farther_same}
 use Rattle.mdp_horizon.proofs.best.covered_with.Goals as goal
 
@@ -17,7 +17,7 @@ returns-in-Some c =
     in
     ap (λ (z : ℤ). let o : Option ℤ = Some z in o) (to_z-of_z h ∙ q)
     ∙ sym (ap (λ (o : Option ℤ). o >>= (λ k. Some (farther c.args.dir c.args.far k)))
-    (sum_divided c.args.dir c.args.column.now (plain_choice c.args.choice.now) c.in-Some.sum c.in-Some.ensures.value))
+    (sum_divided c.args.dir (values_of c.args.column.now) (plain_choice c.args.choice.now) c.in-Some.sum c.in-Some.ensures.value))
 
 pub returns-in_ok-trivial-in-None : goal.returns-in_ok-trivial-in-None
 returns-in_ok-trivial-in-None c =
@@ -28,10 +28,10 @@ returns-in_ok-trivial-in-None c =
     in
     ap (λ (z : ℤ). let o : Option ℤ = Some z in o) (to_z-of_z h ∙ q)
     ∙ sym (ap (λ (o : Option ℤ). o >>= (λ k. Some (farther c.args.dir c.args.far k)))
-    (sum_trivial c.args.dir c.args.column.now (plain_choice c.args.choice.now) c.in-None.ensures.value ∙ sym c.trivial.ensures ∙ c.in_ok-trivial-in-None.was {u = tt}))
+    (sum_trivial c.args.dir (values_of c.args.column.now) (plain_choice c.args.choice.now) c.in-None.ensures.value ∙ sym c.trivial.ensures ∙ c.in_ok-trivial-in-None.was {u = tt}))
 
 pub returns-in_err-trivial-in-None : goal.returns-in_err-trivial-in-None
 returns-in_err-trivial-in-None c =
     c.from_residual.ensures
     ∙ sym (ap (λ (o : Option ℤ). o >>= (λ k. Some (farther c.args.dir c.args.far k)))
-    (sum_trivial c.args.dir c.args.column.now (plain_choice c.args.choice.now) c.in-None.ensures.value ∙ sym c.trivial.ensures ∙ c.in_err-trivial-in-None.was {u = tt}))
+    (sum_trivial c.args.dir (values_of c.args.column.now) (plain_choice c.args.choice.now) c.in-None.ensures.value ∙ sym c.trivial.ensures ∙ c.in_err-trivial-in-None.was {u = tt}))

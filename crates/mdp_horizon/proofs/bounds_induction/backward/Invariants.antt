@@ -1,5 +1,5 @@
 use Rattle.std.proofs.Common.{◌≡◌, reverse}
-use Rattle.mdp_horizon.specs.{Answer.{lists}, Columns.{cover, follow, table}, BoundsCode.{plain_objective}}
+use Rattle.mdp_horizon.specs.{Answer.{lists}, Columns.{cover, follow, table}, BoundsCode.{plain_objective, values_of}}
 use Rattle.mdp_horizon.proofs.bounds_induction.backward.Given as goal
 
 abbrev pub invariant-loop-done : goal.invariant-loop-done
@@ -7,7 +7,7 @@ invariant-loop-done l =
     let one = l.fn.query.one in
     let o = plain_objective l.fn.query.objective in
     record {
-      covers : l.cover.items ≡ cover l.fn.query.dir one l.fn.query.model.now o l.done;
-      follows : l.follow.items ≡ follow l.fn.query.dir one l.fn.query.model.now o l.done;
+      covers : values_of l.cover ≡ cover l.fn.query.dir one l.fn.query.model.now o l.done;
+      follows : values_of l.follow ≡ follow l.fn.query.dir one l.fn.query.model.now o l.done;
       choices : lists (reverse l.table.items) ≡ table l.fn.query.dir one l.fn.query.model.now o l.done;
     }

@@ -1,11 +1,11 @@
 use Rattle.std.proofs.Common.{length, arith}
-use Rattle.mdp_horizon.specs.BoundsCode.{plain_objective}
+use Rattle.mdp_horizon.specs.BoundsCode.{plain_objective, values_of}
 use Rattle.mdp_horizon.proofs.Ready.{count_of, ready_state}
 use Rattle.mdp_horizon.proofs.columns.Query.cover_at.Goals as goal
 
 pub covered-requires-clause-ready : goal.covered-requires-clause-ready
 covered-requires-clause-ready c =
-    ready_state c.args.self.one c.args.self.model.now (plain_objective c.args.self.objective) c.args.s (length c.args.column.now) c.args.choices.now c.known.ensures.mdp (omega arith) (omega arith)
+    ready_state c.args.self.one c.args.self.model.now (plain_objective c.args.self.objective) c.args.s (length (values_of c.args.column.now)) c.args.choices.now c.known.ensures.mdp (omega arith) (omega arith)
     c.requires.choices
 
 pub covered-requires-clause-some : goal.covered-requires-clause-some

@@ -6,22 +6,22 @@ use Rattle.mdp_horizon.proofs.columns.Query.curve.Goals as goal
 
 pub values_at-lower-requires-clause-cover : goal.values_at-lower-requires-clause-cover
 values_at-lower-requires-clause-cover c =
-    let e = ap length (c.deref.ensures.value ∙ c.in_ok-cover.ensures {u = tt}) ∙ cover_states c.args.self.dir c.args.self.one c.args.self.model.now (plain_objective c.args.self.objective) 0 in
+    let e = ap length (c.in_ok-cover.ensures {u = tt}) ∙ cover_states c.args.self.dir c.args.self.one c.args.self.model.now (plain_objective c.args.self.objective) 0 in
     omega (arith, e, c.requires.state)
 
 pub values_at-lower-requires-clause-follow : goal.values_at-lower-requires-clause-follow
 values_at-lower-requires-clause-follow c =
-    let e = ap length (c.deref-2.ensures.value ∙ c.in_ok-follow.ensures {u = tt}) ∙ follow_states c.args.self.dir c.args.self.one c.args.self.model.now (plain_objective c.args.self.objective) 0 in
+    let e = ap length (c.in_ok-follow.ensures {u = tt}) ∙ follow_states c.args.self.dir c.args.self.one c.args.self.model.now (plain_objective c.args.self.objective) 0 in
     omega (arith, e, c.requires.state)
 
 pub cover_next-requires-clause-column : goal.cover_next-requires-clause-column
 cover_next-requires-clause-column c =
-    ap length (c.deref-in-loop-done-2.ensures.value ∙ c.loop-done.invariant.covers)
+    ap length (c.loop-done.invariant.covers)
     ∙ cover_states c.args.self.dir c.args.self.one c.args.self.model.now (plain_objective c.args.self.objective) c.loop-done.done
 
 pub follow_next-requires-clause-column : goal.follow_next-requires-clause-column
 follow_next-requires-clause-column c =
-    ap length (c.deref-in-loop-done-4.ensures.value ∙ c.loop-done.invariant.follows)
+    ap length (c.loop-done.invariant.follows)
     ∙ follow_states c.args.self.dir c.args.self.one c.args.self.model.now (plain_objective c.args.self.objective) c.loop-done.done
 
 pub values_at-lower-requires-in-loop-done-clause-cover : goal.values_at-lower-requires-in-loop-done-clause-cover
@@ -30,8 +30,8 @@ values_at-lower-requires-in-loop-done-clause-cover c =
     let one = c.args.self.one in
     let m = c.args.self.model.now in
     let o = plain_objective c.args.self.objective in
-    let made = c.in_ok-cover-2.ensures {u = tt} ∙ ap (cover_next dir one m o) (c.deref-in-loop-done-2.ensures.value ∙ c.loop-done.invariant.covers) ∙ cover_more dir one m o c.loop-done.done in
-    let e = ap length (c.deref-in-loop-done-5.ensures.value ∙ made) ∙ cover_states dir one m o (c.loop-done.done + 1) in
+    let made = c.in_ok-cover-2.ensures {u = tt} ∙ ap (cover_next dir one m o) (c.loop-done.invariant.covers) ∙ cover_more dir one m o c.loop-done.done in
+    let e = ap length (made) ∙ cover_states dir one m o (c.loop-done.done + 1) in
     omega (arith, e, c.requires.state)
 
 pub values_at-lower-requires-in-loop-done-clause-follow : goal.values_at-lower-requires-in-loop-done-clause-follow
@@ -40,8 +40,8 @@ values_at-lower-requires-in-loop-done-clause-follow c =
     let one = c.args.self.one in
     let m = c.args.self.model.now in
     let o = plain_objective c.args.self.objective in
-    let made = c.in_ok-follow-2.ensures {u = tt} ∙ ap (follow_next dir one m o) (c.deref-in-loop-done-4.ensures.value ∙ c.loop-done.invariant.follows) ∙ follow_more dir one m o c.loop-done.done in
-    let e = ap length (c.deref-in-loop-done-6.ensures.value ∙ made) ∙ follow_states dir one m o (c.loop-done.done + 1) in
+    let made = c.in_ok-follow-2.ensures {u = tt} ∙ ap (follow_next dir one m o) (c.loop-done.invariant.follows) ∙ follow_more dir one m o c.loop-done.done in
+    let e = ap length (made) ∙ follow_states dir one m o (c.loop-done.done + 1) in
     omega (arith, e, c.requires.state)
 
 pub loop-done-preserved : goal.loop-done-preserved
@@ -50,8 +50,8 @@ loop-done-preserved c =
     let one = c.args.self.one in
     let m = c.args.self.model.now in
     let o = plain_objective c.args.self.objective in
-    let covers = c.in_ok-cover-2.ensures {u = tt} ∙ ap (cover_next dir one m o) (c.deref-in-loop-done-2.ensures.value ∙ c.loop-done.invariant.covers) ∙ cover_more dir one m o c.loop-done.done in
-    let follows = c.in_ok-follow-2.ensures {u = tt} ∙ ap (follow_next dir one m o) (c.deref-in-loop-done-4.ensures.value ∙ c.loop-done.invariant.follows)
+    let covers = c.in_ok-cover-2.ensures {u = tt} ∙ ap (cover_next dir one m o) (c.loop-done.invariant.covers) ∙ cover_more dir one m o c.loop-done.done in
+    let follows = c.in_ok-follow-2.ensures {u = tt} ∙ ap (follow_next dir one m o) (c.loop-done.invariant.follows)
     ∙ follow_more dir one m o c.loop-done.done in
     record {
       covers = covers;
@@ -60,7 +60,7 @@ loop-done-preserved c =
           ∙ more (point_of dir one m o c.args.s) (c.loop-done.done + 1) c.loop-done.curve.items _ c.loop-done.invariant.points
           (c.values_at-lower-in-loop-done.ensures
           ∙ ap₂ (λ (covering following : List (Option ℤ)). point_by dir one (whole_at covering c.args.s) (whole_at following c.args.s))
-          (c.deref-in-loop-done-5.ensures.value ∙ covers) (c.deref-in-loop-done-6.ensures.value ∙ follows));
+          (covers) (follows));
     }
 
 pub returns : goal.returns

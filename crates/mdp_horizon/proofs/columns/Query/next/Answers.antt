@@ -1,5 +1,5 @@
 use Rattle.std.proofs.Common.{◌∙◌, ap, arith}
-use Rattle.mdp_horizon.specs.{declared.leader.Leader.{Leader}, Columns.{cover_at, follow_at}, BoundsCode.{plain_choices, plain_objective}}
+use Rattle.mdp_horizon.specs.{declared.leader.Leader.{Leader}, Columns.{cover_at, follow_at}, BoundsCode.{plain_choices, plain_objective, values_of}}
 use Rattle.mdp_horizon.proofs.{More.{more}, Ready.{rows_length, rows_at}}
 use Rattle.mdp_horizon.proofs.columns.Query.next.Goals as goal
 
@@ -24,12 +24,12 @@ loop-s-preserved c =
     let m = c.args.self.model.now in
     let o = plain_objective c.args.self.objective in
     record {
-      covers = (c.in_ok-push.ensures {u = tt}).items ∙ more (cover_at c.args.self.dir one m o c.args.cover.now) c.loop-s.s
-          c.loop-s.made.cover.items c.cover_at.result c.loop-s.invariant.covers c.cover_at.ensures;
-      follows = (c.in_ok-push-2.ensures {u = tt}).items
-          ∙ more (λ s. Leader.value (follow_at c.args.self.dir one m o c.args.follow.now s)) c.loop-s.s c.loop-s.made.follow.items (Leader.value c.follow_at-leader.result) c.loop-s.invariant.follows
+      covers = c.in_ok-push.ensures ∙ more (cover_at c.args.self.dir one m o (values_of c.args.cover.now)) c.loop-s.s
+          (values_of c.loop-s.made.cover) c.cover_at.result c.loop-s.invariant.covers c.cover_at.ensures;
+      follows = c.in_ok-push-2.ensures
+          ∙ more (λ s. Leader.value (follow_at c.args.self.dir one m o (values_of c.args.follow.now) s)) c.loop-s.s (values_of c.loop-s.made.follow) (Leader.value c.follow_at-leader.result) c.loop-s.invariant.follows
           (ap Leader.value c.follow_at-leader.ensures);
       choices = (c.in_ok-push-3.ensures {u = tt}).items
-          ∙ more (λ s. Leader.choice (follow_at c.args.self.dir one m o c.args.follow.now s)) c.loop-s.s c.loop-s.made.choices.items (Leader.choice c.follow_at-leader.result) c.loop-s.invariant.choices
+          ∙ more (λ s. Leader.choice (follow_at c.args.self.dir one m o (values_of c.args.follow.now) s)) c.loop-s.s c.loop-s.made.choices.items (Leader.choice c.follow_at-leader.result) c.loop-s.invariant.choices
           (ap Leader.choice c.follow_at-leader.ensures);
     }

@@ -1,6 +1,6 @@
 use Rattle.std.proofs.Common.{◌≡◌, map}
 use Rattle.std.specs.List.{range_with_len}
-use Rattle.mdp_horizon.specs.{Columns.{cover_at, follow_at}, BoundsCode.{plain_objective}, declared.leader.Leader.{Leader}}
+use Rattle.mdp_horizon.specs.{Columns.{cover_at, follow_at}, BoundsCode.{plain_objective, values_of}, declared.leader.Leader.{Leader}}
 use Rattle.mdp_horizon.proofs.columns.Query.next.Given as goal
 
 abbrev pub invariant-loop-s : goal.invariant-loop-s
@@ -8,7 +8,7 @@ invariant-loop-s l =
     let one = l.fn.self.one in
     let o = plain_objective l.fn.self.objective in
     record {
-      covers : l.made.cover.items ≡ map (cover_at l.fn.self.dir one l.fn.self.model.now o l.cover) (range_with_len 0 l.s);
-      follows : l.made.follow.items ≡ map (λ s. Leader.value (follow_at l.fn.self.dir one l.fn.self.model.now o l.follow s)) (range_with_len 0 l.s);
-      choices : l.made.choices.items ≡ map (λ s. Leader.choice (follow_at l.fn.self.dir one l.fn.self.model.now o l.follow s)) (range_with_len 0 l.s);
+      covers : values_of l.made.cover ≡ map (cover_at l.fn.self.dir one l.fn.self.model.now o (values_of l.cover)) (range_with_len 0 l.s);
+      follows : values_of l.made.follow ≡ map (λ s. Leader.value (follow_at l.fn.self.dir one l.fn.self.model.now o (values_of l.follow) s)) (range_with_len 0 l.s);
+      choices : l.made.choices.items ≡ map (λ s. Leader.choice (follow_at l.fn.self.dir one l.fn.self.model.now o (values_of l.follow) s)) (range_with_len 0 l.s);
     }

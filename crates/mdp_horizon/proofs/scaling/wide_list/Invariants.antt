@@ -1,7 +1,7 @@
 use Rattle.std.proofs.Common.{◌≡◌, ◌++◌, drop}
 use Rattle.mdp_spec.specs.Row.{entries}
 use Rattle.mdp_horizon.specs.Scaled.{terms_of}
-use Rattle.mdp_horizon.proofs.scaling.terms_of.Given as goal
+use Rattle.mdp_horizon.proofs.scaling.wide_list.Given as goal
 
 abbrev pub invariant-loop-i : goal.invariant-loop-i
 invariant-loop-i l =
