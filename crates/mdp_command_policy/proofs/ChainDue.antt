@@ -43,9 +43,9 @@ choice_some m policy each =
     ]
   where
     inside : (s : ℕ) → nat_le (length (choices_at m s)) (slice_index policy s) ≡ false → slice_index policy s < length (choices_at m s)
-    inside s no = elim (cases_lt (slice_index policy s) (length (choices_at m s))) [
+    inside s other = elim (cases_lt (slice_index policy s) (length (choices_at m s))) [
       | inl l ↦ l
-      | inr past ↦ absurd (false≢true (sym no ∙ le-leb (length (choices_at m s)) (slice_index policy s) past))
+      | inr past ↦ absurd (false≢true (sym other ∙ le-leb (length (choices_at m s)) (slice_index policy s) past))
     ]
 
 size_some : (m : Mdp) (policy : List ℕ) (fits : Bool) → (length policy == states_of m) ≡ fits → (said : Said) × IsSizeDue m policy fits said
