@@ -5,7 +5,7 @@ use Rattle.mdp_math.specs.{Gcd.{gcd, gcd_with_fuel}, Rational.{of_int, ratio, lt
 use Rattle.mdp_num.specs.{Numeral.{parts_of, numeral_of}, Value.{spelling}}
 use Rattle.mdp_rows.specs.{declared.rule.RowRule.TheVariants.{Exact, Scaled}, declared.dir.Dir.TheVariants.{Max, Min}}
 use Rattle.mdp_job.specs.Job.{Asked, reach, until, reward, mean, solve, witness, check, drill, horizon, total, policy, chain, discount, discount_check, files_of}
-use Rattle.mdp_job.specs.{Job.{bounds, bounds_until, bounds_total, bounds_discount, bounds_check, curve_until, curve_total}, Refusal.{no_job, query_init, below}}
+use Rattle.mdp_job.specs.{Job.{bounds, bounds_until, bounds_total, bounds_discount, bounds_witness, bounds_check, curve_until, curve_total}, Refusal.{no_job, query_init, below, undecided}}
 use Rattle.mdp_job.specs.{Status.{code_of, status_of}, Text.{text_of}, Words.{job_of_texts, path_at}}
 use Rattle.mdp_job.specs.declared.words_error.WordsError.TheVariants.{Command, Number, Rows, Direction, Objective, Threshold, Drill, Steps, Factor, Digits, Encoding}
 
@@ -231,6 +231,21 @@ bounds_within : Asks (
 unfolding numeral_of parts_of lt_ℚ ratio of_int gcd gcd_with_fuel
 bounds_within = refl
 
+-- the words of `witness` behind the objective: one label, or two behind `until`; then the threshold
+bounds_of_witness : Asks (
+    (codes "bounds m exact max witness goal 1/4", Ok (bounds_witness Exact Max None (codes "goal") (ratio (pos 1) 4))) ∷
+    (codes "bounds m scaled min witness until 0.5", Ok (bounds_witness Scaled Min None (codes "until") (ratio (pos 1) 2))) ∷
+    (codes "bounds m exact max witness until safe goal 1/4", Ok (bounds_witness Exact Max (Some (codes "safe")) (codes "goal") (ratio (pos 1) 4))) ∷
+    (codes "bounds m exact max witness goal 1/0", Err Threshold) ∷
+    (codes "bounds m exact max witness until safe goal -1", Err Threshold) ∷
+    (codes "bounds m exact max witness goal 1/4 9", Err Number) ∷
+    (codes "bounds m exact max witness unless safe goal 1/4", Err Number) ∷
+    (codes "bounds m exact best witness goal 1/0", Err Direction) ∷
+    []
+    )
+unfolding numeral_of parts_of ratio gcd gcd_with_fuel
+bounds_of_witness = refl
+
 -- ---- the texts of refusals, and their statuses
 
 encoding_text : text_of (no_job Encoding) ≡ codes "words encoding" ++ 10 ∷ []
@@ -251,3 +266,10 @@ below_text_of_third = refl
 
 below_status : code_of (status_of (below (ratio (pos 1) 3))) ≡ 11
 below_status = refl
+
+undecided_text_of_two : text_of (undecided (ratio (pos 1) 3) (ratio (pos 1) 2)) ≡ codes "undecided 1/3 1/2" ++ 10 ∷ []
+unfolding spelling digits ratio gcd gcd_with_fuel
+undecided_text_of_two = refl
+
+undecided_status : code_of (status_of (undecided (ratio (pos 1) 3) (ratio (pos 1) 2))) ≡ 12
+undecided_status = refl

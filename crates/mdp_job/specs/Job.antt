@@ -3,7 +3,7 @@ use Rattle.std.specs.Prelude.{ℕ, Bool, List, Option, Some, None, option_map, i
 use Rattle.mdp_math.specs.Rational.{ℚ}
 use Rattle.mdp_rows.specs.{declared.dir.Dir.{Dir}, declared.rule.RowRule.{RowRule}}
 use Rattle.mdp_job.specs.{declared.job.Query.{Query}, declared.job.Job.{Job}}
-use Rattle.mdp_job.specs.declared.job.Job.TheVariants.{Bounds, BoundsCheck, BoundsDiscount, BoundsTotal, BoundsUntil, Chain, Check, CurveTotal, CurveUntil, Discount, DiscountCheck}
+use Rattle.mdp_job.specs.declared.job.Job.TheVariants.{Bounds, BoundsCheck, BoundsDiscount, BoundsTotal, BoundsUntil, BoundsWitness, Chain, Check, CurveTotal, CurveUntil, Discount, DiscountCheck}
 use Rattle.mdp_job.specs.declared.job.Job.TheVariants.{Drill, Horizon, Policy, Solve, Total, Witness}
 use Rattle.mdp_job.specs.{declared.files.Files.{Files}, declared.words_error.WordsError.{WordsError}}
 use Rattle.mdp_job.specs.declared.job.Query.TheVariants as query
@@ -45,6 +45,8 @@ pub data PlainJob : Type 0 where
   bounds_until : RowRule → Dir → Option (List ℕ) → List ℕ → ℕ → ℕ → PlainJob
   bounds_total : RowRule → Dir → List ℕ → ℕ → ℕ → PlainJob
   bounds_discount : RowRule → Dir → List ℕ → ℚ → ℕ → PlainJob
+  -- a subsystem as `witness` asks for, shown by bounds
+  bounds_witness : RowRule → Dir → Option (List ℕ) → List ℕ → ℚ → PlainJob
   -- whether a certificate of bounds holds
   bounds_check : RowRule → PlainJob
   -- bounds, so many digits near, of what `horizon` and `total` ask for at the one initial state, for each number of steps up to this one
@@ -78,6 +80,7 @@ plain_job (Bounds rule dir query digits) = bounds rule dir (plain_query query) d
 plain_job (BoundsUntil rule dir stay label steps digits) = bounds_until rule dir (option_map (λ name. name.now) stay) label.now steps digits
 plain_job (BoundsTotal rule dir name steps digits) = bounds_total rule dir name.now steps digits
 plain_job (BoundsDiscount rule dir name factor digits) = bounds_discount rule dir name.now factor digits
+plain_job (BoundsWitness rule dir stay label threshold) = bounds_witness rule dir (option_map (λ name. name.now) stay) label.now threshold
 plain_job (BoundsCheck rule) = bounds_check rule
 plain_job (CurveUntil rule dir stay label steps digits) = curve_until rule dir (option_map (λ name. name.now) stay) label.now steps digits
 plain_job (CurveTotal rule dir name steps digits) = curve_total rule dir name.now steps digits
@@ -104,6 +107,7 @@ files_of (Ok (bounds rule dir query digits)) = record { model = Some 1; second =
 files_of (Ok (bounds_until rule dir stay label steps digits)) = record { model = Some 1; second = None }
 files_of (Ok (bounds_total rule dir name steps digits)) = record { model = Some 1; second = None }
 files_of (Ok (bounds_discount rule dir name factor digits)) = record { model = Some 1; second = None }
+files_of (Ok (bounds_witness rule dir stay label threshold)) = record { model = Some 1; second = None }
 files_of (Ok (bounds_check rule)) = record { model = Some 1; second = Some 3 }
 files_of (Ok (curve_until rule dir stay label steps digits)) = record { model = Some 1; second = None }
 files_of (Ok (curve_total rule dir name steps digits)) = record { model = Some 1; second = None }

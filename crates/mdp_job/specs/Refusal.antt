@@ -7,7 +7,7 @@ use Rattle.mdp_claims.specs.declared.verdict.Fault.{Fault}
 use Rattle.mdp_wide.specs.Term.{WideTerm, shown}
 use Rattle.mdp_job.specs.declared.refusal.Refusal.{Refusal}
 use Rattle.mdp_job.specs.declared.refusal.Refusal.TheVariants.{Words, Model, QuerySize, QueryReward, QueryLabel, QueryInit, QueryNegative, QuerySteps, QueryChoice}
-use Rattle.mdp_job.specs.declared.refusal.Refusal.TheVariants.{TooWide, CheckWide, HorizonWide, Denied, ReadModel, ReadCertificate, LongModel, LongCertificate, CertText, PolicyText, Below, Memory}
+use Rattle.mdp_job.specs.declared.refusal.Refusal.TheVariants.{TooWide, CheckWide, HorizonWide, Denied, ReadModel, ReadCertificate, LongModel, LongCertificate, CertText, PolicyText, Below, Undecided, Memory}
 use Rattle.mdp_job.specs.declared.words_error.WordsError.{WordsError}
 
 pub data PlainRefusal : Type 0 where
@@ -38,8 +38,10 @@ pub data PlainRefusal : Type 0 where
   cert_text : ℕ → CertKind → PlainRefusal
   -- a line of the policy's text, and the rule that it breaks
   policy_text : ℕ → CertKind → PlainRefusal
-  -- the best probability, which is below the threshold
+  -- the best probability, or an upper value of it, which is below the threshold
   below : ℚ → PlainRefusal
+  -- a lower and an upper value of the best probability, between which the threshold lies
+  undecided : ℚ → ℚ → PlainRefusal
   no_memory : PlainRefusal
 
 abbrev pub plain_refusal : Refusal → PlainRefusal
@@ -63,4 +65,5 @@ plain_refusal LongCertificate = long_certificate
 plain_refusal (CertText n kind) = cert_text n kind
 plain_refusal (PolicyText n kind) = policy_text n kind
 plain_refusal (Below v) = below v
+plain_refusal (Undecided low high) = undecided low high
 plain_refusal Memory = no_memory

@@ -1,9 +1,9 @@
 -- The status with which a run ends, and its number.
 use Rattle.std.specs.Prelude.{ℕ}
 use Rattle.mdp_job.specs.Refusal.{PlainRefusal, no_job, model_text, query_size, query_reward, query_label, query_init, query_negative, query_steps, query_choice, too_wide, check_wide, horizon_wide}
-use Rattle.mdp_job.specs.Refusal.{denied, read_model, read_certificate, long_model, long_certificate, cert_text, policy_text, below, no_memory}
+use Rattle.mdp_job.specs.Refusal.{denied, read_model, read_certificate, long_model, long_certificate, cert_text, policy_text, below, undecided, no_memory}
 use Rattle.mdp_job.specs.declared.status.Status.{Status}
-use Rattle.mdp_job.specs.declared.status.Status.TheVariants.{Done, Denied, Words, Model, Query, TooWide, ReadFault, WriteFault, Memory, CertText, Long, Below}
+use Rattle.mdp_job.specs.declared.status.Status.TheVariants.{Done, Denied, Words, Model, Query, TooWide, ReadFault, WriteFault, Memory, CertText, Long, Below, Undecided}
 
 -- of a run that gives a refusal
 abbrev pub status_of : PlainRefusal → Status
@@ -27,6 +27,7 @@ status_of long_certificate = Long
 status_of (cert_text n kind) = CertText
 status_of (policy_text n kind) = CertText
 status_of (below v) = Below
+status_of (undecided low high) = Undecided
 status_of no_memory = Memory
 
 -- the exit status of the program
@@ -43,3 +44,4 @@ code_of Memory = 8
 code_of CertText = 9
 code_of Long = 10
 code_of Below = 11
+code_of Undecided = 12

@@ -8,7 +8,7 @@ use Rattle.mdp_wide.specs.{declared.too_wide.Kind.{Kind}, declared.too_wide.Kind
 use Rattle.mdp_wide.specs.{declared.too_wide.Part.TheVariants.{Whole, Inner, Outer, Steps, Join, Flow, Floor}, Term.{WideTerm}}
 use Rattle.mdp_claims.specs.{RuleNumber.{number_of}, declared.rule.Rule.{Rule}, declared.verdict.Fault.{Fault}}
 use Rattle.mdp_job.specs.Refusal.{PlainRefusal, no_job, model_text, query_size, query_reward, query_label, query_init, query_negative, query_steps, query_choice, too_wide, check_wide, horizon_wide}
-use Rattle.mdp_job.specs.Refusal.{denied, read_model, read_certificate, long_model, long_certificate, cert_text, policy_text, below, no_memory}
+use Rattle.mdp_job.specs.Refusal.{denied, read_model, read_certificate, long_model, long_certificate, cert_text, policy_text, below, undecided, no_memory}
 use Rattle.mdp_job.specs.declared.words_error.WordsError.{WordsError}
 use Rattle.mdp_job.specs.declared.words_error.WordsError.TheVariants as words
 
@@ -49,9 +49,13 @@ denied_text f = rule_text f.rule ++ place_text f.state f.choice
 abbrev pub wide_text : Option ℕ → Option ℕ → List ℕ
 wide_text state choice = codes "too-wide check" ++ place_text state choice
 
--- the best probability, where it is below the threshold
+-- the best probability, or an upper value of it, where it is below the threshold
 abbrev pub below_text : ℚ → List ℕ
 below_text v = codes "below " ++ spelling v ++ 10 ∷ []
+
+-- a lower and an upper value of it, where the threshold lies between them
+abbrev pub undecided_text : ℚ → ℚ → List ℕ
+undecided_text low high = codes "undecided " ++ spelling low ++ 32 ∷ spelling high ++ 10 ∷ []
 
 -- a sum that is past width, with so many steps left
 abbrev pub depth_text : ℕ → List ℕ
@@ -107,4 +111,5 @@ text_of long_certificate = line (codes "long certificate")
 text_of (cert_text n kind) = at_line (codes "cert") n (cert_word kind)
 text_of (policy_text n kind) = at_line (codes "policy") n (cert_word kind)
 text_of (below v) = below_text v
+text_of (undecided low high) = undecided_text low high
 text_of no_memory = line (codes "memory")

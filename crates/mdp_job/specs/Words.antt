@@ -23,6 +23,8 @@
 --     bounds MODEL ROWS DIR until A B STEPS DIGITS
 --     bounds MODEL ROWS DIR total NAME STEPS DIGITS
 --     bounds MODEL ROWS DIR discount NAME FACTOR DIGITS
+--     bounds MODEL ROWS DIR witness LABEL THRESHOLD
+--     bounds MODEL ROWS DIR witness until A B THRESHOLD
 --     bounds-check MODEL ROWS CERT
 -- ROWS is `exact` or `scaled`, DIR `max` or `min`.
 use Rattle.std.specs.Prelude.{ℕ, ◌*◌, ◌-◌, ◌^◌, Bool, false, ◌&&◌, not, List, [], ◌∷◌, length, take, slice_index_or, map, Option, Some, None}
@@ -33,7 +35,7 @@ use Rattle.mdp_num.specs.{Digits.{is_digits, number}, Numeral.{numeral_of}, decl
 use Rattle.mdp_rows.specs.{declared.dir.Dir.{Dir}, declared.dir.Dir.TheVariants.{Max, Min}, declared.rule.RowRule.{RowRule}}
 use Rattle.mdp_rows.specs.declared.rule.RowRule.TheVariants.{Exact, Scaled}
 use Rattle.mdp_job.specs.Job.{PlainQuery, reach, until, reward, mean, solve, witness, check, drill, horizon, total, policy, chain, discount, discount_check}
-use Rattle.mdp_job.specs.Job.{bounds, bounds_until, bounds_total, bounds_discount, bounds_check, curve_until, curve_total, Asked, files_of}
+use Rattle.mdp_job.specs.Job.{bounds, bounds_until, bounds_total, bounds_discount, bounds_witness, bounds_check, curve_until, curve_total, Asked, files_of}
 use Rattle.mdp_job.specs.declared.words_error.WordsError.{WordsError}
 use Rattle.mdp_job.specs.declared.words_error.WordsError.TheVariants.{Command, Number, Rows, Direction, Objective, Threshold, Drill, Steps, Factor, Digits}
 
@@ -209,7 +211,7 @@ abbrev pub digits_of : List ℕ → Result ℕ WordsError
 digits_of word = if begins_with_zero word then Err Digits else few_digits (whole_word 2 word)
 
 -- the words behind `bounds`: how many there are at least, the row rule, the direction, the objective, how many words that has, and its own words; the
--- digits come last. Where it is none of three, or `until` without a deadline, the query is that of all but the last word, as for `solve`
+-- digits come last. Where it is none of four, or `until` without a deadline, the query is that of all but the last word, as for `solve`
 abbrev pub bounds_query_of : List (List ℕ) → Result PlainQuery WordsError
 bounds_query_of words = query_of (take (length words - 1) words)
 
@@ -238,11 +240,27 @@ bounds_discount_of rule dir words =
     then (factor_of (word_at words 5) >>= (λ factor. digits_of (word_at words 6) >>= (λ digits. Ok (bounds_discount rule dir (word_at words 4) factor digits))))
     else Err Number
 
+-- the words of `witness` behind the objective, without those of the row rule and the direction: eight words of which the fifth is `until` name two labels
+abbrev pub bounds_witness_reach_of : RowRule → Dir → List (List ℕ) → Asked
+bounds_witness_reach_of rule dir words =
+    if length words == 6 then (threshold_of (word_at words 5) >>= (λ threshold. Ok (bounds_witness rule dir None (word_at words 4) threshold))) else Err Number
+
+abbrev pub bounds_witness_until_of : RowRule → Dir → List (List ℕ) → Asked
+bounds_witness_until_of rule dir words =
+    if length words == 8
+    then (threshold_of (word_at words 7) >>= (λ threshold. Ok (bounds_witness rule dir (Some (word_at words 5)) (word_at words 6) threshold)))
+    else Err Number
+
+abbrev pub bounds_witness_of : RowRule → Dir → List (List ℕ) → Asked
+bounds_witness_of rule dir words =
+    if (length words == 8) && bytes_eq (word_at words 4) (codes "until") then bounds_witness_until_of rule dir words else bounds_witness_reach_of rule dir words
+
 abbrev pub bounds_by : RowRule → Dir → List (List ℕ) → Asked
 bounds_by rule dir words =
     if bytes_eq (word_at words 3) (codes "until") && (length words == 8) then bounds_until_of rule dir words
     else (if bytes_eq (word_at words 3) (codes "total") then bounds_total_of rule dir words
-    else (if bytes_eq (word_at words 3) (codes "discount") then bounds_discount_of rule dir words else bounds_best_of rule dir words))
+    else (if bytes_eq (word_at words 3) (codes "discount") then bounds_discount_of rule dir words
+    else (if bytes_eq (word_at words 3) (codes "witness") then bounds_witness_of rule dir words else bounds_best_of rule dir words)))
 
 abbrev pub bounds_of : List (List ℕ) → Asked
 bounds_of words =

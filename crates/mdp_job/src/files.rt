@@ -25,6 +25,7 @@ pub fn files_of(words: &[String]) -> Files
             | Job::BoundsUntil { .. }
             | Job::BoundsTotal { .. }
             | Job::BoundsDiscount { .. }
+            | Job::BoundsWitness { .. }
             | Job::CurveUntil { .. }
             | Job::CurveTotal { .. },
         ) => Files {

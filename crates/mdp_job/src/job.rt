@@ -5,6 +5,7 @@ ghost use Rattle.mdp_job.specs.Words.{job_of, rule_of, dir_of, reach_of, until_o
 ghost use Rattle.mdp_job.specs.Words.{rows_of, check_of, drill_by, drill_of, stay_of, steps_of, horizon_of, total_of, policy_reach_of, policy_until_of, policy_of, chain_of};
 ghost use Rattle.mdp_job.specs.Words.{factor_of, discount_of, discount_check_of};
 ghost use Rattle.mdp_job.specs.Words.{digits_of, bounds_query_of, bounds_digits_of, bounds_best_of, bounds_until_of, bounds_total_of, bounds_discount_of, bounds_by, bounds_of};
+ghost use Rattle.mdp_job.specs.Words.{bounds_witness_reach_of, bounds_witness_until_of, bounds_witness_of};
 ghost use Rattle.mdp_job.specs.Words.{bounds_check_of, curve_until_of, curve_total_of, curve_by, curve_of, direct_of, other_of, job_by};
 
 use crate::digits::whole_word;
@@ -127,6 +128,15 @@ pub enum Job<'a> {
         name: &'a [u8],
         factor: Frac,
         digits: u32,
+    },
+    /// `bounds MODEL ROWS DIR witness LABEL THRESHOLD` and `bounds MODEL ROWS DIR witness until A B THRESHOLD`: a subsystem as `witness` asks for, shown by
+    /// bounds in place of exact values.
+    BoundsWitness {
+        rule: RowRule,
+        dir: Dir,
+        stay: Option<&'a [u8]>,
+        label: &'a [u8],
+        threshold: Frac,
     },
     /// `bounds-check MODEL ROWS CERT`: whether a certificate of bounds holds of the model, read under the row rule.
     BoundsCheck {
@@ -595,6 +605,62 @@ fn bounds_discount_of<'a>(
     })
 }
 
+/// The job of bounds of a subsystem that the words name, where they name one label.
+fn bounds_witness_reach_of<'a>(
+    rule: RowRule,
+    dir: Dir,
+    words: &'a [String],
+) -> Result<Job<'a>, WordsError>
+    ensures { asked result ≡ bounds_witness_reach_of rule dir (map string_bytes words.now) }
+{
+    let [_, _, _, _, label, threshold] = words else {
+        return Err(WordsError::Number);
+    };
+    let threshold = threshold_of(threshold.as_str())?;
+    Ok(Job::BoundsWitness {
+        rule,
+        dir,
+        stay: None,
+        label: label.as_bytes(),
+        threshold,
+    })
+}
+
+/// The job of bounds of a subsystem that the words name, where they name two labels.
+fn bounds_witness_until_of<'a>(
+    rule: RowRule,
+    dir: Dir,
+    words: &'a [String],
+) -> Result<Job<'a>, WordsError>
+    ensures { asked result ≡ bounds_witness_until_of rule dir (map string_bytes words.now) }
+{
+    let [_, _, _, _, _, stay, label, threshold] = words else {
+        return Err(WordsError::Number);
+    };
+    let threshold = threshold_of(threshold.as_str())?;
+    Ok(Job::BoundsWitness {
+        rule,
+        dir,
+        stay: Some(stay.as_bytes()),
+        label: label.as_bytes(),
+        threshold,
+    })
+}
+
+/// The job of bounds of a subsystem that the words name: eight words of which the fifth is `until` name two labels.
+fn bounds_witness_of<'a>(
+    rule: RowRule,
+    dir: Dir,
+    words: &'a [String],
+) -> Result<Job<'a>, WordsError>
+    ensures { asked result ≡ bounds_witness_of rule dir (map string_bytes words.now) }
+{
+    if words.len() == 8 && words[4].as_str() == "until" {
+        return bounds_witness_until_of(rule, dir, words);
+    }
+    bounds_witness_reach_of(rule, dir, words)
+}
+
 /// The job of bounds that the words name, by the objective; `until` is a query as behind `solve`, but with a deadline where there are eight words.
 fn bounds_by<'a>(rule: RowRule, dir: Dir, words: &'a [String]) -> Result<Job<'a>, WordsError>
     requires { 5 < length words.now }
@@ -609,6 +675,9 @@ fn bounds_by<'a>(rule: RowRule, dir: Dir, words: &'a [String]) -> Result<Job<'a>
     }
     if objective == "discount" {
         return bounds_discount_of(rule, dir, words);
+    }
+    if objective == "witness" {
+        return bounds_witness_of(rule, dir, words);
     }
     bounds_best_of(rule, dir, words)
 }
@@ -778,7 +847,7 @@ fn job_by<'a>(command: &str, words: &'a [String]) -> Result<Job<'a>, WordsError>
 /// The job that the words are, or the first refusal: `Command`, then `Number`, `Rows`, `Direction` and `Objective`, and `Number` again where an
 /// objective has another number of words; for `drill` `Drill`, for `horizon` and `total` `Steps`, for `policy` `Objective` behind `Rows`, for `discount`
 /// `Factor` and for `witness` `Threshold` behind `Direction`, and for `bounds` and `curve` `Steps` or `Factor`, where the objective has one, and `Digits`
-/// behind all of these. It takes no memory.
+/// behind all of these, or `Threshold` alone. It takes no memory.
 pub fn job_of<'a>(words: &'a [String]) -> Result<Job<'a>, WordsError>
     ensures { asked result ≡ job_of words.now }
 {

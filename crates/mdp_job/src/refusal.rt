@@ -1,6 +1,6 @@
 ghost use Rattle.std.specs.Prelude.{◌≡◌, ◌++◌, OnOk, OnErr};
 ghost use Rattle.mdp_job.specs.{Refusal.{plain_refusal, no_job}, Status.{status_of}};
-ghost use Rattle.mdp_job.specs.Text.{text_of, words_word, at_line, place_text, number_or_dash, below_text, part_word, kind_word, policy_words, too_wide_text};
+ghost use Rattle.mdp_job.specs.Text.{text_of, words_word, at_line, place_text, number_or_dash, below_text, undecided_text, part_word, kind_word, policy_words, too_wide_text};
 ghost use Rattle.mdp_job.specs.WideLines.{wide_place, policy_line};
 ghost use Rattle.mdp_text.specs.{Answer.{Keeps}, Parts.{part_text, parts_text}};
 ghost use Rattle.mdp_wide.specs.Term.{shown};
@@ -71,8 +71,13 @@ pub enum Refusal {
         line: u64,
         kind: CertKind,
     },
-    /// The best probability, which is below the threshold.
+    /// The best probability, or an upper value of it, which is below the threshold.
     Below(Frac),
+    /// A lower and an upper value of the best probability, between which the threshold lies.
+    Undecided {
+        lower: Frac,
+        upper: Frac,
+    },
     /// Memory was refused.
     Memory,
 }
@@ -103,6 +108,7 @@ impl Refusal {
             Refusal::LongModel | Refusal::LongCertificate => Status::Long,
             Refusal::CertText { .. } | Refusal::PolicyText { .. } => Status::CertText,
             Refusal::Below(_) => Status::Below,
+            Refusal::Undecided { .. } => Status::Undecided,
             Refusal::Memory => Status::Memory,
         }
     }
@@ -267,12 +273,29 @@ fn push_too_wide(wide: &TooWide, out: &mut Vec<u8>) -> Result<(), Memory>
     push_policy_line(&wide.policy, out)
 }
 
-/// Appends the line of the best probability, where it is below the threshold.
+/// Appends the line of the best probability, or of an upper value of it, where it is below the threshold.
 fn push_below(value: &Frac, out: &mut Vec<u8>) -> Result<(), Memory>
     ensures text { OnOk result (out.new.items ≡ out.old.items ++ below_text value.now) }
     ensures front { Keeps out.old.items out.new.items }
 {
     push_parts(out, &[Bytes(b"below "), Fraction(*value), Bytes(b"\n")])
+}
+
+/// Appends the line of a lower and an upper value between which the threshold lies.
+fn push_undecided(lower: &Frac, upper: &Frac, out: &mut Vec<u8>) -> Result<(), Memory>
+    ensures text { OnOk result (out.new.items ≡ out.old.items ++ undecided_text lower.now upper.now) }
+    ensures front { Keeps out.old.items out.new.items }
+{
+    push_parts(
+        out,
+        &[
+            Bytes(b"undecided "),
+            Fraction(*lower),
+            Bytes(b" "),
+            Fraction(*upper),
+            Bytes(b"\n"),
+        ],
+    )
 }
 
 /// Appends the refusal's line, where what stands before it may have grown by a part of it on `Err`.
@@ -314,6 +337,7 @@ fn push_text(refusal: &Refusal, out: &mut Vec<u8>) -> Result<(), Memory>
         Refusal::CertText { line, kind } => push_at("cert", *line, kind.word(), out),
         Refusal::PolicyText { line, kind } => push_at("policy", *line, kind.word(), out),
         Refusal::Below(value) => push_below(value, out),
+        Refusal::Undecided { lower, upper } => push_undecided(lower, upper, out),
         Refusal::Memory => push_line(MEMORY_TEXT, out),
     }
 }

@@ -29,6 +29,8 @@ pub enum Status {
     Long,
     /// The best probability is below the threshold.
     Below,
+    /// The threshold lies between a lower and an upper value of the best probability.
+    Undecided,
 }
 
 impl Status {
@@ -49,6 +51,7 @@ impl Status {
             Status::CertText => 9,
             Status::Long => 10,
             Status::Below => 11,
+            Status::Undecided => 12,
         }
     }
 }

@@ -10,5 +10,8 @@ returns-then-eq-2 c = grind (arith, common_steps)
 pub returns-then-eq-3 : goal.returns-then-eq-3
 returns-then-eq-3 c = grind (arith, common_steps)
 
+pub returns-then-eq-4 : goal.returns-then-eq-4
+returns-then-eq-4 c = grind (arith, common_steps)
+
 pub returns : goal.returns
 returns c = grind (arith, common_steps)
