@@ -13,7 +13,7 @@ use Rattle.mdp_command.specs.Read.{IsModelReadToEnd, IsSecondReadToEnd, is_of_mo
 use Rattle.mdp_command.specs.{Said.{Said, said_status}, Streams.{Input, Output}, Written.{WroteAll, Wrote, EndsWith}, CheckDue.{IsCheckDue}, Kinds.{checker_of}}
 use Rattle.mdp_command.specs.{Meanings.{kind_of, meaning_of}, CheckLaws.{YesIsAccepted, ReadsItsText}, CheckShown.{IsCheckRead}}
 use Rattle.mdp_command.specs.declared.kind.CertificateKind.{CertificateKind}
-use Rattle.mdp_command.specs.declared.kind.CertificateKind.TheVariants.{Exact, Discounted, Bounds, DiscountedBounds}
+use Rattle.mdp_command.specs.declared.kind.CertificateKind.TheVariants.{Exact, Discounted, Bounds, DiscountedBounds, SubsystemBounds}
 use Rattle.mdp_checker.specs.{Run.{HasCause, IsDecided, IsAnswered, IsYesTrue, IsYesTrueOfText, IsYesUnless, IsComplete}, Words.{Asked}}
 
 -- ---- what is decided
@@ -64,6 +64,13 @@ true_of reads Bounds rule model cert t = record {
 true_of reads DiscountedBounds rule model cert t = record {
   cert = t.accepted.cert;
   text = (reads DiscountedBounds cert t.accepted.cert).0 t.accepted.text;
+  states = t.accepted.holds.states;
+  start = t.accepted.holds.init;
+  bound = t.bound;
+}
+true_of reads SubsystemBounds rule model cert t = record {
+  cert = t.accepted.cert;
+  text = (reads SubsystemBounds cert t.accepted.cert).0 t.accepted.text;
   states = t.accepted.holds.states;
   start = t.accepted.holds.init;
   bound = t.bound;

@@ -19,14 +19,15 @@ use Rattle.mdp_discount_rules.specs.Laws as discount
 use Rattle.mdp_discount_rules.specs.declared.answer.DiscountAnswer.TheVariants as discount_answer
 use Rattle.mdp_discount_text.specs.Laws.{IsReadFromText}
 use Rattle.mdp_discount_text.specs.Text as discount_text
+use Rattle.mdp_subsystem_bounds.specs.Laws as subsystem
 use Rattle.mdp_job.specs.Refusal.{PlainRefusal, long_model, long_certificate, no_memory}
 use Rattle.mdp_command.proofs.Working.{read_of_due}
 use Rattle.mdp_command.specs.{Accepted.{Checker, AcceptedBy, exact}, Answered.{yes_text, said_of}}
 use Rattle.mdp_command.specs.{Files.{most_bytes, model_or_refusal, model_due, second_due, certificate_or_refusal, IsDueToModel}, Said.{Said}}
 use Rattle.mdp_command.specs.CheckDue.{said_to_text, check_due, IsCheckDue}
-use Rattle.mdp_command.specs.Kinds.{as_answer, discounted, between, discounted_between, checker_of, chosen, checker_for}
+use Rattle.mdp_command.specs.Kinds.{as_answer, discounted, between, discounted_between, subsystem_between, checker_of, chosen, checker_for}
 use Rattle.mdp_command.specs.{CheckLaws.{YesIsAccepted, AcceptedIsTrue}, CheckShown.{IsYes}, declared.kind.CertificateKind.{CertificateKind}}
-use Rattle.mdp_command.specs.declared.kind.CertificateKind.TheVariants.{Exact, Discounted, Bounds, DiscountedBounds}
+use Rattle.mdp_command.specs.declared.kind.CertificateKind.TheVariants.{Exact, Discounted, Bounds, DiscountedBounds, SubsystemBounds}
 
 -- ---- what each checker keeps
 
@@ -72,12 +73,20 @@ discounted_bounds_are_sound from accepts bound = record {
     fits : (text : List ℕ) (c : between_cert.Certificate) → between_reading.outcome text ≡ Ok c → between_cert.Fits c
     fits text c read = ((from text c).0 read).0
 
+-- and of bounds of a subsystem
+pub subsystem_bounds_are_sound : subsystem.IsReadFromText → subsystem.YesIsAccepted → subsystem.AcceptedIsBound → IsSound subsystem_between
+subsystem_bounds_are_sound from accepts bound = record {
+  yes = λ m text c mdp read. accepts m c mdp ((from text c).0 read).0;
+  bound = λ m text c mdp read holds. bound m c mdp holds;
+}
+
 pub each_is_sound : exactly.YesIsAccepted → exactly.AcceptedIsBound → IsReadFromText → discount.YesIsAccepted → discount.AcceptedIsBound → YesAcceptsBounds → AcceptedBoundsAreTrue
-    → IsSound discounted_between → (kind : CertificateKind) → IsSound (checker_of kind)
-each_is_sound accepts bound from discount_yes discount_bound bounds_yes bounds_bound between_sound Exact = exact_is_sound accepts bound
-each_is_sound accepts bound from discount_yes discount_bound bounds_yes bounds_bound between_sound Discounted = discounted_is_sound from discount_yes discount_bound
-each_is_sound accepts bound from discount_yes discount_bound bounds_yes bounds_bound between_sound Bounds = bounds_are_sound bounds_yes bounds_bound
-each_is_sound accepts bound from discount_yes discount_bound bounds_yes bounds_bound between_sound DiscountedBounds = between_sound
+    → IsSound discounted_between → IsSound subsystem_between → (kind : CertificateKind) → IsSound (checker_of kind)
+each_is_sound accepts bound from discount_yes discount_bound bounds_yes bounds_bound between_sound subsystem_sound Exact = exact_is_sound accepts bound
+each_is_sound accepts bound from discount_yes discount_bound bounds_yes bounds_bound between_sound subsystem_sound Discounted = discounted_is_sound from discount_yes discount_bound
+each_is_sound accepts bound from discount_yes discount_bound bounds_yes bounds_bound between_sound subsystem_sound Bounds = bounds_are_sound bounds_yes bounds_bound
+each_is_sound accepts bound from discount_yes discount_bound bounds_yes bounds_bound between_sound subsystem_sound DiscountedBounds = between_sound
+each_is_sound accepts bound from discount_yes discount_bound bounds_yes bounds_bound between_sound subsystem_sound SubsystemBounds = subsystem_sound
 
 -- ---- a text is due
 

@@ -2,7 +2,7 @@
 use Rattle.std.proofs.Common.{◌≡◌, [], ◌∷◌, ◌++◌, Some, refl}
 use Rattle.std.specs.Prelude.{codes}
 use Rattle.mdp_text.specs.Lines.{next_line}
-use Rattle.mdp_command.specs.{Kinds.{chosen}, Meanings.{kind_of}, declared.kind.CertificateKind.TheVariants.{Exact, Discounted, Bounds, DiscountedBounds}}
+use Rattle.mdp_command.specs.{Kinds.{chosen}, Meanings.{kind_of}, declared.kind.CertificateKind.TheVariants.{Exact, Discounted, Bounds, DiscountedBounds, SubsystemBounds}}
 
 of_discount : kind_of (codes "mdp-discount 1" ++ 10 ∷ codes "claim") ≡ Discounted
 of_discount = refl
@@ -18,6 +18,10 @@ of_discounted_bounds = refl
 of_other_bounds : kind_of (codes "mdp-bounds 1" ++ 10 ∷ codes "claim min discounted " ++ 10 ∷ []) ≡ Bounds
 unfolding next_line
 of_other_bounds = refl
+
+of_subsystem_bounds : kind_of (codes "mdp-bounds 1" ++ 10 ∷ codes "claim max witness " ++ 10 ∷ []) ≡ SubsystemBounds
+unfolding next_line
+of_subsystem_bounds = refl
 
 of_values : kind_of (codes "mdp-certificate 2" ++ 10 ∷ []) ≡ Exact
 of_values = refl

@@ -2,7 +2,7 @@
 use Rattle.std.proofs.Common.{◌≡◌, ℕ, inl, inr, List, Ok, Err, refl, sym, ◌∙◌}
 use Rattle.mdp_edge.specs.Faults.{FaultCounted}
 use Rattle.mdp_job.specs.Refusal.{PlainRefusal, no_job, model_text, query_size, query_reward, query_label, query_init, query_negative, query_steps, query_choice, too_wide, check_wide, horizon_wide}
-use Rattle.mdp_job.specs.Refusal.{denied, read_model, read_certificate, long_model, long_certificate, cert_text, policy_text, below, no_memory}
+use Rattle.mdp_job.specs.Refusal.{denied, read_model, read_certificate, long_model, long_certificate, cert_text, policy_text, below, undecided, no_memory}
 use Rattle.mdp_job.specs.{Status.{status_of}, declared.status.Status.{Status}}
 use Rattle.mdp_job.specs.declared.status.Status.TheVariants as status
 use Rattle.mdp_command.specs.{Said.{Said, said_status}, Streams.{Output}, Written.{WroteAll, Wrote, EndsWith}}
@@ -29,6 +29,7 @@ refusal_status long_certificate h = cc
 refusal_status (cert_text n kind) h = cc
 refusal_status (policy_text n kind) h = cc
 refusal_status (below v) h = cc
+refusal_status (undecided low high) h = cc
 refusal_status no_memory h = cc
 
 -- where the work is done, a text was said, and it was written

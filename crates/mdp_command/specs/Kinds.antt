@@ -8,11 +8,13 @@ use Rattle.mdp_discount_bounds.specs.Check as discount_bounds
 use Rattle.mdp_discount_rules.specs.Check as discount
 use Rattle.mdp_discount_text.specs.Reading as discount_bounds_text
 use Rattle.mdp_discount_text.specs.Text as discount_text
+use Rattle.mdp_subsystem_bounds.specs.Check as subsystem_bounds
+use Rattle.mdp_subsystem_bounds.specs.Reading as subsystem_text
 use Rattle.mdp_discount_rules.specs.declared.answer.DiscountAnswer.{DiscountAnswer}
 use Rattle.mdp_discount_rules.specs.declared.answer.DiscountAnswer.TheVariants.{Yes, No, Wide, NoReward, Size}
-use Rattle.mdp_command.specs.{Accepted.{Checker, exact}, Meanings.{discounted_meaning, between_meaning, discounted_between_meaning, bounds_kind, kind_of}}
+use Rattle.mdp_command.specs.{Accepted.{Checker, exact}, Meanings.{discounted_meaning, between_meaning, discounted_between_meaning, subsystem_between_meaning, bounds_kind, kind_of}}
 use Rattle.mdp_command.specs.declared.kind.CertificateKind.{CertificateKind}
-use Rattle.mdp_command.specs.declared.kind.CertificateKind.TheVariants.{Exact, Discounted, Bounds, DiscountedBounds}
+use Rattle.mdp_command.specs.declared.kind.CertificateKind.TheVariants.{Exact, Discounted, Bounds, DiscountedBounds, SubsystemBounds}
 
 -- ---- the checkers
 
@@ -43,11 +45,20 @@ discounted_between = record {
   IsAccepted = discount_bounds.IsAccepted;
 }
 
+abbrev pub subsystem_between : Checker
+subsystem_between = record {
+  meaning = subsystem_between_meaning;
+  outcome = subsystem_text.outcome;
+  answer_to = subsystem_bounds.answer_to;
+  IsAccepted = subsystem_bounds.IsAccepted;
+}
+
 abbrev pub checker_of : CertificateKind → Checker
 checker_of Exact = exact
 checker_of Discounted = discounted
 checker_of Bounds = between
 checker_of DiscountedBounds = discounted_between
+checker_of SubsystemBounds = subsystem_between
 
 -- ---- the kind of a text
 
@@ -57,6 +68,7 @@ asked Exact bytes = Exact
 asked Discounted bytes = Discounted
 asked Bounds bytes = bounds_kind bytes
 asked DiscountedBounds bytes = DiscountedBounds
+asked SubsystemBounds bytes = SubsystemBounds
 
 -- that, or else the kind of the text
 abbrev pub chosen : Option CertificateKind → List ℕ → CertificateKind

@@ -1,5 +1,5 @@
 -- What certificates of each kind mean, and the kind that the first line of a text names.
-use Rattle.std.specs.{Prelude.{◌≡◌, ℕ, Bool, List, length, take, if◌then◌else◌}, Str.{bytes_eq}}
+use Rattle.std.specs.{Prelude.{◌≡◌, ℕ, Bool, List, length, take, Some, if◌then◌else◌}, Str.{bytes_eq}}
 use Rattle.mdp_spec.specs.Labels.{initial_of}
 use Rattle.mdp_claims.specs.declared.verdict.Verdict.TheVariants.{Yes}
 use Rattle.mdp_check.specs.Bounds as bounds
@@ -10,12 +10,16 @@ use Rattle.mdp_discount_bounds.specs.Cert as discount_bounds_cert
 use Rattle.mdp_discount_bounds.specs.Check as discount_bounds
 use Rattle.mdp_discount_text.specs.BoundsSpelling as discount_bounds_text
 use Rattle.mdp_discount_text.specs.Reading.{is_discount_claim}
+use Rattle.mdp_subsystem_bounds.specs.Cert as subsystem_cert
+use Rattle.mdp_subsystem_bounds.specs.Check as subsystem_bounds
+use Rattle.mdp_subsystem_bounds.specs.Spelling as subsystem_text
+use Rattle.mdp_subsystem_bounds.specs.Reading.{is_subsystem_claim}
 use Rattle.mdp_discount_rules.specs.Cert as discount_cert
 use Rattle.mdp_discount_rules.specs.Check as discount
 use Rattle.mdp_discount_text.specs.Spelling as discount_text
 use Rattle.mdp_job.specs.Text.{line}
 use Rattle.mdp_command.specs.{Meaning.{IsTextOf, Meaning, exact_meaning}, declared.kind.CertificateKind.{CertificateKind}}
-use Rattle.mdp_command.specs.declared.kind.CertificateKind.TheVariants.{Exact, Discounted, Bounds, DiscountedBounds}
+use Rattle.mdp_command.specs.declared.kind.CertificateKind.TheVariants.{Exact, Discounted, Bounds, DiscountedBounds, SubsystemBounds}
 
 -- of discounted rewards: no policy is better than the values by more than what is left of the remainder after so many steps
 abbrev pub discounted_meaning : Meaning
@@ -47,18 +51,29 @@ discounted_between_meaning = record {
   IsBound = discount_bounds.IsBound;
 }
 
+-- of bounds of a subsystem: on the kept states alone some policy, or each, comes to the threshold
+abbrev pub subsystem_between_meaning : Meaning
+subsystem_between_meaning = record {
+  Certificate = subsystem_cert.Certificate;
+  IsText = IsTextOf subsystem_cert.Fits subsystem_text.text_of;
+  states = subsystem_cert.states_in;
+  IsStart = λ m c. initial_of m ≡ Some c.start;
+  IsBound = subsystem_bounds.IsBound;
+}
+
 abbrev pub meaning_of : CertificateKind → Meaning
 meaning_of Exact = exact_meaning
 meaning_of Discounted = discounted_meaning
 meaning_of Bounds = between_meaning
 meaning_of DiscountedBounds = discounted_between_meaning
+meaning_of SubsystemBounds = subsystem_between_meaning
 
 abbrev pub begins_with : List ℕ → List ℕ → Bool
 begins_with front bytes = bytes_eq front (take (length front) bytes)
 
 -- of a certificate of bounds, by the claim in its second line
 abbrev pub bounds_kind : List ℕ → CertificateKind
-bounds_kind bytes = if is_discount_claim bytes then DiscountedBounds else Bounds
+bounds_kind bytes = if is_discount_claim bytes then DiscountedBounds else (if is_subsystem_claim bytes then SubsystemBounds else Bounds)
 
 -- by its first line. A text with any other first line is held to be a certificate of best values: that checker refuses it, or knows the line
 abbrev pub kind_of : List ℕ → CertificateKind

@@ -1,6 +1,6 @@
 ghost use Rattle.std.specs.Prelude.{◌≡◌, ◌⊎◌, false, Err, IsTrue, IsFalse};
 ghost use Rattle.mdp_command.specs.{Prelude.{IsModelReadToEnd, IsSecondReadToEnd, no_memory, read_certificate, said, input}, Accepted.{exact}, Read.{IsReadAs, is_of_model}};
-ghost use Rattle.mdp_command.specs.{CheckDue.{said_to_text, IsCheckDue}, Kinds.{as_answer, discounted, between, discounted_between, checker_for}};
+ghost use Rattle.mdp_command.specs.{CheckDue.{said_to_text, IsCheckDue}, Kinds.{as_answer, discounted, between, discounted_between, subsystem_between, checker_for}};
 ghost use Rattle.mdp_command.specs.CheckShown.{IsCheckRead};
 
 use crate::files::{read_model, read_second};
@@ -15,6 +15,7 @@ use mdp_discount_text::{read_discount, read_discount_bounds};
 use mdp_edge::Source;
 use mdp_job::Refusal;
 use mdp_rows::{Model, RowRule};
+use mdp_subsystem_bounds::{check_subsystem_bounds, read_subsystem_bounds};
 use std::alloc::Global;
 
 /// The answer to a certificate of discounted rewards as one of the checkers' common answers.
@@ -66,6 +67,15 @@ fn of_discounted_bounds(alloc: Global, model: &Model, bytes: &[u8]) -> Result<Ve
     answered(alloc, as_answer(check_discount_bounds(model, &cert)))
 }
 
+/// The same of a certificate of bounds of a subsystem.
+fn of_subsystem_bounds(alloc: Global, model: &Model, bytes: &[u8]) -> Result<Vec<u8>, Refusal>
+    ensures due { (said result ≡ Err no_memory) ⊎ (said result ≡ said_to_text subsystem_between model.now bytes.now) }
+    ensures not_of_model { is_of_model (said result) ≡ false }
+{
+    let cert = read_subsystem_bounds(alloc, bytes)?;
+    answered(alloc, check_subsystem_bounds(alloc, model, &cert))
+}
+
 /// The same of a certificate of the wanted kind, or of that which its first line names.
 fn of_text(
     alloc: Global,
@@ -81,6 +91,7 @@ fn of_text(
         CertificateKind::Discounted => of_discounted(alloc, model, bytes),
         CertificateKind::Bounds => of_bounds(alloc, model, bytes),
         CertificateKind::DiscountedBounds => of_discounted_bounds(alloc, model, bytes),
+        CertificateKind::SubsystemBounds => of_subsystem_bounds(alloc, model, bytes),
     }
 }
 

@@ -2,6 +2,7 @@ ghost use Rattle.std.specs.Prelude.{◌≡◌};
 ghost use Rattle.mdp_command.specs.{Kinds.{asked, chosen}, Meanings.{begins_with, bounds_kind, kind_of}};
 
 use mdp_discount_text::is_discount_claim;
+use mdp_subsystem_bounds::is_subsystem_claim;
 
 /// The kinds of certificates. Each has its checker.
 #[derive(Clone, Copy)]
@@ -14,6 +15,8 @@ pub enum CertificateKind {
     Bounds,
     /// Lower and upper values of discounted rewards.
     DiscountedBounds,
+    /// Lower values on a subsystem, by which it comes to a threshold.
+    SubsystemBounds,
 }
 
 /// Whether the bytes begin with these.
@@ -28,10 +31,12 @@ fn bounds_kind(bytes: &[u8]) -> CertificateKind
     ensures { result ≡ bounds_kind bytes.now }
 {
     if is_discount_claim(bytes) {
-        CertificateKind::DiscountedBounds
-    } else {
-        CertificateKind::Bounds
+        return CertificateKind::DiscountedBounds;
     }
+    if is_subsystem_claim(bytes) {
+        return CertificateKind::SubsystemBounds;
+    }
+    CertificateKind::Bounds
 }
 
 /// The kind that the first line of a text names, and of bounds the second line; `Exact` where the first line names none.

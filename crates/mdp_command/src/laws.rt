@@ -7,6 +7,7 @@ use mdp_discount_bounds::discount_bounds_law;
 use mdp_discount_rules::discount_rules_law;
 use mdp_discount_text::{discount_bounds_text_law, discount_text_law};
 use mdp_drn::model_law;
+use mdp_subsystem_bounds::{subsystem_bounds_law, subsystem_bounds_text_law};
 
 /// Laws of a check, for certificates of each kind: a `yes` is due exactly where the bytes are accepted, and the claim of an accepted certificate is
 /// true of the model. Bytes read as a certificate exactly where they are its text, and a text names the kind of its certificate.
@@ -24,6 +25,8 @@ pub fn check_law()
     bounds_checking_law();
     discount_bounds_law();
     discount_bounds_text_law();
+    subsystem_bounds_law();
+    subsystem_bounds_text_law();
     model_law();
 }
 

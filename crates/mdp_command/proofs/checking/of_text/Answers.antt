@@ -1,6 +1,6 @@
 use Rattle.std.proofs.Common.{sym, ◌∙◌}
 use Rattle.mdp_command.proofs.Accepting.{by_kind}
-use Rattle.mdp_command.specs.{Kinds.{chosen}, declared.kind.CertificateKind.TheVariants.{Exact, Discounted, Bounds, DiscountedBounds}}
+use Rattle.mdp_command.specs.{Kinds.{chosen}, declared.kind.CertificateKind.TheVariants.{Exact, Discounted, Bounds, DiscountedBounds, SubsystemBounds}}
 use Rattle.mdp_command.proofs.checking.of_text.Goals as goal
 
 pub returns-in-Exact-clause-due : goal.returns-in-Exact-clause-due
@@ -15,3 +15,7 @@ returns-in-Bounds-clause-due c = by_kind (chosen c.args.wanted c.args.bytes.now)
 pub returns-in-DiscountedBounds-clause-due : goal.returns-in-DiscountedBounds-clause-due
 returns-in-DiscountedBounds-clause-due c =
     by_kind (chosen c.args.wanted c.args.bytes.now) DiscountedBounds _ _ _ (sym c.in-DiscountedBounds.is ∙ c.chosen.ensures) c.of_discounted_bounds.ensures.due
+
+pub returns-in-SubsystemBounds-clause-due : goal.returns-in-SubsystemBounds-clause-due
+returns-in-SubsystemBounds-clause-due c =
+    by_kind (chosen c.args.wanted c.args.bytes.now) SubsystemBounds _ _ _ (sym c.in-SubsystemBounds.is ∙ c.chosen.ensures) c.of_subsystem_bounds.ensures.due
