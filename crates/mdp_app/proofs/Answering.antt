@@ -5,7 +5,7 @@ use Rattle.mdp_spec.specs.{Labels.{place_of}, Mdp.{Mdp}}
 use Rattle.mdp_rows.specs.declared.dir.Dir.{Dir}
 use Rattle.mdp_drn.specs.FromSource.{HadLeft}
 use Rattle.mdp_job.specs.Job.{PlainQuery, solve, witness, check, drill, horizon, total, policy, chain, discount, discount_check, bounds, bounds_until}
-use Rattle.mdp_job.specs.Job.{bounds_total, bounds_discount, bounds_check, curve_until, curve_total, Asked, reads_model, reads_second}
+use Rattle.mdp_job.specs.Job.{bounds_total, bounds_discount, bounds_witness, bounds_check, curve_until, curve_total, Asked, reads_model, reads_second}
 use Rattle.mdp_job.specs.{Refusal.{PlainRefusal, read_model, read_certificate, no_memory}, declared.status.Status.{Status}}
 use Rattle.mdp_job.specs.declared.status.Status.TheVariants as status
 use Rattle.mdp_command.proofs.Statuses.{refusal_status}
@@ -20,10 +20,11 @@ use Rattle.mdp_command_policy.specs.{Due.{IsPolicyDue}, ChainDue.{IsChainDue}}
 use Rattle.mdp_command_policy.proofs.{Due.{policy_once}, ChainDue.{chain_once}}
 use Rattle.mdp_discount.proofs.OneEnd.{one_query_end}
 use Rattle.mdp_command_bounds_search.specs.{DiscountDue.{IsNamedDue, IsDiscountBoundsDue}, Due.{claim_of, fault_of, IsDueBy, IsBoundsDue}}
+use Rattle.mdp_command_bounds_search.specs.{WitnessDue.{claim_by, IsBoundsWitnessDue}, WitnessLaws.{IsTextAnswer, IsUndecidedAnswer, TextExcludesRefusals}}
 use Rattle.mdp_command_bounds_search.proofs.DiscountSolved as discounting
 use Rattle.mdp_command_bounds_search.proofs.Solved.{never_too_wide}
 use Rattle.mdp_app.specs.{Due.{IsDue}, Decided.{IsTextDecided, IsDecided}}
-use Rattle.mdp_app.specs.Run.{IsFromBytes, HasCause, LeavesUnread, IsAnswered, IsWorkDone, IsDoneUnless, IsComplete}
+use Rattle.mdp_app.specs.Run.{IsFromBytes, HasCause, LeavesUnread, IsAnswered, IsWorkDone, may_be_undecided, IsDoneUnless, IsComplete}
 
 -- what is due doesn't depend on bytes that the job doesn't read
 had_told : (reads : Bool) (x : Input) (told had : List ℕ) → Told reads x told → HadLeft x.before had → (reads ≡ true) → had ≡ told
@@ -106,81 +107,99 @@ discount_bounds_done dir name f (Ok m) said text d e = by (place_of name m.names
     by (Some r) is h = done_ok said (discounting.never_too_wide dir name f m said r is d)
 discount_bounds_done dir name f (Err r) said text d e = cc e
 
+-- where a text is due, the status is this
+abbrev EndsSo : Asked → Said → Type 0
+EndsSo asked said = (said_status said ≡ status.Done) ⊎ ((said_status said ≡ status.Undecided) × IsTrue (may_be_undecided asked))
+
+-- of bounds of a witness no refusal is due either, but that the threshold lies between two values
+bounds_witness_done : TextExcludesRefusals → (rule : RowRule) (dir : Dir) (stay : Option (List ℕ)) (label : List ℕ) (threshold : ℚ) (model text : List ℕ) (said : Said)
+    → IsDueToModel (IsBoundsWitnessDue (claim_by dir stay label threshold)) (model_due rule model) said
+    → IsDueToModel (IsBoundsWitnessDue (claim_by dir stay label threshold)) (model_due rule model) (Ok text)
+    → EndsSo (Ok (bounds_witness rule dir stay label threshold)) said
+bounds_witness_done excludes rule dir stay label threshold model text said d e = by (excludes rule (claim_by dir stay label threshold) model text said e d)
+  where
+    by : IsTextAnswer said ⊎ IsUndecidedAnswer said → EndsSo (Ok (bounds_witness rule dir stay label threshold)) said
+    by (inl t) = inl (ap said_status t.says)
+    by (inr u) = inr (ap said_status u.says, refl)
+
 -- where a text is due, the work is done with what is due
 due_done :
-    IsDueOnce → witnessed.IsDueOnce → (asked : Asked) (model second : Input) (m s n t text : List ℕ) (said : Said) → HadLeft model.before n → HadLeft second.before t → IsDue asked n t said
+    IsDueOnce → witnessed.IsDueOnce → TextExcludesRefusals → (asked : Asked) (model second : Input) (m s n t text : List ℕ) (said : Said) → HadLeft model.before n → HadLeft second.before t → IsDue asked n t said
     → Told (reads_model asked) model m → Told (reads_second asked) second s → IsDue asked m s (Ok text)
-    → said_status said ≡ status.Done
-due_done once found (Ok (solve rule dir query)) model second m s n t text said hn ht due tm ts due_text =
-    done_of said text (
-    once rule dir query m said (Ok text) (subst (λ (x : List ℕ). IsSolveDue dir query (model_due rule x) said) (had_told true model m n tm hn refl) due) due_text)
-due_done once found (Ok (witness rule dir stay label threshold)) model second m s n t text said hn ht due tm ts due_text =
-    done_of said text (
+    → EndsSo asked said
+due_done once found excludes (Ok (solve rule dir query)) model second m s n t text said hn ht due tm ts due_text =
+    inl (done_of said text (
+    once rule dir query m said (Ok text) (subst (λ (x : List ℕ). IsSolveDue dir query (model_due rule x) said) (had_told true model m n tm hn refl) due) due_text))
+due_done once found excludes (Ok (witness rule dir stay label threshold)) model second m s n t text said hn ht due tm ts due_text =
+    inl (done_of said text (
     found rule dir stay label threshold m said (Ok text)
-    (subst (λ (x : List ℕ). IsDueToModel (IsWitnessDue dir stay label threshold) (model_due rule x) said) (had_told true model m n tm hn refl) due) due_text)
-due_done once found (Ok (check rule)) model second m s n t text said hn ht due tm ts due_text =
-    done_of said text (
+    (subst (λ (x : List ℕ). IsDueToModel (IsWitnessDue dir stay label threshold) (model_due rule x) said) (had_told true model m n tm hn refl) due) due_text))
+due_done once found excludes (Ok (check rule)) model second m s n t text said hn ht due tm ts due_text =
+    inl (done_of said text (
     checked_once None s (model_due rule m) said (Ok text)
     (subst (λ (x : List ℕ). IsDueToModel (λ k. IsCheckDue None k x) (model_due rule m) said) (had_told true second s t ts ht refl)
-    (subst (λ (x : List ℕ). IsDueToModel (λ k. IsCheckDue None k t) (model_due rule x) said) (had_told true model m n tm hn refl) due)) due_text)
-due_done once found (Ok (drill number layers width)) model second m s n t text said hn ht due tm ts due_text =
-    done_of said text (
-    due-once number layers width said (Ok text) due due_text)
-due_done once found (Ok (horizon rule dir stay label steps)) model second m s n t text said hn ht due tm ts due_text =
-    done_of said text (
+    (subst (λ (x : List ℕ). IsDueToModel (λ k. IsCheckDue None k t) (model_due rule x) said) (had_told true model m n tm hn refl) due)) due_text))
+due_done once found excludes (Ok (drill number layers width)) model second m s n t text said hn ht due tm ts due_text =
+    inl (done_of said text (
+    due-once number layers width said (Ok text) due due_text))
+due_done once found excludes (Ok (horizon rule dir stay label steps)) model second m s n t text said hn ht due tm ts due_text =
+    inl (done_of said text (
     horizon_once dir stay label steps (model_due rule m) said (Ok text)
-    (subst (λ (x : List ℕ). IsDueToModel (IsHorizonDue dir stay label steps) (model_due rule x) said) (had_told true model m n tm hn refl) due) due_text)
-due_done once found (Ok (total rule dir name steps)) model second m s n t text said hn ht due tm ts due_text =
-    done_of said text (
+    (subst (λ (x : List ℕ). IsDueToModel (IsHorizonDue dir stay label steps) (model_due rule x) said) (had_told true model m n tm hn refl) due) due_text))
+due_done once found excludes (Ok (total rule dir name steps)) model second m s n t text said hn ht due tm ts due_text =
+    inl (done_of said text (
     total_once dir name steps (model_due rule m) said (Ok text)
-    (subst (λ (x : List ℕ). IsDueToModel (IsTotalDue dir name steps) (model_due rule x) said) (had_told true model m n tm hn refl) due) due_text)
-due_done once found (Ok (policy rule stay label)) model second m s n t text said hn ht due tm ts due_text =
-    done_of said text (
+    (subst (λ (x : List ℕ). IsDueToModel (IsTotalDue dir name steps) (model_due rule x) said) (had_told true model m n tm hn refl) due) due_text))
+due_done once found excludes (Ok (policy rule stay label)) model second m s n t text said hn ht due tm ts due_text =
+    inl (done_of said text (
     value_once stay label s (model_due rule m) said (Ok text)
     (subst (λ (x : List ℕ). IsDueToModel (λ k. IsPolicyDue stay label k x) (model_due rule m) said) (had_told true second s t ts ht refl)
-    (subst (λ (x : List ℕ). IsDueToModel (λ k. IsPolicyDue stay label k t) (model_due rule x) said) (had_told true model m n tm hn refl) due)) due_text)
-due_done once found (Ok (chain rule)) model second m s n t text said hn ht due tm ts due_text =
-    done_of said text (
+    (subst (λ (x : List ℕ). IsDueToModel (λ k. IsPolicyDue stay label k t) (model_due rule x) said) (had_told true model m n tm hn refl) due)) due_text))
+due_done once found excludes (Ok (chain rule)) model second m s n t text said hn ht due tm ts due_text =
+    inl (done_of said text (
     made_once s (model_due rule m) said (Ok text)
     (subst (λ (x : List ℕ). IsDueToModel (λ k. IsChainDue k x) (model_due rule m) said) (had_told true second s t ts ht refl)
-    (subst (λ (x : List ℕ). IsDueToModel (λ k. IsChainDue k t) (model_due rule x) said) (had_told true model m n tm hn refl) due)) due_text)
-due_done once found (Ok (discount rule dir name factor)) model second m s n t text said hn ht due tm ts due_text =
-    done_of said text (
+    (subst (λ (x : List ℕ). IsDueToModel (λ k. IsChainDue k t) (model_due rule x) said) (had_told true model m n tm hn refl) due)) due_text))
+due_done once found excludes (Ok (discount rule dir name factor)) model second m s n t text said hn ht due tm ts due_text =
+    inl (done_of said text (
     discounted_once dir name factor (model_due rule m) said (Ok text)
-    (subst (λ (x : List ℕ). IsDueToModel (IsDiscountDue dir name factor) (model_due rule x) said) (had_told true model m n tm hn refl) due) due_text)
-due_done once found (Ok (discount_check rule)) model second m s n t text said hn ht due tm ts due_text =
-    done_of said text (
+    (subst (λ (x : List ℕ). IsDueToModel (IsDiscountDue dir name factor) (model_due rule x) said) (had_told true model m n tm hn refl) due) due_text))
+due_done once found excludes (Ok (discount_check rule)) model second m s n t text said hn ht due tm ts due_text =
+    inl (done_of said text (
     checked_once (Some Discounted) s (model_due rule m) said (Ok text)
     (subst (λ (x : List ℕ). IsDueToModel (λ k. IsCheckDue (Some Discounted) k x) (model_due rule m) said) (had_told true second s t ts ht refl)
-    (subst (λ (x : List ℕ). IsDueToModel (λ k. IsCheckDue (Some Discounted) k t) (model_due rule x) said) (had_told true model m n tm hn refl) due)) due_text)
-due_done once found (Ok (bounds rule dir query digits)) model second m s n t text said hn ht due tm ts due_text =
-    bounds_done dir query (model_due rule m) said text
-    (subst (λ (x : List ℕ). IsDueToModel (IsBoundsDue dir query) (model_due rule x) said) (had_told true model m n tm hn refl) due) due_text
-due_done once found (Ok (bounds_until rule dir stay label steps digits)) model second m s n t text said hn ht due tm ts due_text =
-    done_of said text (
+    (subst (λ (x : List ℕ). IsDueToModel (λ k. IsCheckDue (Some Discounted) k t) (model_due rule x) said) (had_told true model m n tm hn refl) due)) due_text))
+due_done once found excludes (Ok (bounds rule dir query digits)) model second m s n t text said hn ht due tm ts due_text =
+    inl (bounds_done dir query (model_due rule m) said text
+    (subst (λ (x : List ℕ). IsDueToModel (IsBoundsDue dir query) (model_due rule x) said) (had_told true model m n tm hn refl) due) due_text)
+due_done once found excludes (Ok (bounds_until rule dir stay label steps digits)) model second m s n t text said hn ht due tm ts due_text =
+    inl (done_of said text (
     until_bounds_once dir stay label steps digits (model_due rule m) said (Ok text)
-    (subst (λ (x : List ℕ). IsDueToModel (IsUntilBoundsDue dir stay label steps digits) (model_due rule x) said) (had_told true model m n tm hn refl) due) due_text)
-due_done once found (Ok (bounds_total rule dir name steps digits)) model second m s n t text said hn ht due tm ts due_text =
-    done_of said text (
+    (subst (λ (x : List ℕ). IsDueToModel (IsUntilBoundsDue dir stay label steps digits) (model_due rule x) said) (had_told true model m n tm hn refl) due) due_text))
+due_done once found excludes (Ok (bounds_total rule dir name steps digits)) model second m s n t text said hn ht due tm ts due_text =
+    inl (done_of said text (
     total_bounds_once dir name steps digits (model_due rule m) said (Ok text)
-    (subst (λ (x : List ℕ). IsDueToModel (IsTotalBoundsDue dir name steps digits) (model_due rule x) said) (had_told true model m n tm hn refl) due) due_text)
-due_done once found (Ok (bounds_discount rule dir name factor digits)) model second m s n t text said hn ht due tm ts due_text =
-    discount_bounds_done dir name factor (model_due rule m) said text
-    (subst (λ (x : List ℕ). IsDueToModel (IsDiscountBoundsDue dir name factor) (model_due rule x) said) (had_told true model m n tm hn refl) due) due_text
-due_done once found (Ok (bounds_check rule)) model second m s n t text said hn ht due tm ts due_text =
-    done_of said text (
+    (subst (λ (x : List ℕ). IsDueToModel (IsTotalBoundsDue dir name steps digits) (model_due rule x) said) (had_told true model m n tm hn refl) due) due_text))
+due_done once found excludes (Ok (bounds_discount rule dir name factor digits)) model second m s n t text said hn ht due tm ts due_text =
+    inl (discount_bounds_done dir name factor (model_due rule m) said text
+    (subst (λ (x : List ℕ). IsDueToModel (IsDiscountBoundsDue dir name factor) (model_due rule x) said) (had_told true model m n tm hn refl) due) due_text)
+due_done once found excludes (Ok (bounds_witness rule dir stay label threshold)) model second m s n t text said hn ht due tm ts due_text =
+    bounds_witness_done excludes rule dir stay label threshold m text said
+    (subst (λ (x : List ℕ). IsDueToModel (IsBoundsWitnessDue (claim_by dir stay label threshold)) (model_due rule x) said) (had_told true model m n tm hn refl) due) due_text
+due_done once found excludes (Ok (bounds_check rule)) model second m s n t text said hn ht due tm ts due_text =
+    inl (done_of said text (
     checked_once (Some Bounds) s (model_due rule m) said (Ok text)
     (subst (λ (x : List ℕ). IsDueToModel (λ k. IsCheckDue (Some Bounds) k x) (model_due rule m) said) (had_told true second s t ts ht refl)
-    (subst (λ (x : List ℕ). IsDueToModel (λ k. IsCheckDue (Some Bounds) k t) (model_due rule x) said) (had_told true model m n tm hn refl) due)) due_text)
-due_done once found (Ok (curve_until rule dir stay label steps digits)) model second m s n t text said hn ht due tm ts due_text =
-    done_of said text (
+    (subst (λ (x : List ℕ). IsDueToModel (λ k. IsCheckDue (Some Bounds) k t) (model_due rule x) said) (had_told true model m n tm hn refl) due)) due_text))
+due_done once found excludes (Ok (curve_until rule dir stay label steps digits)) model second m s n t text said hn ht due tm ts due_text =
+    inl (done_of said text (
     until_curve_once dir stay label steps digits (model_due rule m) said (Ok text)
-    (subst (λ (x : List ℕ). IsDueToModel (IsUntilCurveDue dir stay label steps digits) (model_due rule x) said) (had_told true model m n tm hn refl) due) due_text)
-due_done once found (Ok (curve_total rule dir name steps digits)) model second m s n t text said hn ht due tm ts due_text =
-    done_of said text (
+    (subst (λ (x : List ℕ). IsDueToModel (IsUntilCurveDue dir stay label steps digits) (model_due rule x) said) (had_told true model m n tm hn refl) due) due_text))
+due_done once found excludes (Ok (curve_total rule dir name steps digits)) model second m s n t text said hn ht due tm ts due_text =
+    inl (done_of said text (
     total_curve_once dir name steps digits (model_due rule m) said (Ok text)
-    (subst (λ (x : List ℕ). IsDueToModel (IsTotalCurveDue dir name steps digits) (model_due rule x) said) (had_told true model m n tm hn refl) due) due_text)
-due_done once found (Err e) model second m s n t text said hn ht due tm ts due_text = cc
+    (subst (λ (x : List ℕ). IsDueToModel (IsTotalCurveDue dir name steps digits) (model_due rule x) said) (had_told true model m n tm hn refl) due) due_text))
+due_done once found excludes (Err e) model second m s n t text said hn ht due tm ts due_text = cc
 
 module _ (asked : Asked) (model second : Input) (out : Output) (ended : Status) where
   memory_unread : (said : Said) → LeavesUnread asked model second said → LeavesUnread asked model second (Err no_memory)
@@ -203,17 +222,21 @@ module _ (asked : Asked) (model second : Input) (out : Output) (ended : Status) 
 
   ends_as : (said : Said) (s : Status) → said_status said ≡ s → Wrote ended out said → (ended ≡ s → Unless) → Unless
   ends_as said s is (inl w) by = by (w.0 ∙ is)
-  ends_as said s is (inr w) by = inr (inr (inr (w.0, w.1.fault)))
+  ends_as said s is (inr w) by = inr (inr (inr (inl (w.0, w.1.fault))))
 
   ends : (said due : Said) → said ≡ due → Wrote ended out said → (ended ≡ said_status due → Unless) → Unless
   ends said due is w by = ends_as said (said_status due) (ap said_status is) w by
 
-  by_cause : (said : Said) → Wrote ended out said → (IsFromBytes asked model second said → said_status said ≡ status.Done) → HasCause asked model second said → Unless
-  by_cause said w done (inl from) = ends_as said status.Done (done from) w inl
+  by_end : (said : Said) → Wrote ended out said → EndsSo asked said → Unless
+  by_end said w (inl done) = ends_as said status.Done done w inl
+  by_end said w (inr u) = ends_as said status.Undecided u.0 w (λ e. inr (inr (inr (inr (e, u.1)))))
+
+  by_cause : (said : Said) → Wrote ended out said → (IsFromBytes asked model second said → EndsSo asked said) → HasCause asked model second said → Unless
+  by_cause said w done (inl from) = by_end said w (done from)
   by_cause said w done (inr (inl failed)) = ends said (Err read_model) failed.says w (λ e. inr (inr (inl (e, inl (failed.reads, failed.fault)))))
   by_cause said w done (inr (inr (inl failed))) = ends said (Err read_certificate) failed.says w (λ e. inr (inr (inl (e, inr (failed.reads, failed.fault)))))
   by_cause said w done (inr (inr (inr memory))) = ends said (Err no_memory) memory w (λ e. inr (inl e))
 
-  pub complete : IsDueOnce → witnessed.IsDueOnce → IsAnswered asked model second out ended → IsComplete asked model second out ended
-  complete once found a m s text tm ts due =
-      by_cause a.said a.written (λ from. due_done once found asked model second m s from.model_bytes from.second_bytes text a.said from.had_model from.had_second from.is_due tm ts due) a.cause
+  pub complete : IsDueOnce → witnessed.IsDueOnce → TextExcludesRefusals → IsAnswered asked model second out ended → IsComplete asked model second out ended
+  complete once found excludes a m s text tm ts due =
+      by_cause a.said a.written (λ from. due_done once found excludes asked model second m s from.model_bytes from.second_bytes text a.said from.had_model from.had_second from.is_due tm ts due) a.cause

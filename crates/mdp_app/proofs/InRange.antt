@@ -13,6 +13,7 @@ use Rattle.mdp_job.specs.Job.{PlainJob, solve, witness, check, drill, horizon, p
 use Rattle.mdp_job.specs.Words.{rows_of, word_at, rule_of, dir_of, check_of, query_of, solve_of, whole_word, can_draw, drill_by, drill_with, drill_of}
 use Rattle.mdp_job.specs.Words.{threshold_by, threshold_of, witness_reach_of, witness_until_of, witness_of, steps_of, horizon_of, total_of, policy_reach_of, policy_until_of, policy_of, chain_of}
 use Rattle.mdp_job.specs.Words.{below_one, factor_of, discount_of, discount_check_of, begins_with_zero, few_digits, digits_of, bounds_query_of, bounds_digits_of, bounds_best_of, bounds_until_of}
+use Rattle.mdp_job.specs.Words.{bounds_witness_reach_of, bounds_witness_until_of, bounds_witness_of}
 use Rattle.mdp_job.specs.Words.{bounds_total_of, bounds_discount_of, bounds_by, bounds_of, bounds_check_of, curve_until_of, curve_total_of, curve_by, curve_of, direct_of, other_of, job_of_texts, job_of}
 use Rattle.mdp_job.specs.declared.words_error.WordsError.{WordsError}
 use Rattle.mdp_job.specs.declared.words_error.WordsError.TheVariants.{Command, Number, Objective, Drill, Factor, Digits}
@@ -171,12 +172,19 @@ bounds_discount_in_range rule dir words =
     either (length words == 7) _ (Err Number)
     (bind_to (factor_of (word_at words 5)) _ (λ factor is. bind (digits_of (word_at words 6)) _ (λ digits. factor_is (word_at words 5) factor is))) tt
 
+bounds_witness_in_range : (rule : RowRule) (dir : Dir) (words : List (List ℕ)) → IsInRange (bounds_witness_of rule dir words)
+bounds_witness_in_range rule dir words =
+    either ((length words == 8) && bytes_eq (word_at words 4) (codes "until")) (bounds_witness_until_of rule dir words) (bounds_witness_reach_of rule dir words)
+    (either (length words == 8) _ (Err Number) (bind_to (threshold_of (word_at words 7)) _ (λ threshold is. threshold_is (word_at words 7) threshold is)) tt)
+    (either (length words == 6) _ (Err Number) (bind_to (threshold_of (word_at words 5)) _ (λ threshold is. threshold_is (word_at words 5) threshold is)) tt)
+
 bounds_by_in_range : (rule : RowRule) (dir : Dir) (words : List (List ℕ)) → IsInRange (bounds_by rule dir words)
 bounds_by_in_range rule dir words =
     either (bytes_eq (word_at words 3) (codes "until") && (length words == 8)) (bounds_until_of rule dir words) _ (bounds_until_in_range rule dir words) (
     either (bytes_eq (word_at words 3) (codes "total")) (bounds_total_of rule dir words) _ (bounds_total_in_range rule dir words) (
-    either (bytes_eq (word_at words 3) (codes "discount")) (bounds_discount_of rule dir words) (bounds_best_of rule dir words)
-    (bounds_discount_in_range rule dir words) (bounds_best_in_range rule dir words)))
+    either (bytes_eq (word_at words 3) (codes "discount")) (bounds_discount_of rule dir words) _ (bounds_discount_in_range rule dir words) (
+    either (bytes_eq (word_at words 3) (codes "witness")) (bounds_witness_of rule dir words) (bounds_best_of rule dir words)
+    (bounds_witness_in_range rule dir words) (bounds_best_in_range rule dir words))))
 
 bounds_in_range : (words : List (List ℕ)) → IsInRange (bounds_of words)
 bounds_in_range words =

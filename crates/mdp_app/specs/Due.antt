@@ -1,13 +1,13 @@
 -- What is due to the words, to the bytes of the model and to those of the second file. Each command is a case of `IsDue`.
 use Rattle.std.specs.Prelude.{◌≡◌, ℕ, List, Some, None, Ok, Err, IsOk}
 use Rattle.mdp_job.specs.Job.{solve, witness, check, drill, horizon, total, policy, chain, discount, discount_check, bounds, bounds_until, bounds_total}
-use Rattle.mdp_job.specs.{Job.{bounds_discount, bounds_check, curve_until, curve_total, Asked}, Refusal.{no_job}}
+use Rattle.mdp_job.specs.{Job.{bounds_discount, bounds_witness, bounds_check, curve_until, curve_total, Asked}, Refusal.{no_job}}
 use Rattle.mdp_command.specs.{Files.{model_due, IsDueToModel}, Said.{Said}, CheckDue.{IsCheckDue}}
 use Rattle.mdp_command.specs.declared.kind.CertificateKind.TheVariants.{Discounted, Bounds}
 use Rattle.mdp_command_solve.specs.{Due.{IsSolveDue}, DrillDue.{IsDrillDue}, WitnessDue.{IsWitnessDue}, DiscountDue.{IsDiscountDue}}
 use Rattle.mdp_command_horizon.specs.{BoundsDue.{IsUntilBoundsDue, IsTotalBoundsDue}, CurveDue.{IsUntilCurveDue, IsTotalCurveDue}, Due.{IsHorizonDue, IsTotalDue}}
 use Rattle.mdp_command_policy.specs.{Due.{IsPolicyDue}, ChainDue.{IsChainDue}}
-use Rattle.mdp_command_bounds_search.specs.{DiscountDue.{IsDiscountBoundsDue}, Due.{IsBoundsDue}}
+use Rattle.mdp_command_bounds_search.specs.{DiscountDue.{IsDiscountBoundsDue}, Due.{IsBoundsDue}, WitnessDue.{claim_by, IsBoundsWitnessDue}}
 
 -- this is due to what the words ask for, to the model's bytes and to those of the second file
 abbrev pub IsDue : Asked → List ℕ → List ℕ → Said → Type 0
@@ -25,6 +25,7 @@ IsDue (Ok (bounds rule dir query digits)) model second said = IsDueToModel (IsBo
 IsDue (Ok (bounds_until rule dir stay label steps digits)) model second said = IsDueToModel (IsUntilBoundsDue dir stay label steps digits) (model_due rule model) said
 IsDue (Ok (bounds_total rule dir name steps digits)) model second said = IsDueToModel (IsTotalBoundsDue dir name steps digits) (model_due rule model) said
 IsDue (Ok (bounds_discount rule dir name factor digits)) model second said = IsDueToModel (IsDiscountBoundsDue dir name factor) (model_due rule model) said
+IsDue (Ok (bounds_witness rule dir stay label threshold)) model second said = IsDueToModel (IsBoundsWitnessDue (claim_by dir stay label threshold)) (model_due rule model) said
 IsDue (Ok (bounds_check rule)) model second said = IsDueToModel (λ m. IsCheckDue (Some Bounds) m second) (model_due rule model) said
 IsDue (Ok (curve_until rule dir stay label steps digits)) model second said = IsDueToModel (IsUntilCurveDue dir stay label steps digits) (model_due rule model) said
 IsDue (Ok (curve_total rule dir name steps digits)) model second said = IsDueToModel (IsTotalCurveDue dir name steps digits) (model_due rule model) said
@@ -46,6 +47,7 @@ IsModelRead (Ok (bounds rule dir query digits)) model = IsOk (model_due rule mod
 IsModelRead (Ok (bounds_until rule dir stay label steps digits)) model = IsOk (model_due rule model)
 IsModelRead (Ok (bounds_total rule dir name steps digits)) model = IsOk (model_due rule model)
 IsModelRead (Ok (bounds_discount rule dir name factor digits)) model = IsOk (model_due rule model)
+IsModelRead (Ok (bounds_witness rule dir stay label threshold)) model = IsOk (model_due rule model)
 IsModelRead (Ok (bounds_check rule)) model = IsOk (model_due rule model)
 IsModelRead (Ok (curve_until rule dir stay label steps digits)) model = IsOk (model_due rule model)
 IsModelRead (Ok (curve_total rule dir name steps digits)) model = IsOk (model_due rule model)

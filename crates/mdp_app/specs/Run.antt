@@ -1,9 +1,9 @@
 -- What a run answers and why, which sources it leaves as they are, and when the work is done.
-use Rattle.std.specs.{Prelude.{◌≡◌, ◌⊎◌, ℕ, List, Ok, Err, IsTrue, IsFalse}, Io.KnownBytes.{IsAtEnd}}
+use Rattle.std.specs.{Prelude.{◌≡◌, ◌⊎◌, ℕ, Bool, true, false, List, Ok, Err, IsTrue, IsFalse}, Io.KnownBytes.{IsAtEnd}}
 use Rattle.mdp_drn.specs.FromSource.{HadLeft}
 use Rattle.mdp_edge.specs.Faults.{FaultCounted}
-use Rattle.mdp_job.specs.{Job.{Asked, reads_model, reads_second}, Refusal.{read_model, long_model, read_certificate, long_certificate, no_memory}, declared.status.Status.{Status}}
-use Rattle.mdp_job.specs.declared.status.Status.TheVariants.{Done, ReadFault, WriteFault, Memory}
+use Rattle.mdp_job.specs.{Job.{bounds_witness, Asked, reads_model, reads_second}, Refusal.{read_model, long_model, read_certificate, long_certificate, no_memory}, declared.status.Status.{Status}}
+use Rattle.mdp_job.specs.declared.status.Status.TheVariants.{Done, ReadFault, WriteFault, Memory, Undecided}
 use Rattle.mdp_command.specs.{Read.{is_of_model}, Said.{Said}, Streams.{Input, HasFailed, IsStill, Told, Output}, Written.{WroteAll, Wrote}}
 use Rattle.mdp_app.specs.{Due.{IsDue, IsModelRead}, Shown.{IsShown}}
 
@@ -83,13 +83,20 @@ pub record IsWorkDone (asked : Asked) (model second : Input) (out : Output) : Ty
 abbrev pub SourceFailed : Asked → Input → Input → Type 0
 SourceFailed asked model second = (IsTrue (reads_model asked) × HasFailed model) ⊎ (IsTrue (reads_second asked) × HasFailed second)
 
--- the work is done, but for want of memory and for faults that were counted
+-- bounds of a witness may leave it undecided whether the threshold is reached
+abbrev pub may_be_undecided : Asked → Bool
+may_be_undecided (Ok (bounds_witness rule dir stay label threshold)) = true
+may_be_undecided asked = false
+
+-- the work is done, but for want of memory and for faults that were counted; and where the search for bounds of a witness comes to bounds between which the
+-- threshold lies
 abbrev pub IsDoneUnless : Asked → Input → Input → Output → Status → Type 0
 IsDoneUnless asked model second out ended =
     (ended ≡ Done)
     ⊎ ((ended ≡ Memory)
     ⊎ (((ended ≡ ReadFault) × SourceFailed asked model second)
-    ⊎ ((ended ≡ WriteFault) × FaultCounted out.faults_before out.faults_after)))
+    ⊎ (((ended ≡ WriteFault) × FaultCounted out.faults_before out.faults_after)
+    ⊎ ((ended ≡ Undecided) × IsTrue (may_be_undecided asked)))))
 
 -- where a text is due to the bytes that the sources told, the work is done
 abbrev pub IsComplete : Asked → Input → Input → Output → Status → Type 0

@@ -4,7 +4,9 @@ ghost use Rattle.mdp_command.specs.{Opened.{OnFiles}, Prelude.{said, input, outp
 ghost use Rattle.mdp_app.specs.{Run.{IsAnswered, IsWorkDone, IsComplete, HasRun}, Decided.{IsDecided}};
 
 use mdp_command::{CertificateKind, check_files, written};
-use mdp_command_bounds_search::{bounds_discount_file, bounds_file};
+use mdp_command_bounds_search::{
+    bounds_discount_file, bounds_file, bounds_witness_file, bounds_witness_law,
+};
 use mdp_command_horizon::{
     horizon_file, total_bounds_file, total_curve_file, total_file, until_bounds_file,
     until_curve_file,
@@ -103,6 +105,13 @@ fn decided<S: Source, C: Source>(
             factor,
             digits,
         } => bounds_discount_file(alloc, rule, dir, name, factor, digits, model),
+        Job::BoundsWitness {
+            rule,
+            dir,
+            stay,
+            label,
+            threshold,
+        } => bounds_witness_file(alloc, rule, dir, stay, label, threshold, model),
         Job::BoundsCheck { rule } => {
             check_files(alloc, rule, Some(CertificateKind::Bounds), model, second)
         }
@@ -141,12 +150,14 @@ pub fn run<S: Source, C: Source, K: Sink>(
     ensures done { result ≡ Status.Done → IsWorkDone (job_of words.now) (input S.left S.faults model.old model.new) (input C.left C.faults second.old second.new)
         (output K.taken K.settled K.faults out.old out.new) }
 
-    // Where a text is due, the work is done, but for faults that were counted and want of memory.
+    // Where a text is due, the work is done, but for faults that were counted and want of memory; and but for bounds of a witness between which the
+    // threshold lies.
     ensures complete { IsComplete (job_of words.now) (input S.left S.faults model.old model.new) (input C.left C.faults second.old second.new)
         (output K.taken K.settled K.faults out.old out.new) result }
 {
     solve_law();
     witness_step_law();
+    bounds_witness_law();
     let answer = decided(alloc, words, model, second);
     written(alloc, answer, out)
 }

@@ -16,3 +16,7 @@ pub mod SomeMean
 pub mod SomeText
 pub mod SomeDiscount
 pub mod SomeDiscountText
+pub mod WitnessMarks
+pub mod WitnessBelow
+pub mod WitnessLength
+pub mod WitnessSolved

@@ -3,6 +3,10 @@ pub mod Due
 pub mod Near
 pub mod Shown
 pub mod Laws
+pub mod WitnessDue
+pub mod WitnessMarks
+pub mod WitnessShown
+pub mod WitnessLaws
 pub mod DiscountDue
 pub mod DiscountShown
 pub mod DiscountLaws

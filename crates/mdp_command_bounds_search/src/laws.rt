@@ -1,14 +1,17 @@
 ghost use Rattle.mdp_command_bounds_search.specs.DiscountLaws as discount;
 ghost use Rattle.mdp_command_bounds_search.specs.Laws.{HasAText, TextLiesBetween};
+ghost use Rattle.mdp_command_bounds_search.specs.WitnessLaws.{TextExcludesRefusals, TextIsShown};
 
 use mdp_cert::bounds_text_law;
 use mdp_check::bounds_checking_law;
 use mdp_discount::discount_law;
 use mdp_discount_bounds::discount_bounds_law;
 use mdp_discount_text::discount_bounds_text_law;
+use mdp_drn::model_law;
 use mdp_graph::{along_law, avoid_law, meet_law, rounds_law, sure_all_law};
 use mdp_mean::mean_law;
 use mdp_policy_iteration::path_law;
+use mdp_subsystem_bounds::{subsystem_bounds_law, subsystem_bounds_text_law};
 
 /// Laws of what is due to `bounds`: some text is, to each query that fits its model, with values as near as any digits say, unless the exact query is too
 /// wide; and between the lower and the upper values of a text that is due lie the greatest, or the least, probabilities, rewards until a label or mean
@@ -40,4 +43,15 @@ pub fn bounds_discount_search_law()
     discount_bounds_law();
     discount_bounds_text_law();
     discount_law();
+}
+
+/// Laws of what is due to `bounds` of a witness: a text that is due is that of a true certificate with true marks; and where a text is due no refusal is, but
+/// that the threshold lies between a lower and an upper value of the best probability.
+pub fn bounds_witness_law()
+    ensures shown { TextIsShown }
+    ensures refusals { TextExcludesRefusals }
+{
+    model_law();
+    subsystem_bounds_law();
+    subsystem_bounds_text_law();
 }

@@ -1,4 +1,5 @@
-//! The command `bounds`: certified lower and upper bounds of the best values of a query, with a policy, for every model.
+//! The command `bounds`: certified lower and upper bounds of the best values of a query, with a policy, for every model; and subsystems that are shown to come
+//! to a threshold by lower values.
 #![tactic(auto)]
 
 mod bounding;
@@ -7,7 +8,11 @@ mod discount_certificate;
 mod discounting;
 mod laws;
 mod searching;
+mod witness_certificate;
+mod witness_marks;
+mod witness_search;
 
 pub use discounting::bounds_discount_file;
-pub use laws::{bounds_discount_search_law, bounds_search_law};
+pub use laws::{bounds_discount_search_law, bounds_search_law, bounds_witness_law};
 pub use searching::bounds_file;
+pub use witness_search::bounds_witness_file;

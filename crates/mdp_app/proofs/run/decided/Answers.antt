@@ -112,6 +112,15 @@ returns-in-BoundsDiscount g c =
     decided_as _ _ _ _ _ (sym (ap (λ (job : Job). asked_for (plain_job job)) c.in-BoundsDiscount.is) ∙ c.in-Ok.ensures)
     (model_decided _ _ _ _ _ _ refl refl (λ bytes other said due. due) (λ bytes other text shown. shown) refl refl _ c.bounds_discount_file.ensures.read c.bounds_discount_file.ensures.end)
 
+pub bounds_witness_file-requires : goal.bounds_witness_file-requires
+bounds_witness_file-requires g c = in_range_of c.args.words.now _ (sym (ap (λ (job : Job). asked_for (plain_job job)) c.in-BoundsWitness.is) ∙ c.in-Ok.ensures)
+
+pub returns-in-BoundsWitness : goal.returns-in-BoundsWitness
+returns-in-BoundsWitness g c =
+    decided_as _ _ _ _ _ (sym (ap (λ (job : Job). asked_for (plain_job job)) c.in-BoundsWitness.is) ∙ c.in-Ok.ensures)
+    (model_decided _ _ _ _ _ _ refl refl (λ bytes other said due. due) (λ bytes other text shown. shown) refl refl _ c.bounds_witness_file.ensures.read
+    c.bounds_witness_file.ensures.end)
+
 pub returns-in-BoundsCheck : goal.returns-in-BoundsCheck
 returns-in-BoundsCheck g c =
     decided_as _ _ _ _ _ (sym (ap (λ (job : Job). asked_for (plain_job job)) c.in-BoundsCheck.is) ∙ c.in-Ok.ensures)

@@ -8,4 +8,4 @@ pub returns-clause-done : goal.returns-clause-done
 returns-clause-done g c is = work_done _ _ _ _ _ _ c.decided-answer.ensures.done c.written.ensures is
 
 pub returns-clause-complete : goal.returns-clause-complete
-returns-clause-complete g c = complete _ _ _ _ _ c.solve_law.ensures.once c.witness_step_law.ensures.once (returns-clause-answer g c)
+returns-clause-complete g c = complete _ _ _ _ _ c.solve_law.ensures.once c.witness_step_law.ensures.once c.bounds_witness_law.ensures.refusals (returns-clause-answer g c)

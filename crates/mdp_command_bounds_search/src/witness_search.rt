@@ -1,0 +1,124 @@
+ghost use Rattle.std.specs.Prelude.{◌≡◌, ◌⊎◌, Some, Ok, Err, IfOk, pos};
+ghost use Rattle.mdp_math.specs.Rational.{◌≤ℚ◌, of_int};
+ghost use Rattle.mdp_spec.specs.Labels.{initial_of};
+ghost use Rattle.mdp_check.specs.Check.{marks_by, way_by};
+ghost use Rattle.mdp_subsystem_bounds.specs.{Plain.{plain}, Spelling.{text_of}};
+ghost use Rattle.mdp_command.specs.Prelude.{IsModelReadToEnd, no_memory, plain_refusal, said, input};
+ghost use Rattle.mdp_command_bounds_search.specs.WitnessDue.{name_of, claim_by, refusal_of, IsEndDue, IsBoundsWitnessDue};
+ghost use Rattle.mdp_command_bounds_search.specs.WitnessShown.{IsBoundsWitnessPrinted, IsBoundsWitnessRead};
+
+use crate::witness_certificate::{Asked, certificate_of};
+use mdp_check::{goals_on_way, way_by};
+use mdp_command::read_model;
+use mdp_edge::Source;
+use mdp_job::Refusal;
+use mdp_num::Frac;
+use mdp_rows::{Dir, Marks, Model, RowRule};
+use mdp_subsystem_bounds::{
+    SubsystemBoundsCert, subsystem_bounds_law, subsystem_bounds_text_law, write_subsystem_bounds,
+};
+use mdp_subsystem_search::{Unshown, search_subsystem};
+use std::alloc::Global;
+
+/// What is said where there is no subsystem.
+fn refusal_of(error: Unshown) -> Refusal
+    ensures { plain_refusal result ≡ refusal_of error }
+{
+    match error {
+        Unshown::Below(value) => Refusal::Below(value),
+        Unshown::Undecided { lower, upper } => Refusal::Undecided { lower, upper },
+        Unshown::Memory => Refusal::Memory,
+    }
+}
+
+/// The text of a certificate.
+fn certificate_text(alloc: Global, cert: &SubsystemBoundsCert) -> Result<Vec<u8>, Refusal>
+    ensures { (said result ≡ Err no_memory) ⊎ (said result ≡ Ok (text_of (plain cert.now))) }
+{
+    let mut text = Vec::new(alloc);
+    match write_subsystem_bounds(cert, &mut text) {
+        Ok(()) => Ok(text),
+        Err(_) => Err(Refusal::Memory),
+    }
+}
+
+impl Asked<'_> {
+    /// The text of a subsystem from this start to these goals on what is left of the model for the way, or its refusal.
+    fn on_way(
+        self,
+        alloc: Global,
+        model: &Model,
+        way: &Model,
+        goals: &Marks,
+        start: u32,
+    ) -> Result<Vec<u8>, Refusal>
+        requires way { way.now ≡ way_by model.now goals.now (name_of self.now.stay) }
+        requires goals { marks_by model.now (name_of self.now.stay) self.now.label.now ≡ Some goals.now }
+        requires initial { initial_of model.now ≡ Some start }
+        requires threshold { of_int (pos 0) ≤ℚ self.now.threshold }
+        ensures due { (said result ≡ Err no_memory) ⊎
+            IsEndDue (claim_by self.entry.dir (name_of self.entry.stay) self.entry.label.now self.entry.threshold) model.now goals.now start (said result) }
+        ensures printed { IfOk (said result) (IsBoundsWitnessPrinted (claim_by self.entry.dir (name_of self.entry.stay) self.entry.label.now self.entry.threshold) model.now) }
+    {
+        model.known();
+        subsystem_bounds_law();
+        subsystem_bounds_text_law();
+        let found = match search_subsystem(alloc, way, goals, start, self.dir, self.threshold) {
+            Ok(found) => found,
+            Err(error) => return Err(refusal_of(error)),
+        };
+        let Ok(cert) = certificate_of(alloc, model, self, start, found) else {
+            return Err(Refusal::Memory);
+        };
+        certificate_text(alloc, &cert)
+    }
+
+    /// The text for a model, or its refusal: the labels are looked up first, then the one initial state.
+    fn of_model(self, alloc: Global, model: &Model) -> Result<Vec<u8>, Refusal>
+        requires { of_int (pos 0) ≤ℚ self.now.threshold }
+        ensures due { (said result ≡ Err no_memory) ⊎
+            IsBoundsWitnessDue (claim_by self.entry.dir (name_of self.entry.stay) self.entry.label.now self.entry.threshold) model.now (said result) }
+        ensures printed { IfOk (said result) (IsBoundsWitnessPrinted (claim_by self.entry.dir (name_of self.entry.stay) self.entry.label.now self.entry.threshold) model.now) }
+    {
+        let Some(goals) = goals_on_way(alloc, model, self.stay, self.label)? else {
+            return Err(Refusal::QueryLabel);
+        };
+        let Some(start) = model.initial() else {
+            return Err(Refusal::QueryInit);
+        };
+        let cut = way_by(alloc, model, &goals, self.stay)?;
+        let way = match &cut {
+            Some(way) => way,
+            None => model,
+        };
+        self.on_way(alloc, model, way, &goals, start)
+    }
+}
+
+/// Reads the model to its end and judges its text, then searches a subsystem on which the best probability, in the direction, of reaching a state with the
+/// label from the one initial state, by way of states with the label `stay` alone where there is one, is still at least the threshold, and writes a
+/// certificate that shows it by lower values.
+pub fn bounds_witness_file<S: Source>(
+    alloc: Global,
+    rule: RowRule,
+    dir: Dir,
+    stay: Option<&[u8]>,
+    label: &[u8],
+    threshold: Frac,
+    model: &mut S,
+) -> Result<Vec<u8>, Refusal>
+    requires { of_int (pos 0) ≤ℚ threshold }
+    ensures read { IsBoundsWitnessRead rule (claim_by dir (name_of stay.entry) label.now threshold) (input S.left S.faults model.old model.new) (said result) }
+    ensures end { IsModelReadToEnd (input S.left S.faults model.old model.new) (said result) }
+{
+    let asked = Asked {
+        dir,
+        stay,
+        label,
+        threshold,
+    };
+    match read_model(alloc, model, rule) {
+        Ok(model) => asked.of_model(alloc, &model),
+        Err(refusal) => Err(refusal),
+    }
+}
