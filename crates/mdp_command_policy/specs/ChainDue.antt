@@ -13,6 +13,8 @@ use Rattle.mdp_discount_bounds.specs.Cert as discount_bounds
 use Rattle.mdp_discount_text.specs.Reading as discount_bounds_text
 use Rattle.mdp_discount_rules.specs.Cert as discount
 use Rattle.mdp_discount_text.specs.Text as discount_text
+use Rattle.mdp_subsystem_bounds.specs.Cert as subsystem
+use Rattle.mdp_subsystem_bounds.specs.Reading as subsystem_text
 use Rattle.mdp_policy.specs.{Text.{policy_outcome}, Chain.{chain_of, NamesNoChoice}}
 use Rattle.mdp_job.specs.Refusal.{PlainRefusal, query_size, query_choice, cert_text, policy_text}
 use Rattle.mdp_command.specs.{Files.{second_due}, Said.{Said}}
@@ -49,6 +51,11 @@ abbrev pub in_discount_bounds : Result discount_bounds.Certificate text.Refusal 
 in_discount_bounds (Ok c) = Ok c.choices
 in_discount_bounds (Err r) = Err (cert_text r.line r.kind)
 
+-- bounds of a subsystem name none either
+abbrev pub in_subsystem_bounds : Result subsystem.Certificate text.Refusal → Result (List ℕ) PlainRefusal
+in_subsystem_bounds (Ok c) = Err query_choice
+in_subsystem_bounds (Err r) = Err (cert_text r.line r.kind)
+
 abbrev pub in_policy : Result (List ℕ) text.Refusal → Result (List ℕ) PlainRefusal
 in_policy (Ok choices) = Ok choices
 in_policy (Err r) = Err (policy_text r.line r.kind)
@@ -58,7 +65,8 @@ abbrev pub choices_in : List ℕ → Result (List ℕ) PlainRefusal
 choices_in bytes =
     if begins_with (codes "mdp-certificate") bytes then in_certificate (cert_text.outcome bytes)
     else (if begins_with (codes "mdp-bounds") bytes
-    then (if discount_bounds_text.is_discount_claim bytes then in_discount_bounds (discount_bounds_text.outcome bytes) else in_bounds (bounds_text.outcome bytes))
+    then (if discount_bounds_text.is_discount_claim bytes then in_discount_bounds (discount_bounds_text.outcome bytes)
+    else (if subsystem_text.is_subsystem_claim bytes then in_subsystem_bounds (subsystem_text.outcome bytes) else in_bounds (bounds_text.outcome bytes)))
     else (if begins_with (codes "mdp-discount") bytes then in_discount (discount_text.outcome bytes)
     else in_policy (policy_outcome bytes)))
 

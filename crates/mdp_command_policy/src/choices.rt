@@ -5,8 +5,9 @@ ghost use Rattle.mdp_cert.specs.BoundsCert as bounds;
 ghost use Rattle.mdp_cert.specs.BoundsReading as bounds_text;
 ghost use Rattle.mdp_discount_text.specs.Reading as discount_bounds_text;
 ghost use Rattle.mdp_discount_text.specs.Text as discount_text;
+ghost use Rattle.mdp_subsystem_bounds.specs.Reading as subsystem_text;
 ghost use Rattle.mdp_policy.specs.Text.{policy_outcome};
-ghost use Rattle.mdp_command_policy.specs.ChainDue.{choices_of_body, choices_of_bounds, in_certificate, in_bounds, in_discount, in_discount_bounds, in_policy, choices_in};
+ghost use Rattle.mdp_command_policy.specs.ChainDue.{choices_of_body, choices_of_bounds, in_certificate, in_bounds, in_discount, in_discount_bounds, in_subsystem_bounds, in_policy, choices_in};
 ghost use Rattle.mdp_command_policy.specs.Named.{Names, named};
 ghost use Rattle.mdp_command.specs.Read.{is_of_model};
 
@@ -14,6 +15,7 @@ use mdp_cert::{Body, BoundsBody, CertError, read_bounds, read_cert};
 use mdp_discount_text::{is_discount_claim, read_discount, read_discount_bounds};
 use mdp_job::Refusal;
 use mdp_policy::read_policy;
+use mdp_subsystem_bounds::{is_subsystem_claim, read_subsystem_bounds};
 use std::alloc::Global;
 
 /// The choices of a certificate's body, or that it names none.
@@ -93,6 +95,18 @@ fn in_discount_bounds(alloc: Global, bytes: &[u8]) -> Result<Vec<u32>, Refusal>
     }
 }
 
+/// That a certificate of bounds of a subsystem names none.
+fn in_subsystem_bounds(alloc: Global, bytes: &[u8]) -> Result<Vec<u32>, Refusal>
+    ensures named { Names result (in_subsystem_bounds (subsystem_text.outcome bytes.now)) }
+    ensures not_of_model { IfErr (named result) (λ e. is_of_model (Err e) ≡ false) }
+{
+    match read_subsystem_bounds(alloc, bytes) {
+        Ok(_) => Err(Refusal::QueryChoice),
+        Err(CertError::At { line, kind }) => Err(Refusal::CertText { line, kind }),
+        Err(CertError::Memory) => Err(Refusal::Memory),
+    }
+}
+
 /// The choices of a policy's text.
 fn in_policy(alloc: Global, bytes: &[u8]) -> Result<Vec<u32>, Refusal>
     ensures named { Names result (in_policy (policy_outcome bytes.now)) }
@@ -116,6 +130,9 @@ pub(crate) fn choices_in(alloc: Global, bytes: &[u8]) -> Result<Vec<u32>, Refusa
     if bytes.starts_with(b"mdp-bounds") {
         if is_discount_claim(bytes) {
             return in_discount_bounds(alloc, bytes);
+        }
+        if is_subsystem_claim(bytes) {
+            return in_subsystem_bounds(alloc, bytes);
         }
         return in_bounds(alloc, bytes);
     }
