@@ -37,6 +37,11 @@ abbrev pub marks_on_way : Mdp → List ℕ → Option ℕ → Option (List Bool)
 marks_on_way m label None = None
 marks_on_way m label (Some l) = labelled_marks m label
 
+-- the same where no way may be named
+abbrev pub marks_by : Mdp → Option (List ℕ) → List ℕ → Option (List Bool)
+marks_by m None label = labelled_marks m label
+marks_by m (Some stay) label = marks_on_way m label (place_of stay m.labels)
+
 -- the states on the way: those with this label, none where the model hasn't it
 abbrev pub stays_at : Mdp → Option ℕ → List Bool
 stays_at m None = replicate (states_of m) false
@@ -61,8 +66,7 @@ goal_marks m (reach dir label) = labelled_marks m label
 goal_marks m (until dir stay label) = marks_on_way m label (place_of stay m.labels)
 goal_marks m (reward dir name label) = labelled_marks m label
 goal_marks m (mean dir name) = Some (replicate (states_of m) false)
-goal_marks m (witness dir None label threshold) = labelled_marks m label
-goal_marks m (witness dir (Some stay) label threshold) = marks_on_way m label (place_of stay m.labels)
+goal_marks m (witness dir stay label threshold) = marks_by m stay label
 
 -- ---- the answer
 

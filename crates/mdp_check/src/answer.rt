@@ -26,7 +26,7 @@ pub enum Answer {
 }
 
 /// The answer of a verdict.
-pub(crate) fn answer_of(verdict: Verdict) -> Answer
+pub fn answer_of(verdict: Verdict) -> Answer
     ensures { result ≡ answer_of verdict }
 {
     match verdict {

@@ -1,8 +1,8 @@
-ghost use Rattle.std.specs.Prelude.{◌≡◌, ◌⊎◌, ◌↔◌, IfOk, Some, length};
+ghost use Rattle.std.specs.Prelude.{◌≡◌, ◌⊎◌, ◌↔◌, IfOk, Some, length, option_map};
 ghost use Rattle.mdp_spec.specs.Mdp.{states_of};
 ghost use Rattle.mdp_cert.specs.{Plain.{plain}, Cert.{plain_claim}};
 ghost use Rattle.mdp_farkas.specs.Verdict.{IfYes, IsYes};
-ghost use Rattle.mdp_check.specs.Check.{reward_place, goal_marks, answer_to, body_verdict, IsBound, BoundOf, IsAccepted, IsValidBody};
+ghost use Rattle.mdp_check.specs.Check.{labelled_marks, marks_by, reward_place, goal_marks, answer_to, body_verdict, IsBound, BoundOf, IsAccepted, IsValidBody};
 
 use crate::answer::{Answer, answer_of};
 use crate::initial::{init_verdict, start_of};
@@ -25,6 +25,31 @@ pub(crate) fn reward_place(model: &Model, claim: &Claim) -> Option<u32>
     }
 }
 
+/// Which states have this label. None where the model hasn't it.
+fn labelled_marks(alloc: Global, model: &Model, label: &[u8]) -> Result<Option<Marks>, Memory>
+    ensures { IfOk result (λ goals. goals ≡ labelled_marks model.now label.now) }
+{
+    match model.label(label) {
+        Some(place) => Ok(Some(model.marks_of(alloc, place)?)),
+        None => Ok(None),
+    }
+}
+
+/// The goals of a label, which may be asked by way of states with the label `stay`. None where the model hasn't one of the two.
+pub fn goals_on_way(
+    alloc: Global,
+    model: &Model,
+    stay: Option<&[u8]>,
+    label: &[u8],
+) -> Result<Option<Marks>, Memory>
+    ensures { IfOk result (λ goals. goals ≡ marks_by model.now (option_map (λ name. name.now) stay.entry) label.now) }
+{
+    match stay {
+        Some(stay) if model.label(stay).is_none() => Ok(None),
+        _ => labelled_marks(alloc, model, label),
+    }
+}
+
 /// The goals: which states have the claim's label; no state where the claim names none. None where the model hasn't the label.
 pub(crate) fn goal_marks(
     alloc: Global,
@@ -33,36 +58,24 @@ pub(crate) fn goal_marks(
 ) -> Result<Option<Marks>, Memory>
     ensures { IfOk result (λ goals. goals ≡ goal_marks model.now (plain_claim claim.now)) }
 {
-    let label = match claim {
-        Claim::Upper { label } => label,
-        Claim::Reach { label, .. } => label,
+    match claim {
+        Claim::Upper { label } => labelled_marks(alloc, model, label),
+        Claim::Reach { label, .. } => labelled_marks(alloc, model, label),
         Claim::Until { stay, label, .. } => {
-            if model.label(stay).is_none() {
-                return Ok(None);
-            }
-            label
+            goals_on_way(alloc, model, Some(stay.as_slice()), label)
         }
-        Claim::Reward { label, .. } => label,
+        Claim::Reward { label, .. } => labelled_marks(alloc, model, label),
         Claim::Witness {
             stay: None,
             label,
             ..
-        } => label,
+        } => goals_on_way(alloc, model, None, label),
         Claim::Witness {
             stay: Some(stay),
             label,
             ..
-        } => {
-            if model.label(stay).is_none() {
-                return Ok(None);
-            }
-            label
-        }
-        Claim::Mean { .. } => return Ok(Some(Marks::empty(alloc, model.states())?)),
-    };
-    match model.label(label) {
-        Some(place) => Ok(Some(model.marks_of(alloc, place)?)),
-        None => Ok(None),
+        } => goals_on_way(alloc, model, Some(stay.as_slice()), label),
+        Claim::Mean { .. } => Ok(Some(Marks::empty(alloc, model.states())?)),
     }
 }
 

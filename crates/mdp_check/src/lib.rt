@@ -9,7 +9,8 @@ mod initial;
 mod laws;
 mod until;
 
-pub use answer::Answer;
+pub use answer::{Answer, answer_of};
 pub use bounds::check_bounds;
-pub use checking::check;
+pub use checking::{check, goals_on_way};
 pub use laws::{bounds_checking_law, bounds_start_law, checking_law, start_law};
+pub use until::way_by;

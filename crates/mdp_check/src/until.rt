@@ -1,4 +1,4 @@
-ghost use Rattle.std.specs.Prelude.{◌≡◌, ◌↔◌, ◌<◌, IfOk, length, option_map};
+ghost use Rattle.std.specs.Prelude.{◌≡◌, ◌↔◌, ◌<◌, IfOk, length, option_map, unwrap_or};
 ghost use Rattle.mdp_spec.specs.{Mdp.{states_of}, Until.{UntilMax, UntilMin, UntilMaxBetween, UntilMinBetween}};
 ghost use Rattle.mdp_rows.specs.declared.dir.Dir.TheVariants.{Max, Min};
 ghost use Rattle.mdp_farkas.specs.{Verdict.{verdict_of, IfYes, IsYes}, Reach.{reach_checks, IsReach}};
@@ -34,6 +34,22 @@ fn way_of(alloc: Global, model: &Model, goals: &Marks, stay: &[u8]) -> Result<Mo
 {
     let stays = stay_marks(alloc, model, stay)?;
     model.cut(alloc, &stays, goals)
+}
+
+/// The same where no way may be named: then it is the model itself, and nothing is made.
+pub fn way_by(
+    alloc: Global,
+    model: &Model,
+    goals: &Marks,
+    stay: Option<&[u8]>,
+) -> Result<Option<Model>, Memory>
+    requires { length goals.now ≡ states_of model.now }
+    ensures { IfOk result (λ way. unwrap_or way model.now ≡ way_by model.now goals.now (option_map (λ name. name.now) stay.entry)) }
+{
+    match stay {
+        Some(stay) => Ok(Some(way_of(alloc, model, goals, stay)?)),
+        None => Ok(None),
+    }
 }
 
 /// What the rules of reaching a goal say on the way.

@@ -4,4 +4,6 @@ pub mod Spelling
 pub mod Reading
 pub mod Rules
 pub mod Check
+pub mod Plain
+pub mod Code
 pub mod Laws

@@ -15,14 +15,14 @@ use Rattle.mdp_claims.specs.declared.rule.Rule.TheVariants.{StartReachesThreshol
 abbrev pub ones : Mdp → List ℚ
 ones m = replicate (states_of m) 1ℚ
 
-module _ (dir : Dir) (m : Mdp) (goals : List Bool) (start : ℕ) (threshold : ℚ) (kept : List Bool) (lower : List ℚ) (choices ranks : List ℕ) where
-  -- rule 24
-  abbrev pub start_check : Check
-  start_check = record { rule = StartReachesThreshold; state = None; choice = None; holds = Some (le_ℚ threshold (value_at lower start)) }
+-- rule 24
+abbrev pub start_check : ℕ → ℚ → List ℚ → Check
+start_check start threshold lower = record { rule = StartReachesThreshold; state = None; choice = None; holds = Some (le_ℚ threshold (value_at lower start)) }
 
+module _ (dir : Dir) (m : Mdp) (goals : List Bool) (start : ℕ) (threshold : ℚ) (kept : List Bool) (lower : List ℚ) (choices ranks : List ℕ) where
   -- the states ascend, at a state the rules, in a rule the choices; the start comes last
   abbrev pub subsystem_checks : List Check
-  subsystem_checks = bounds_checks dir (sub_of m goals kept) goals lower (ones m) choices ranks ++ start_check ∷ []
+  subsystem_checks = bounds_checks dir (sub_of m goals kept) goals lower (ones m) choices ranks ++ start_check start threshold lower ∷ []
 
   -- what yes means: the rules hold in exact numbers, and no sum that a check makes is past width
   pub record AreSubsystemBounds : Type 0 where
