@@ -1,1 +1,4 @@
 pub mod Shown
+pub mod Steps
+pub mod Kept
+pub mod Code

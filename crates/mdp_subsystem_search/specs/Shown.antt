@@ -1,7 +1,6 @@
 -- What the search for a subsystem shows: that on the kept states the best probability is at least the threshold, which of them are needed, and why there is no
 -- answer where there is none.
-use Rattle.std.specs.Prelude.{◌≡◌, ◌⊎◌, ℕ, ◌<◌, Bool, true, false, List, length, slice_set, Ok, Err}
-use Rattle.std.proofs.Math.ListN.{replicate}
+use Rattle.std.specs.Prelude.{◌≡◌, ◌⊎◌, ℕ, ◌<◌, Bool, true, List, replicate, Ok, Err}
 use Rattle.mdp_math.specs.Rational.{ℚ, ◌≤ℚ◌, ◌<ℚ◌}
 use Rattle.mdp_spec.specs.{Mdp.{Mdp, states_of, value_at}, Sub.{sub_of}, Tree.{is_marked}, Between.{ReachMaxBetween, ReachMinBetween}}
 use Rattle.mdp_rows.specs.{declared.dir.Dir.{Dir}, declared.dir.Dir.TheVariants.{Max, Min}}
@@ -16,6 +15,11 @@ use Rattle.mdp_witness.specs.{Shown.{kept_in}, Trial.{without}}
 -- 1 for each state
 abbrev pub ones : Mdp → List ℚ
 ones m = replicate (states_of m) 1ℚ
+
+-- the choices of a certificate for n states: for the least probability no choice is named, each is 0
+abbrev pub named : Dir → ℕ → List ℕ → List ℕ
+named Max n choices = choices
+named Min n choices = replicate n 0
 
 -- the best probabilities of reaching a goal lie between two values, and those of the policy do
 abbrev pub LieBetween : Dir → Mdp → List Bool → List ℚ → List ℚ → List ℕ → Type 0
@@ -49,7 +53,7 @@ module _ (dir : Dir) (m : Mdp) (goals : List Bool) (start : ℕ) (threshold : �
   IsKeptWide found =
       let sub = sub_of m goals (kept_in m found) in
       ((w : WideTerm) × reach.EndsSo dir sub goals (Err w))
-      ⊎ ((a : reach.Answer) × reach.EndsSo dir sub goals (Ok a) × (IsReachBounds dir sub goals a.values (ones m) a.choices a.ranks → ⊥))
+      ⊎ ((a : reach.Answer) × reach.EndsSo dir sub goals (Ok a) × (IsReachBounds dir sub goals a.values (ones m) (named dir (states_of m) a.choices) a.ranks → ⊥))
 
   abbrev pub IsWide : Type 0
   IsWide =

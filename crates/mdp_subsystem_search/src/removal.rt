@@ -1,0 +1,141 @@
+ghost use Rattle.std.specs.Prelude.{◌≡◌, ◌<◌, length, IfOk, All};
+ghost use Rattle.mdp_spec.specs.Mdp.{states_of};
+ghost use Rattle.mdp_subsystem_search.specs.Kept.{IsFound};
+
+use crate::found::Found;
+use crate::query::Query;
+use crate::room::Room;
+use mdp_num::Memory;
+use mdp_rows::Marks;
+use std::alloc::{AllocError, Global};
+
+/// How many entries attempts to take out states look at in all.
+const REMOVAL_ENTRIES: u64 = 33_554_432;
+
+/// The most attempts.
+const MOST_ATTEMPTS: u32 = 1_000_000;
+
+/// How many digits attempts have.
+const ATTEMPT_DIGITS: u32 = 12;
+
+/// The digits with which the bounds of what is left are sought at the end, fewest first.
+const END_DIGITS: [u32; 3] = [4, 6, 9];
+
+/// A copy of marks.
+pub(crate) fn copied(alloc: Global, states: u32, marks: &Marks) -> Result<Marks, AllocError>
+    requires { length marks.now ≡ states }
+    ensures { IfOk result (λ copy. copy ≡ marks.now) }
+{
+    let mut items = Vec::with_capacity(alloc, states as usize)?;
+    for s in 0..states {
+        items.push(marks.at(s))?;
+    }
+    Ok(Marks::from_values(items))
+}
+
+/// The marks without those of some states.
+fn cleared(
+    alloc: Global,
+    states: u32,
+    marks: &Marks,
+    piece: &[u32],
+) -> Result<Marks, AllocError>
+    requires { length marks.now ≡ states }
+    ensures { IfOk result (λ fewer. length fewer ≡ states) }
+{
+    let mut fewer = copied(alloc, states, marks)?;
+    for s in piece {
+        if *s < states {
+            fewer.set(*s, false);
+        }
+    }
+    Ok(fewer)
+}
+
+/// Puts the two halves of a piece on the stack, the first one above. A piece of one state is left out.
+fn push_halves(pieces: &mut Vec<Vec<u32>>, mut piece: Vec<u32>) -> Result<(), AllocError> {
+    if piece.len() < 2 {
+        return Ok(());
+    }
+    let second = piece.split_off(piece.len() / 2)?;
+    pieces.push(second)?;
+    pieces.push(piece)?;
+    Ok(())
+}
+
+impl Query<'_, '_> {
+    /// Takes out a piece, where what is left still comes to the threshold. Whether it does.
+    fn take_out(
+        &self,
+        alloc: Global,
+        found: &mut Found,
+        piece: &[u32],
+        room: &mut Room,
+    ) -> Result<bool, Memory>
+        requires { IsFound self.now.dir self.now.model.now self.now.goals.now self.now.start self.now.threshold found.old }
+        ensures { IfOk result (λ _. IsFound self.now.dir self.now.model.now self.now.goals.now self.now.start self.now.threshold found.new) }
+    {
+        let fewer = cleared(alloc, self.model.states(), &found.kept, piece)?;
+        match self.attempt(alloc, &fewer, ATTEMPT_DIGITS, room)? {
+            Some(cert) => {
+                *found = Found { kept: fewer, cert };
+                Ok(true)
+            }
+            None => Ok(false),
+        }
+    }
+
+    /// What is left when pieces are taken out one after the other, each by halves where it has to stay.
+    fn without_pieces(
+        &self,
+        alloc: Global,
+        found: Found,
+        mut pieces: Vec<Vec<u32>>,
+        room: &mut Room,
+    ) -> Result<Found, Memory>
+        requires { IsFound self.now.dir self.now.model.now self.now.goals.now self.now.start self.now.threshold found }
+        ensures { IfOk result (IsFound self.now.dir self.now.model.now self.now.goals.now self.now.start self.now.threshold) }
+    {
+        let mut left = found;
+        for _ in 0..MOST_ATTEMPTS {
+            let Some(piece) = pieces.pop() else {
+                return Ok(left);
+            };
+            if room.is_spent() {
+                return Ok(left);
+            }
+            if !self.take_out(alloc, &mut left, &piece, room)? {
+                push_halves(&mut pieces, piece)?;
+            }
+        }
+        Ok(left)
+    }
+
+    /// The same kept states with bounds of fewer digits, where the search proposes such.
+    fn shortened(&self, alloc: Global, found: Found) -> Result<Found, Memory>
+        requires { IsFound self.now.dir self.now.model.now self.now.goals.now self.now.start self.now.threshold found }
+        ensures { IfOk result (IsFound self.now.dir self.now.model.now self.now.goals.now self.now.start self.now.threshold) }
+    {
+        let Found { kept, cert } = found;
+        let mut room = Room::new(0);
+        for digits in END_DIGITS {
+            if let Some(short) = self.attempt(alloc, &kept, digits, &mut room)? {
+                return Ok(Found { kept, cert: short });
+            }
+        }
+        Ok(Found { kept, cert })
+    }
+
+    /// What is left when states are taken out: first those that the start doesn't come to, then those by which the goals lose least.
+    pub(crate) fn removed(&self, alloc: Global, found: Found) -> Result<Found, Memory>
+        requires { IsFound self.now.dir self.now.model.now self.now.goals.now self.now.start self.now.threshold found }
+        ensures { IfOk result (IsFound self.now.dir self.now.model.now self.now.goals.now self.now.start self.now.threshold) }
+    {
+        let mut room = Room::new(REMOVAL_ENTRIES);
+        let idle = self.idle_pieces(alloc, &found)?;
+        let near = self.without_pieces(alloc, found, idle, &mut room)?;
+        let pieces = self.ordered_pieces(alloc, &near)?;
+        let left = self.without_pieces(alloc, near, pieces, &mut room)?;
+        self.shortened(alloc, left)
+    }
+}

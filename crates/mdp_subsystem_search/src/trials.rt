@@ -1,0 +1,45 @@
+ghost use Rattle.std.specs.Prelude.{◌≡◌, ◌<◌, length, true, IfOk};
+ghost use Rattle.mdp_spec.specs.Mdp.{states_of};
+ghost use Rattle.mdp_subsystem_search.specs.Shown.{IsNeeded, AreNeeded};
+
+use crate::query::Query;
+use crate::removal::copied;
+use crate::room::Room;
+use mdp_num::Memory;
+use mdp_rows::Marks;
+use std::alloc::Global;
+
+/// How many entries trials look at in all.
+const TRIAL_ENTRIES: u64 = 33_554_432;
+
+/// How many digits trials have.
+const TRIAL_DIGITS: u32 = 12;
+
+impl Query<'_, '_> {
+    /// Whether it is shown that without a kept state the best probability is below the threshold.
+    fn is_needed(&self, alloc: Global, kept: &Marks, s: u32, room: &mut Room) -> Result<bool, Memory>
+        requires each { length kept.now ≡ states_of self.now.model.now }
+        requires state { s < states_of self.now.model.now }
+        ensures { IfOk result (λ needed. needed ≡ true → IsNeeded self.now.dir self.now.model.now self.now.goals.now self.now.start self.now.threshold kept.now s) }
+    {
+        let mut others = copied(alloc, self.model.states(), kept)?;
+        others.set(s, false);
+        self.falls_short(alloc, &others, TRIAL_DIGITS, room)
+    }
+
+    /// Which of the kept states were shown to be needed, as far as there is room for trials.
+    pub(crate) fn needed(&self, alloc: Global, kept: &Marks) -> Result<Marks, Memory>
+        requires { length kept.now ≡ states_of self.now.model.now }
+        ensures each { IfOk result (λ needed. length needed ≡ states_of self.now.model.now) }
+        ensures needed { IfOk result (AreNeeded self.now.dir self.now.model.now self.now.goals.now self.now.start self.now.threshold kept.now) }
+    {
+        let mut room = Room::new(TRIAL_ENTRIES);
+        let mut needed = Marks::empty(alloc, self.model.states())?;
+        for s in 0..self.model.states() {
+            if kept.at(s) && !room.is_spent() {
+                needed.set(s, self.is_needed(alloc, kept, s, &mut room)?);
+            }
+        }
+        Ok(needed)
+    }
+}
