@@ -1,9 +1,8 @@
 -- A certificate of bounds of a subsystem is answered yes exactly where it is accepted, and then its claim is true.
-use Rattle.std.proofs.Common.{◌≡◌, ◌↔◌, ℕ, ◌<◌, Bool, true, cond, List, length, eqb, eqb-true, eq-eqb, Option, Some, None, refl, sym, ap, subst, ◌∙◌}
-use Rattle.std.proofs.lemmas.Bool.{and_parts}
-use Rattle.std.specs.Bool.{◌&&◌}
+use Rattle.std.proofs.Common.{◌≡◌, ◌↔◌, ℕ, ◌<◌, Bool, true, false, cond, List, length, eqb, eqb-true, eq-eqb, Option, Some, None, refl, sym, ap, subst, ◌∙◌}
+use Rattle.std.specs.Prelude.{◌&&◌, unwrap_or}
 use Rattle.mdp_math.specs.Rational.{ℚ}
-use Rattle.mdp_spec.specs.{Mdp.{Mdp, states_of}, Labels.{initial_of}, Row.{IsMdp}, Bounds.{SubMax, SubMin}}
+use Rattle.mdp_spec.specs.{Mdp.{Mdp, states_of}, Labels.{initial_of}, Row.{IsMdp}}
 use Rattle.mdp_spec.proofs.Subsystem.{sub_is_mdp}
 use Rattle.mdp_text.proofs.InitialState.{initial_below}
 use Rattle.mdp_rows.specs.{declared.dir.Dir.{Dir}, declared.dir.Dir.TheVariants.{Max, Min}}
@@ -11,11 +10,11 @@ use Rattle.mdp_claims.specs.{declared.verdict.Verdict.{Verdict}}
 use Rattle.mdp_claims.specs.declared.verdict.Verdict.TheVariants as verdict
 use Rattle.mdp_farkas.specs.Initial.{init_fault, state_check}
 use Rattle.mdp_subsystem_rules.proofs.Untils.{sub_until_max, sub_until_min}
-use Rattle.mdp_check.specs.Check.{goal_marks, stay_marks, way_of, way_by, answer_of, after_init}
-use Rattle.mdp_check.specs.{declared.answer.Answer.{Answer}, declared.answer.Answer.TheVariants.{Yes, Size}}
+use Rattle.mdp_check.specs.Check.{goal_marks, stay_marks, way_by, answer_of, after_init}
+use Rattle.mdp_check.specs.{declared.answer.Answer.TheVariants.{Yes, Size}}
 use Rattle.mdp_check.proofs.{Accepting.{by_size, yes_verdict, both_yes}, Ways.{way_by_states}}
-use Rattle.mdp_subsystem_bounds.specs.{Cert.{Certificate, Fits, plain_claim, states_in, kept_states}, Rules.{AreSubsystemBounds, Reaches}}
-use Rattle.mdp_subsystem_bounds.specs.{Check.{verdict_on, at_goals, answer_to, IsAccepted, Holds, IsBound}, Laws.{YesIsAccepted, AcceptedIsBound}}
+use Rattle.mdp_subsystem_bounds.specs.{Cert.{Certificate, plain_claim, states_in, kept_states}, Rules.{AreSubsystemBounds, Reaches}}
+use Rattle.mdp_subsystem_bounds.specs.{Check.{verdict_on, at_goals, answer_to, IsAccepted, Holds}, Laws.{YesIsAccepted, AcceptedIsBound}}
 use Rattle.mdp_subsystem_bounds.proofs.Rules.{rules_reach, subsystem_rules}
 
 -- ---- rule 1
@@ -36,6 +35,11 @@ initial_yes s = ap (λ (b : Bool). cond (b && true) verdict.Yes (init_fault (Som
 pub way_is_mdp : (m : Mdp) (goals : List Bool) (stay : Option (List ℕ)) → IsMdp m → IsMdp (way_by m goals stay)
 way_is_mdp m goals None known = known
 way_is_mdp m goals (Some stay) known = sub_is_mdp m goals (stay_marks m stay) known
+
+-- it has the states of the model
+pub way_sized : (m way : Mdp) (left : Option Mdp) (goals : List Bool) (given stay : Option (List ℕ)) (n : ℕ) → way ≡ unwrap_or left m → unwrap_or left m ≡ way_by m goals given → given ≡ stay
+    → n ≡ states_of m → n ≡ states_of way
+way_sized m way left goals given stay n is by same e = e ∙ sym (ap states_of (is ∙ by ∙ ap (way_by m goals) same) ∙ way_by_states m goals stay)
 
 -- what the kept states show on the way, they show on the model of until
 holds_of : (dir : Dir) (stay : Option (List ℕ)) (m : Mdp) (goals kept : List Bool) (start : ℕ) (t : ℚ) → IsMdp m → Reaches dir (way_by m goals stay) goals kept start t

@@ -1,6 +1,6 @@
 -- What meets the rules of bounds of a subsystem reaches the threshold on the kept states.
 use Rattle.std.proofs.Common.{◌≡◌, ◌↔◌, ℕ, ◌<◌, Bool, true, false, List, [], ◌∷◌, ◌++◌, length, Option, Some, None, Result, refl, sym, ap, subst, ◌∙◌}
-use Rattle.mdp_math.specs.Rational.{ℚ, le_ℚ, ◌≤ℚ◌, ◌+ℚ◌}
+use Rattle.mdp_math.specs.Rational.{ℚ, ◌≤ℚ◌, ◌+ℚ◌}
 use Rattle.mdp_math.proofs.{Options.{Some_same}, Extremes.{le_of_test, test_of_le}, Order.{≤ℚ_trans}}
 use Rattle.mdp_spec.specs.{Mdp.{Mdp, states_of, value_at}, Row.{IsMdp}, Sub.{sub_of}, Bounds.{SubMax, SubMin, part}, Between.{ReachMaxBetween, ReachMinBetween}}
 use Rattle.mdp_spec.specs.{Tree.{unfolded}, Hit.{hit}}
@@ -10,7 +10,7 @@ use Rattle.mdp_claims.specs.{declared.verdict.Verdict.{Verdict}, declared.verdic
 use Rattle.mdp_claims.specs.declared.verdict.Objection.{Objection}
 use Rattle.mdp_math.specs.Result.{◌>>=◌}
 use Rattle.mdp_farkas.specs.Verdict.{Check, objection, objection_to, verdict, verdict_of, IsYes, IfYes}
-use Rattle.mdp_farkas.proofs.Holds.{Each, Holds, each_of_yes, yes_of_each, each_append, each_left, each_right, if_yes}
+use Rattle.mdp_farkas.proofs.Holds.{Holds, each_of_yes, yes_of_each, each_append, each_left, each_right, if_yes}
 use Rattle.mdp_bounds.specs.Reach.{bounds_checks, IsReachBounds}
 use Rattle.mdp_bounds.proofs.ReachRules.{bounds_rules}
 use Rattle.mdp_check.specs.Check.{after_init}

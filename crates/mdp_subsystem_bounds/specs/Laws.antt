@@ -1,9 +1,8 @@
 -- What holds of bounds of a subsystem, of their certificates and of the texts of these.
-use Rattle.std.specs.Prelude.{◌≡◌, ◌↔◌, ℕ, ◌<◌, Bool, List, length, Ok}
+use Rattle.std.specs.Prelude.{◌≡◌, ◌↔◌, ℕ, ◌<◌, Bool, List, Ok}
 use Rattle.mdp_math.specs.Rational.{ℚ}
 use Rattle.mdp_spec.specs.{Mdp.{Mdp, states_of}, Row.{IsMdp}}
 use Rattle.mdp_rows.specs.declared.dir.Dir.{Dir}
-use Rattle.mdp_farkas.specs.Verdict.{verdict_of}
 use Rattle.mdp_check.specs.declared.answer.Answer.TheVariants.{Yes}
 use Rattle.mdp_cert.specs.Laws.{IsSameWords}
 use Rattle.mdp_subsystem_bounds.specs.{Cert.{Certificate, Fits}, Rules.{AreSubsystemBounds, Reaches}, Check.{answer_to, IsAccepted, IsBound}}

@@ -1,7 +1,6 @@
 -- Reading the text of a certificate of bounds of a subsystem line by line: the certificate, or the first line that breaks a rule. Each line is judged
 -- by its shape first, then by its numbers from left to right, then by what they count, then by whether it could be one line with the line before it.
 use Rattle.std.specs.Prelude.{ℕ, Bool, false, ◌||◌, List, map, codes, Option, Some, None, is_some, Result, Ok, Err}
-use Rattle.mdp_math.specs.Rational.{ℚ}
 use Rattle.mdp_text.specs.declared.error.CertKind.TheVariants as kind
 use Rattle.mdp_text.specs.{declared.error.Refusal.{Refusal}, declared.init.Init.{Init}}
 use Rattle.mdp_text.specs.Lines.{◌>>=◌, or_refused, is_line, Place, place, next_line, line_by, nothing_behind}

@@ -8,8 +8,8 @@ ghost use Rattle.mdp_subsystem_bounds.specs.{Entries.{mark_value, led_of, ranked
 use crate::lists::SubsystemBounds;
 use crate::mark::Mark;
 use mdp_cert::{
-    Behind, Entry, First, Lent, LentPair, Others, Pair, Value, Version, column_of, entries_to_end,
-    push_to_end,
+    Behind, Column, Entry, First, Lent, LentPair, Others, Pair, Value, Version, column_of,
+    entries_to_end, push_to_end,
 };
 use mdp_claims::ReachBoundsCert;
 use mdp_num::{Frac, Memory};
@@ -62,6 +62,19 @@ type Led = Pair<Frac, Pair<u32, Pair<u32, Mark>>>;
 /// The line of a state for the least probability: a lower value, a rank and a mark.
 type Ranked = Pair<Frac, Pair<u32, Mark>>;
 
+/// The column of choices where none is named.
+struct NoChoice;
+
+impl Column<Ranked> for NoChoice {
+    type Item = u32;
+
+    ghost field = { λ x. 0 };
+
+    fn of(_entry: &Ranked) -> u32 {
+        0
+    }
+}
+
 /// The lists of these entries for the greatest probability.
 fn led_lists(alloc: Global, entries: &[Led]) -> Result<SubsystemBounds, AllocError>
     ensures lists { IfOk result (λ l. plain_lists l ≡ led_lists entries.now) }
@@ -87,7 +100,7 @@ fn ranked_lists(alloc: Global, entries: &[Ranked]) -> Result<SubsystemBounds, Al
         bounds: ReachBoundsCert {
             lower: column_of::<First, _>(alloc, entries)?,
             upper: vec![in alloc; Frac::whole(1); entries.len()]?,
-            choices: vec![in alloc; 0; entries.len()]?,
+            choices: column_of::<NoChoice, _>(alloc, entries)?,
             ranks: column_of::<Behind<First>, _>(alloc, entries)?,
         },
         marks: column_of::<Behind<Others>, _>(alloc, entries)?,
