@@ -124,7 +124,7 @@ pub fn check_files<S: Source, C: Source>(
     ensures model_end { IsModelReadToEnd (input S.left S.faults model.old model.new) (said result) }
     ensures second_end { IsFalse (is_of_model (said result)) → IsSecondReadToEnd (input C.left C.faults second.old second.new) (said result) }
 {
-    check_law();
     let model = read_model(alloc, model, rule)?;
+    check_law();
     of_source(alloc, wanted, &model, second)
 }

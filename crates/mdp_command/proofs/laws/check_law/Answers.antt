@@ -14,6 +14,6 @@ returns c =
       accepted = λ kind. yes_is_accepted (checker_of kind) c.model_law.ensures (sound kind);
       true_claim = λ kind. accepted_is_true (checker_of kind) c.model_law.ensures (sound kind);
       text = reads_its_text c.text_law.ensures.read c.bounds_text_law.ensures.read c.discount_text_law.ensures.read c.discount_bounds_text_law.ensures.read
-      c.subsystem_bounds_text_law.ensures.read;
+          c.subsystem_bounds_text_law.ensures.read;
       kind = names_its_kind;
     }
