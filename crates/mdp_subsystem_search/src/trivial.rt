@@ -1,4 +1,4 @@
-ghost use Rattle.std.specs.{Prelude.{◌≡◌, ◌<◌, length, map, if◌then◌else◌, IfOk}, List.{range_with_len}};
+ghost use Rattle.std.specs.{Prelude.{◌≡◌, ◌<◌, length, map, replicate, if◌then◌else◌, IfOk}, List.{range_with_len}};
 ghost use Rattle.mdp_spec.specs.{Mdp.{states_of}, Tree.{is_marked}};
 ghost use Rattle.mdp_farkas.specs.Compare.{0ℚ, 1ℚ};
 ghost use Rattle.mdp_bounds.specs.Reach.{IsTrivialReach};
@@ -34,8 +34,8 @@ pub(crate) fn trivial_reach(alloc: Global, model: &Model, goals: &Marks) -> Resu
     requires { length goals.now ≡ states_of model.now }
     ensures trivial { IfOk result (λ cert. IsTrivialReach model.now goals.now cert.lower.items cert.upper.items cert.choices.items cert.ranks.items) }
     ensures lower { IfOk result (λ cert. length cert.lower.items ≡ states_of model.now) }
-    ensures upper { IfOk result (λ cert. length cert.upper.items ≡ states_of model.now) }
-    ensures choices { IfOk result (λ cert. length cert.choices.items ≡ states_of model.now) }
+    ensures upper { IfOk result (λ cert. cert.upper.items ≡ replicate (states_of model.now) 1ℚ) }
+    ensures choices { IfOk result (λ cert. cert.choices.items ≡ replicate (states_of model.now) 0) }
     ensures ranks { IfOk result (λ cert. length cert.ranks.items ≡ states_of model.now) }
 {
     model.known();

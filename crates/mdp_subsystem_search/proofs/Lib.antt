@@ -1,0 +1,3 @@
+pub mod Outermost
+pub mod Reached
+pub mod Sides
