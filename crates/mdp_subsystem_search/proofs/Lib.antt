@@ -1,3 +1,4 @@
 pub mod Outermost
 pub mod Reached
 pub mod Sides
+pub mod Refusals

@@ -1,7 +1,7 @@
 -- The sides of bounds, and what is said in either direction.
 use Rattle.std.proofs.Common.{◌≡◌, ℕ, Bool, List, refl, sym, subst, replicate}
-use Rattle.mdp_math.specs.Rational.{ℚ}
-use Rattle.mdp_spec.specs.{Mdp.{Mdp}, Between.{ReachMaxBetween, ReachMinBetween}}
+use Rattle.mdp_math.specs.Rational.{ℚ, ◌≤ℚ◌}
+use Rattle.mdp_spec.specs.{Mdp.{Mdp, value_at}, Between.{ReachMaxBetween, ReachMinBetween}}
 use Rattle.mdp_rows.specs.{declared.dir.Dir.{Dir}, declared.dir.Dir.TheVariants.{Max, Min}}
 use Rattle.mdp_claims.specs.declared.bounds.ReachBoundsCert.{ReachBoundsCert}
 use Rattle.mdp_bounds.specs.Reach.{IsReachBounds}
@@ -21,3 +21,7 @@ held_of_side dir m goals n cert side is rules =
     (subst (λ (z : List ℚ). IsReachBounds dir m goals cert.lower.items z side.choices.items side.ranks.items) (sym is.upper)
     (subst (λ (p : List ℕ). IsReachBounds dir m goals cert.lower.items (replicate n 1ℚ) p side.ranks.items) (sym is.choices)
     (subst (λ (p : List ℕ). IsReachBounds dir m goals cert.lower.items (replicate n 1ℚ) (named dir n cert.choices.items) p) (sym is.ranks) rules)))
+
+pub at_start : (dir : Dir) (n : ℕ) (cert side : ReachBoundsCert) (start : ℕ) (threshold : ℚ) → IsLowerSide dir n cert side → threshold ≤ℚ value_at cert.lower.items start
+    → threshold ≤ℚ value_at side.lower.items start
+at_start dir n cert side start threshold is h = subst (λ (z : List ℚ). threshold ≤ℚ value_at z start) (sym is.lower) h

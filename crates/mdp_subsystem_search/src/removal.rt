@@ -8,6 +8,7 @@ use crate::order::{Weighed, light_states, order_of, states_in};
 use crate::query::Query;
 use crate::room::Room;
 use mdp_num::Memory;
+use mdp_refinement::item_at;
 use mdp_rows::Marks;
 use std::alloc::{AllocError, Global};
 
@@ -148,11 +149,9 @@ impl Query<'_, '_> {
     }
 
     /// What the lower value of the start is over the threshold, nearly.
-    fn spare(&self, found: &Found) -> f64
-        requires { IsFound self.now.dir self.now.model.now self.now.goals.now self.now.start self.now.threshold found.now }
-    {
-        let lower = float_of(&found.cert.lower[self.start as usize]);
-        PART_OF_SPARE * (lower - float_of(&self.threshold))
+    fn spare(&self, found: &Found) -> f64 {
+        let lower = item_at(&found.cert.lower, self.start as usize, self.threshold);
+        PART_OF_SPARE * (float_of(&lower) - float_of(&self.threshold))
     }
 
     /// What is left when the states that the start doesn't lead to are taken out, and then, again and again, as many as may go by their weights.
