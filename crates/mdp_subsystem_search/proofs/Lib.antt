@@ -2,3 +2,4 @@ pub mod Outermost
 pub mod Reached
 pub mod Sides
 pub mod Refusals
+pub mod Answered

@@ -15,12 +15,7 @@ use mdp_rows::{Dir, Model};
 use std::alloc::{AllocError, Global};
 
 /// The choices of a certificate: for the least probability none is named.
-fn named(
-    alloc: Global,
-    dir: Dir,
-    states: u32,
-    choices: Vec<u32>,
-) -> Result<Vec<u32>, AllocError>
+fn named(alloc: Global, dir: Dir, states: u32, choices: Vec<u32>) -> Result<Vec<u32>, AllocError>
     requires { length choices.items ≡ states }
     ensures { IfOk result (λ list. list.items ≡ named dir states choices.items) }
 {

@@ -42,12 +42,7 @@ pub(crate) fn copied(alloc: Global, states: u32, marks: &Marks) -> Result<Marks,
 }
 
 /// The marks without those of some states.
-fn cleared(
-    alloc: Global,
-    states: u32,
-    marks: &Marks,
-    piece: &[u32],
-) -> Result<Marks, AllocError>
+fn cleared(alloc: Global, states: u32, marks: &Marks, piece: &[u32]) -> Result<Marks, AllocError>
     requires { length marks.now ≡ states }
     ensures { IfOk result (λ fewer. length fewer ≡ states) }
 {
@@ -155,12 +150,7 @@ impl Query<'_, '_> {
     }
 
     /// What is left when the states that the start doesn't lead to are taken out, and then, again and again, as many as may go by their weights.
-    fn without_light(
-        &self,
-        alloc: Global,
-        found: Found,
-        room: &mut Room,
-    ) -> Result<Found, Memory>
+    fn without_light(&self, alloc: Global, found: Found, room: &mut Room) -> Result<Found, Memory>
         requires { IsFound self.now.dir self.now.model.now self.now.goals.now self.now.start self.now.threshold found }
         ensures { IfOk result (IsFound self.now.dir self.now.model.now self.now.goals.now self.now.start self.now.threshold) }
     {

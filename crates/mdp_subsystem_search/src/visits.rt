@@ -1,6 +1,5 @@
 //! How often a policy visits states, by sweeps that carry on what has come to each.
 
-
 use crate::floats::{float_at, float_of};
 use mdp_refinement::{group_of, number_at, put};
 use mdp_rows::{Model, Row};
