@@ -1,7 +1,7 @@
 ghost use Rattle.std.specs.Prelude.{◌≡◌, ◌↔◌, length, true, false, IfOk, IfSome, IfNone};
 ghost use Rattle.mdp_math.specs.Rational.{◌≤ℚ◌, ◌<ℚ◌};
 ghost use Rattle.mdp_spec.specs.Mdp.{states_of, value_at};
-ghost use Rattle.mdp_bounds.specs.Reach.{IsReachBounds};
+ghost use Rattle.mdp_bounds.specs.Reach.{IsReachBounds, IsTrivialReach};
 ghost use Rattle.mdp_subsystem_search.specs.{Shown.{ones, named, LieBetween}, Steps.{HasSizes, AreHeld, IsLowerSide, IsReaching, IsShort}};
 
 use crate::query::Query;
@@ -15,12 +15,7 @@ use mdp_rows::{Dir, Model};
 use std::alloc::{AllocError, Global};
 
 /// The choices of a certificate: for the least probability none is named.
-fn named(
-    alloc: Global,
-    dir: Dir,
-    states: u32,
-    choices: Vec<u32>,
-) -> Result<Vec<u32>, AllocError>
+fn named(alloc: Global, dir: Dir, states: u32, choices: Vec<u32>) -> Result<Vec<u32>, AllocError>
     requires { length choices.items ≡ states }
     ensures { IfOk result (λ list. list.items ≡ named dir states choices.items) }
 {
@@ -57,6 +52,7 @@ impl Query<'_, '_> {
         requires sizes { HasSizes (states_of self.now.model.now) cert.now }
         ensures rules { (result ≡ true) ↔ AreHeld self.now.dir sub.now self.now.goals.now cert.now }
         ensures between { result ≡ true → LieBetween self.now.dir sub.now self.now.goals.now cert.now.lower.items cert.now.upper.items cert.now.choices.items }
+        ensures trivial { IsTrivialReach sub.now self.now.goals.now cert.now.lower.items cert.now.upper.items cert.now.choices.items cert.now.ranks.items → result ≡ true }
     {
         matches!(
             holds_bounds_reach(sub, self.goals, self.dir, cert),

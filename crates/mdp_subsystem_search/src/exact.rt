@@ -6,8 +6,8 @@ ghost use Rattle.mdp_bounds.specs.Reach.{IsReachBounds};
 ghost use Rattle.mdp_subsystem_rules.specs.Kept.{kept_marks};
 ghost use Rattle.mdp_reach.specs.Query.{HasOneEach};
 ghost use Rattle.mdp_reach.specs.Query as reach;
-ghost use Rattle.mdp_witness.specs.{Code.{plain}, Shown.{kept_in, kept_of, HasShape}};
-ghost use Rattle.mdp_subsystem_search.specs.{Shown.{ones, named, IsBelow, IsKeptWide, IsUndecided}, Steps.{IsOpen}, Kept.{IsFound}, Code.{IfBelow, IfUndecided}};
+ghost use Rattle.mdp_witness.specs.{Code.{plain}, Query.{EndsSo}, Shown.{kept_in, kept_of, HasShape}};
+ghost use Rattle.mdp_subsystem_search.specs.{Shown.{ones, named, IsBelow, IsKeptWide, IsUndecided}, Steps.{IsOpen}, Kept.{IsFound}, Code.{IfBelow, IfUndecided, unshown_of}};
 
 use crate::found::Found;
 use crate::query::Query;
@@ -40,6 +40,17 @@ fn kept_by(found: &Subsystem) -> &[u32]
     match found {
         Subsystem::Max(cert) => cert.kept.as_slice(),
         Subsystem::Min(cert) => cert.kept.as_slice(),
+    }
+}
+
+/// Why there is no subsystem where the exact query has none, and the threshold lies between a lower and an upper value.
+fn unshown(error: WitnessError, lower: Frac, upper: Frac) -> Unshown
+    ensures { result ≡ unshown_of error lower upper }
+{
+    match error {
+        WitnessError::Below(value) => Unshown::Below(value),
+        WitnessError::TooWide(_) => Unshown::Undecided { lower, upper },
+        WitnessError::Memory => Unshown::Memory,
     }
 }
 
@@ -92,6 +103,29 @@ impl Query<'_, '_> {
         }
     }
 
+    /// What an exact subsystem comes to, where the threshold lies between a lower and an upper value.
+    fn exact_found(
+        &self,
+        alloc: Global,
+        found: &Subsystem,
+        lower: Frac,
+        upper: Frac,
+    ) -> Result<Found, Unshown>
+        requires open { IsOpen self.now.dir self.now.model.now self.now.goals.now self.now.start self.now.threshold lower upper }
+        requires ends { EndsSo self.now.dir self.now.model.now self.now.goals.now self.now.start self.now.threshold (Ok (plain found.now)) }
+        requires shape { HasShape self.now.dir self.now.model.now (plain found.now) }
+        requires max { self.now.dir ≡ Max → SubMax self.now.model.now self.now.goals.now (kept_in self.now.model.now (plain found.now)) self.now.start self.now.threshold }
+        requires min { self.now.dir ≡ Min → SubMin self.now.model.now self.now.goals.now (kept_in self.now.model.now (plain found.now)) self.now.start self.now.threshold }
+        ensures found { IfOk result (IsFound self.now.dir self.now.model.now self.now.goals.now self.now.start self.now.threshold) }
+        ensures below { IfErr result (λ error. IfBelow error (IsBelow self.now.dir self.now.model.now self.now.goals.now self.now.start self.now.threshold)) }
+        ensures undecided { IfErr result (λ error. IfUndecided error (IsUndecided self.now.dir self.now.model.now self.now.goals.now self.now.start self.now.threshold)) }
+    {
+        match self.answer_on(alloc, found)? {
+            Some(answer) => Ok(answer),
+            None => Err(Unshown::Undecided { lower, upper }),
+        }
+    }
+
     /// What the exact query of the subsystem comes to, where the threshold lies between a lower and an upper value.
     pub(crate) fn exact(&self, alloc: Global, lower: Frac, upper: Frac) -> Result<Found, Unshown>
         requires threshold { of_int (pos 0) ≤ℚ self.now.threshold }
@@ -108,13 +142,8 @@ impl Query<'_, '_> {
             self.dir,
             self.threshold,
         ) {
-            Ok(found) => match self.answer_on(alloc, &found)? {
-                Some(answer) => Ok(answer),
-                None => Err(Unshown::Undecided { lower, upper }),
-            },
-            Err(WitnessError::Below(value)) => Err(Unshown::Below(value)),
-            Err(WitnessError::TooWide(_)) => Err(Unshown::Undecided { lower, upper }),
-            Err(WitnessError::Memory) => Err(Unshown::Memory),
+            Ok(found) => self.exact_found(alloc, &found, lower, upper),
+            Err(error) => Err(unshown(error, lower, upper)),
         }
     }
 }

@@ -6,6 +6,7 @@
 mod attempt;
 mod bounds;
 mod exact;
+mod floats;
 mod found;
 mod order;
 mod query;
@@ -16,6 +17,8 @@ mod standing;
 mod subsystem;
 mod trials;
 mod trivial;
+mod visits;
+mod walk;
 mod whole;
 
 pub use search::search_subsystem;

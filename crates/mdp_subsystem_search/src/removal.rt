@@ -2,10 +2,13 @@ ghost use Rattle.std.specs.Prelude.{◌≡◌, ◌<◌, length, IfOk, All};
 ghost use Rattle.mdp_spec.specs.Mdp.{states_of};
 ghost use Rattle.mdp_subsystem_search.specs.Kept.{IsFound};
 
+use crate::floats::float_of;
 use crate::found::Found;
+use crate::order::{Weighed, light_states, order_of, states_in};
 use crate::query::Query;
 use crate::room::Room;
 use mdp_num::Memory;
+use mdp_refinement::item_at;
 use mdp_rows::Marks;
 use std::alloc::{AllocError, Global};
 
@@ -14,6 +17,11 @@ const REMOVAL_ENTRIES: u64 = 33_554_432;
 
 /// The most attempts.
 const MOST_ATTEMPTS: u32 = 1_000_000;
+
+/// How often as many states as may go by their weights are taken out at once, and by what part of what the lower value is over the threshold.
+const LIGHT_ROUNDS: u32 = 40;
+
+const PART_OF_SPARE: f64 = 0.99;
 
 /// How many digits attempts have.
 const ATTEMPT_DIGITS: u32 = 12;
@@ -34,12 +42,7 @@ pub(crate) fn copied(alloc: Global, states: u32, marks: &Marks) -> Result<Marks,
 }
 
 /// The marks without those of some states.
-fn cleared(
-    alloc: Global,
-    states: u32,
-    marks: &Marks,
-    piece: &[u32],
-) -> Result<Marks, AllocError>
+fn cleared(alloc: Global, states: u32, marks: &Marks, piece: &[u32]) -> Result<Marks, AllocError>
     requires { length marks.now ≡ states }
     ensures { IfOk result (λ fewer. length fewer ≡ states) }
 {
@@ -126,15 +129,54 @@ impl Query<'_, '_> {
         Ok(Found { kept, cert })
     }
 
-    /// What is left when states are taken out: first those that the start doesn't come to, then those by which the goals lose least.
+    /// The kept states in the order in which they are tried.
+    fn order(&self, alloc: Global, found: &Found) -> Result<Vec<Weighed>, AllocError>
+        requires { IsFound self.now.dir self.now.model.now self.now.goals.now self.now.start self.now.threshold found.now }
+    {
+        order_of(
+            alloc,
+            self.model,
+            self.start,
+            self.dir,
+            &found.kept,
+            &found.cert,
+        )
+    }
+
+    /// What the lower value of the start is over the threshold, nearly.
+    fn spare(&self, found: &Found) -> f64 {
+        let lower = item_at(&found.cert.lower, self.start as usize, self.threshold);
+        PART_OF_SPARE * (float_of(&lower) - float_of(&self.threshold))
+    }
+
+    /// What is left when the states that the start doesn't lead to are taken out, and then, again and again, as many as may go by their weights.
+    fn without_light(&self, alloc: Global, found: Found, room: &mut Room) -> Result<Found, Memory>
+        requires { IsFound self.now.dir self.now.model.now self.now.goals.now self.now.start self.now.threshold found }
+        ensures { IfOk result (IsFound self.now.dir self.now.model.now self.now.goals.now self.now.start self.now.threshold) }
+    {
+        let mut left = found;
+        for round in 0..LIGHT_ROUNDS {
+            let order = self.order(alloc, &left)?;
+            let amount = if round == 0 { -1.0 } else { self.spare(&left) };
+            let light = light_states(alloc, &order, amount)?;
+            let is_out = !light.is_empty() && self.take_out(alloc, &mut left, &light, room)?;
+            if !is_out && round > 0 {
+                return Ok(left);
+            }
+        }
+        Ok(left)
+    }
+
+    /// What is left when states are taken out: first those that the start doesn't lead to, and those that weigh little; then by halves.
     pub(crate) fn removed(&self, alloc: Global, found: Found) -> Result<Found, Memory>
         requires { IsFound self.now.dir self.now.model.now self.now.goals.now self.now.start self.now.threshold found }
         ensures { IfOk result (IsFound self.now.dir self.now.model.now self.now.goals.now self.now.start self.now.threshold) }
     {
         let mut room = Room::new(REMOVAL_ENTRIES);
-        let idle = self.idle_pieces(alloc, &found)?;
-        let near = self.without_pieces(alloc, found, idle, &mut room)?;
-        let pieces = self.ordered_pieces(alloc, &near)?;
+        let near = self.without_light(alloc, found, &mut room)?;
+        let order = self.order(alloc, &near)?;
+        let mut pieces = Vec::new(alloc);
+        push_halves(&mut pieces, states_in(alloc, &order)?)?;
         let left = self.without_pieces(alloc, near, pieces, &mut room)?;
         self.shortened(alloc, left)
     }

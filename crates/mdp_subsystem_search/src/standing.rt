@@ -11,3 +11,11 @@ pub(crate) enum Standing {
     /// A lower value of the start, which is less, and an upper one, which isn't.
     Between { lower: Frac, upper: Frac },
 }
+
+/// Whether it is known on which side of the threshold it is.
+pub(crate) fn is_decided(standing: &Option<Standing>) -> bool {
+    match standing {
+        Some(Standing::Between { lower: _, upper: _ }) | None => false,
+        Some(_) => true,
+    }
+}

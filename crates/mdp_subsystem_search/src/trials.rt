@@ -17,7 +17,13 @@ const TRIAL_DIGITS: u32 = 12;
 
 impl Query<'_, '_> {
     /// Whether it is shown that without a kept state the best probability is below the threshold.
-    fn is_needed(&self, alloc: Global, kept: &Marks, s: u32, room: &mut Room) -> Result<bool, Memory>
+    fn is_needed(
+        &self,
+        alloc: Global,
+        kept: &Marks,
+        s: u32,
+        room: &mut Room,
+    ) -> Result<bool, Memory>
         requires each { length kept.now ≡ states_of self.now.model.now }
         requires state { s < states_of self.now.model.now }
         ensures { IfOk result (λ needed. needed ≡ true → IsNeeded self.now.dir self.now.model.now self.now.goals.now self.now.start self.now.threshold kept.now s) }

@@ -1,4 +1,4 @@
-ghost use Rattle.std.specs.{Prelude.{◌≡◌, ◌<◌, length, map, if◌then◌else◌, IfOk}, List.{range_with_len}};
+ghost use Rattle.std.specs.{Prelude.{◌≡◌, ◌<◌, length, map, replicate, if◌then◌else◌, IfOk}, List.{range_with_len}};
 ghost use Rattle.mdp_spec.specs.{Mdp.{states_of}, Tree.{is_marked}};
 ghost use Rattle.mdp_farkas.specs.Compare.{0ℚ, 1ℚ};
 ghost use Rattle.mdp_bounds.specs.Reach.{IsTrivialReach};
@@ -21,7 +21,11 @@ fn least_at(goals: &Marks, s: u32) -> Frac
 }
 
 /// 1 at each goal, 0 elsewhere.
-pub(crate) fn least_values(alloc: Global, states: u32, goals: &Marks) -> Result<Vec<Frac>, AllocError>
+pub(crate) fn least_values(
+    alloc: Global,
+    states: u32,
+    goals: &Marks,
+) -> Result<Vec<Frac>, AllocError>
     requires { length goals.now ≡ states }
     ensures { IfOk result (λ values. values.items ≡ map (λ s. if is_marked goals.now s then 1ℚ else 0ℚ) (range_with_len 0 states)) }
 {
@@ -30,12 +34,16 @@ pub(crate) fn least_values(alloc: Global, states: u32, goals: &Marks) -> Result<
 
 /// The bounds 0 and 1 of the probability to reach a goal, and 1 and 1 at a goal, with the first choice of each state. They hold for every model, and
 /// say nothing.
-pub(crate) fn trivial_reach(alloc: Global, model: &Model, goals: &Marks) -> Result<ReachBoundsCert, Memory>
+pub(crate) fn trivial_reach(
+    alloc: Global,
+    model: &Model,
+    goals: &Marks,
+) -> Result<ReachBoundsCert, Memory>
     requires { length goals.now ≡ states_of model.now }
     ensures trivial { IfOk result (λ cert. IsTrivialReach model.now goals.now cert.lower.items cert.upper.items cert.choices.items cert.ranks.items) }
     ensures lower { IfOk result (λ cert. length cert.lower.items ≡ states_of model.now) }
-    ensures upper { IfOk result (λ cert. length cert.upper.items ≡ states_of model.now) }
-    ensures choices { IfOk result (λ cert. length cert.choices.items ≡ states_of model.now) }
+    ensures upper { IfOk result (λ cert. cert.upper.items ≡ replicate (states_of model.now) 1ℚ) }
+    ensures choices { IfOk result (λ cert. cert.choices.items ≡ replicate (states_of model.now) 0) }
     ensures ranks { IfOk result (λ cert. length cert.ranks.items ≡ states_of model.now) }
 {
     model.known();

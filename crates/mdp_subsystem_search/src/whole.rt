@@ -5,7 +5,7 @@ ghost use Rattle.mdp_subsystem_search.specs.{Shown.{LieBetween}, Kept.{IsFound},
 
 use crate::found::Found;
 use crate::query::Query;
-use crate::standing::Standing;
+use crate::standing::{Standing, is_decided};
 use crate::trivial::trivial_reach;
 use mdp_bounds::ReachBoundsCert;
 use mdp_num::Memory;
@@ -75,18 +75,27 @@ impl Query<'_, '_> {
         Ok(self.standing_by(&cert))
     }
 
-    /// How the model stands to the threshold: by few digits, else by the most, else by the bounds that say nothing.
-    pub(crate) fn standing(&self, alloc: Global) -> Result<Standing, Memory>
+    /// How the model stands to the threshold by the most digits, else by the bounds that say nothing.
+    fn standing_with_most(&self, alloc: Global) -> Result<Standing, Memory>
         ensures { IfOk result (StandsSo self.now.dir self.now.model.now self.now.goals.now self.now.start self.now.threshold) }
     {
-        match self.standing_with(alloc, FEW_DIGITS)? {
-            Some(Standing::Reaches(cert)) => return Ok(Standing::Reaches(cert)),
-            Some(Standing::Below(value)) => return Ok(Standing::Below(value)),
-            _ => (),
-        }
         match self.standing_with(alloc, MOST_DIGITS)? {
             Some(standing) => Ok(standing),
             None => self.standing_by_nothing(alloc),
+        }
+    }
+
+    /// How the model stands to the threshold: by few digits, where they tell on which side of it; else by more.
+    pub(crate) fn standing(&self, alloc: Global) -> Result<Standing, Memory>
+        ensures { IfOk result (StandsSo self.now.dir self.now.model.now self.now.goals.now self.now.start self.now.threshold) }
+    {
+        let few = self.standing_with(alloc, FEW_DIGITS)?;
+        if !is_decided(&few) {
+            return self.standing_with_most(alloc);
+        }
+        match few {
+            Some(standing) => Ok(standing),
+            None => self.standing_with_most(alloc),
         }
     }
 

@@ -1,0 +1,5 @@
+pub mod Outermost
+pub mod Reached
+pub mod Sides
+pub mod Refusals
+pub mod Answered
