@@ -4,6 +4,7 @@ pub mod Ends
 pub mod Statuses
 pub mod HeadLengths
 pub mod TrueClaims
+pub mod Thresholds
 pub mod CertificateTexts
 mod BoundsExamples
 mod DiscountExamples

@@ -20,3 +20,4 @@ pub mod WitnessMarks
 pub mod WitnessBelow
 pub mod WitnessLength
 pub mod WitnessSolved
+pub mod WitnessPrinting

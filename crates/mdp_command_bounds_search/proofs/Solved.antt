@@ -25,7 +25,7 @@ never_too_wide dir query m said fitting due =
 -- ---- the best values lie between the values
 
 -- where there are goals on a way, the label of the states on it is there
-stays_there : (m : Mdp) (label : List ℕ) (stay : Option ℕ) (goals : List Bool) → marks_on_way m label stay ≡ Some goals → (a : ℕ) × (stay ≡ Some a) × (labelled_marks m label ≡ Some goals)
+pub stays_there : (m : Mdp) (label : List ℕ) (stay : Option ℕ) (goals : List Bool) → marks_on_way m label stay ≡ Some goals → (a : ℕ) × (stay ≡ Some a) × (labelled_marks m label ≡ Some goals)
 stays_there m label None goals e = absurd cc
 stays_there m label (Some a) goals e = (a, refl, e)
 

@@ -26,7 +26,7 @@ module _ (n : ℕ) (kept needed : List Bool) where
   said s = mark_of (is_marked kept s) (is_marked needed s)
 
   mark-at : (s : ℕ) → s < n → get_or (marks_of n kept needed) s Out ≡ said s
-  mark-at s l = get_or-map-range_with_len said 0 n s s Out l refl
+  mark-at s l = get_or-map-range_with_len said 0 n s s Out l (omega arith)
 
   below-count : (s : ℕ) → s < n → s < length (marks_of n kept needed)
   below-count s l = let c = marks-count n kept needed in omega (arith, c, l)
@@ -36,12 +36,12 @@ module _ (n : ℕ) (kept needed : List Bool) where
       ext_get_or false (kept_states (marks_of n kept needed)) kept (length-map (marks_of n kept needed) is_kept ∙ marks-count n kept needed ∙ sym size)
       (λ s l.
       let i : s < n = let c = length-map (marks_of n kept needed) is_kept in let d = marks-count n kept needed in omega (arith, c, d, l) in
-      get_or-map (marks_of n kept needed) is_kept s Out false (below-count s i) ∙ ap is_kept (mark-at s i) ∙ kept-mark (is_marked kept s) (is_marked needed s))
+      get_or-map is_kept (marks_of n kept needed) s Out false (below-count s i) ∙ ap is_kept (mark-at s i) ∙ kept-mark (is_marked kept s) (is_marked needed s))
 
   needed-back : (s : ℕ) → s < n → is_marked (needed_states (marks_of n kept needed)) s ≡ true → is_marked needed s ≡ true
   needed-back s l e =
       let is : (is_marked kept s && is_marked needed s) ≡ true =
-      sym (get_or-map (marks_of n kept needed) is_needed s Out false (below-count s l) ∙ ap is_needed (mark-at s l) ∙ needed-mark (is_marked kept s) (is_marked needed s)) ∙ e in
+      sym (get_or-map is_needed (marks_of n kept needed) s Out false (below-count s l) ∙ ap is_needed (mark-at s l) ∙ needed-mark (is_marked kept s) (is_marked needed s)) ∙ e in
       (and_parts (is_marked kept s) (is_marked needed s) is).1
 
   -- what the search shows of the needed ones is true of the marks

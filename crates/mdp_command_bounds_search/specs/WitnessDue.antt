@@ -1,7 +1,7 @@
 -- What is due to `bounds` of a witness, to the direction, the labels, the threshold and the model. It's no function of them: which subsystem is found, and by
 -- which bounds, is left to the search.
 use Rattle.std.specs.Prelude.{◌≡◌, ◌⊎◌, ℕ, Bool, true, false, List, map, Option, Some, None, option_map, Ok, Err}
-use Rattle.std.specs.Borrow.{Bor}
+use Rattle.std.specs.{Borrow.{Bor}, Global.{Vec}}
 use Rattle.mdp_math.specs.Rational.{ℚ}
 use Rattle.mdp_spec.specs.{Labels.{initial_of}, Mdp.{Mdp}}
 use Rattle.mdp_rows.specs.declared.dir.Dir.{Dir}
@@ -18,6 +18,9 @@ use Rattle.mdp_command.specs.Said.{Said}
 -- the bytes of a name that may be there
 abbrev pub name_of : Option (Bor (List ℕ)) → Option (List ℕ)
 name_of name = option_map (λ xs. xs.now) name
+
+abbrev pub owned_name : Option (Vec ℕ) → Option (List ℕ)
+owned_name name = option_map (λ xs. xs.items) name
 
 abbrev pub claim_by : Dir → Option (List ℕ) → List ℕ → ℚ → SubsystemClaim
 claim_by dir stay label threshold = record { dir = dir; stay = stay; label = label; threshold = threshold }

@@ -1,13 +1,16 @@
-ghost use Rattle.std.specs.Prelude.{◌≡◌, ◌⊎◌, Some, Ok, Err, IfOk, pos};
+ghost use Rattle.std.specs.{Prelude.{◌≡◌, ◌⊎◌, Some, Ok, Err, IfOk, IsTrue, pos}, List.{All}};
 ghost use Rattle.mdp_math.specs.Rational.{◌≤ℚ◌, of_int};
-ghost use Rattle.mdp_spec.specs.Labels.{initial_of};
+ghost use Rattle.mdp_spec.specs.{Labels.{initial_of}, Mdp.{states_of}};
+ghost use Rattle.mdp_rows.specs.declared.dir.Dir.TheVariants.{Min};
+ghost use Rattle.mdp_cert.specs.Cert.{are_names};
 ghost use Rattle.mdp_check.specs.Check.{marks_by, way_by};
-ghost use Rattle.mdp_subsystem_bounds.specs.{Plain.{plain}, Spelling.{text_of}};
+ghost use Rattle.mdp_subsystem_bounds.specs.{Cert.{plain_claim, Fits}, Plain.{plain}, Spelling.{text_of}};
 ghost use Rattle.mdp_command.specs.Prelude.{IsModelReadToEnd, no_memory, plain_refusal, said, input};
-ghost use Rattle.mdp_command_bounds_search.specs.WitnessDue.{name_of, claim_by, refusal_of, IsEndDue, IsBoundsWitnessDue};
+ghost use Rattle.mdp_command_bounds_search.specs.{WitnessDue.{name_of, owned_name, claim_by, refusal_of, IsEndDue, IsBoundsWitnessDue}, WitnessMarks.{IsSized, lists_of, certificate_of}};
 ghost use Rattle.mdp_command_bounds_search.specs.WitnessShown.{IsBoundsWitnessPrinted, IsBoundsWitnessRead};
 
-use crate::witness_certificate::{Asked, certificate_of};
+use crate::witness_certificate::certificate_of;
+use crate::witness_marks::marks_of;
 use mdp_check::{goals_on_way, way_by};
 use mdp_command::read_model;
 use mdp_edge::Source;
@@ -15,10 +18,11 @@ use mdp_job::Refusal;
 use mdp_num::Frac;
 use mdp_rows::{Dir, Marks, Model, RowRule};
 use mdp_subsystem_bounds::{
-    SubsystemBoundsCert, subsystem_bounds_law, subsystem_bounds_text_law, write_subsystem_bounds,
+    SubsystemBounds, SubsystemBoundsCert, subsystem_bounds_law, subsystem_bounds_text_law,
+    write_subsystem_bounds,
 };
-use mdp_subsystem_search::{Unshown, search_subsystem};
-use std::alloc::Global;
+use mdp_subsystem_search::{Subsystem, Unshown, search_subsystem};
+use std::alloc::{AllocError, Global};
 
 /// What is said where there is no subsystem.
 fn refusal_of(error: Unshown) -> Refusal
@@ -42,10 +46,64 @@ fn certificate_text(alloc: Global, cert: &SubsystemBoundsCert) -> Result<Vec<u8>
     }
 }
 
+/// What the words of the command ask for, beside the model.
+#[derive(Clone, Copy)]
+struct Asked<'a> {
+    dir: Dir,
+    stay: Option<&'a [u8]>,
+    label: &'a [u8],
+    threshold: Frac,
+}
+
+/// A name that may be there, copied.
+fn owned(alloc: Global, name: Option<&[u8]>) -> Result<Option<Vec<u8>>, AllocError>
+    ensures { IfOk result (λ own. owned_name own ≡ name_of name.entry) }
+{
+    match name {
+        Some(name) => Ok(Some(name.to_vec(alloc)?)),
+        None => Ok(None),
+    }
+}
+
 impl Asked<'_> {
+    /// The certificate of a subsystem that was found.
+    fn certificate(
+        &self,
+        alloc: Global,
+        model: &Model,
+        start: u32,
+        found: Subsystem,
+    ) -> Result<SubsystemBoundsCert, AllocError>
+        requires names { IsTrue (are_names (plain_claim (claim_by self.now.dir (name_of self.now.stay) self.now.label.now self.now.threshold))) }
+        requires start { initial_of model.now ≡ Some start }
+        requires threshold { of_int (pos 0) ≤ℚ self.now.threshold }
+        requires found { IsSized (states_of model.now) found }
+        requires least { self.now.dir ≡ Min → All (λ c. c ≡ 0) found.bounds.choices.items }
+        ensures certificate { IfOk result (λ cert. plain cert ≡ certificate_of (claim_by self.now.dir (name_of self.now.stay) self.now.label.now self.now.threshold) start
+            (lists_of (states_of model.now) found)) }
+        ensures fits { IfOk result (λ cert. Fits (plain cert)) }
+    {
+        let marks = marks_of(alloc, model.states(), &found.kept, &found.needed)?;
+        let stay = owned(alloc, self.stay)?;
+        let label = self.label.to_vec(alloc)?;
+        let lists = SubsystemBounds {
+            bounds: found.bounds,
+            marks,
+        };
+        Ok(certificate_of(
+            model,
+            self.dir,
+            stay,
+            label,
+            self.threshold,
+            start,
+            lists,
+        ))
+    }
+
     /// The text of a subsystem from this start to these goals on what is left of the model for the way, or its refusal.
     fn on_way(
-        self,
+        &self,
         alloc: Global,
         model: &Model,
         way: &Model,
@@ -57,8 +115,8 @@ impl Asked<'_> {
         requires initial { initial_of model.now ≡ Some start }
         requires threshold { of_int (pos 0) ≤ℚ self.now.threshold }
         ensures due { (said result ≡ Err no_memory) ⊎
-            IsEndDue (claim_by self.entry.dir (name_of self.entry.stay) self.entry.label.now self.entry.threshold) model.now goals.now start (said result) }
-        ensures printed { IfOk (said result) (IsBoundsWitnessPrinted (claim_by self.entry.dir (name_of self.entry.stay) self.entry.label.now self.entry.threshold) model.now) }
+            IsEndDue (claim_by self.now.dir (name_of self.now.stay) self.now.label.now self.now.threshold) model.now goals.now start (said result) }
+        ensures printed { IfOk (said result) (IsBoundsWitnessPrinted (claim_by self.now.dir (name_of self.now.stay) self.now.label.now self.now.threshold) model.now) }
     {
         model.known();
         subsystem_bounds_law();
@@ -67,18 +125,18 @@ impl Asked<'_> {
             Ok(found) => found,
             Err(error) => return Err(refusal_of(error)),
         };
-        let Ok(cert) = certificate_of(alloc, model, self, start, found) else {
+        let Ok(cert) = self.certificate(alloc, model, start, found) else {
             return Err(Refusal::Memory);
         };
         certificate_text(alloc, &cert)
     }
 
     /// The text for a model, or its refusal: the labels are looked up first, then the one initial state.
-    fn of_model(self, alloc: Global, model: &Model) -> Result<Vec<u8>, Refusal>
+    fn of_model(&self, alloc: Global, model: &Model) -> Result<Vec<u8>, Refusal>
         requires { of_int (pos 0) ≤ℚ self.now.threshold }
         ensures due { (said result ≡ Err no_memory) ⊎
-            IsBoundsWitnessDue (claim_by self.entry.dir (name_of self.entry.stay) self.entry.label.now self.entry.threshold) model.now (said result) }
-        ensures printed { IfOk (said result) (IsBoundsWitnessPrinted (claim_by self.entry.dir (name_of self.entry.stay) self.entry.label.now self.entry.threshold) model.now) }
+            IsBoundsWitnessDue (claim_by self.now.dir (name_of self.now.stay) self.now.label.now self.now.threshold) model.now (said result) }
+        ensures printed { IfOk (said result) (IsBoundsWitnessPrinted (claim_by self.now.dir (name_of self.now.stay) self.now.label.now self.now.threshold) model.now) }
     {
         let Some(goals) = goals_on_way(alloc, model, self.stay, self.label)? else {
             return Err(Refusal::QueryLabel);
@@ -86,12 +144,10 @@ impl Asked<'_> {
         let Some(start) = model.initial() else {
             return Err(Refusal::QueryInit);
         };
-        let cut = way_by(alloc, model, &goals, self.stay)?;
-        let way = match &cut {
-            Some(way) => way,
-            None => model,
-        };
-        self.on_way(alloc, model, way, &goals, start)
+        match way_by(alloc, model, &goals, self.stay)? {
+            Some(way) => self.on_way(alloc, model, &way, &goals, start),
+            None => self.on_way(alloc, model, model, &goals, start),
+        }
     }
 }
 

@@ -1,15 +1,14 @@
 -- The lists of a subsystem that have the shape that its rules ask for fit its claim.
 use Rattle.std.proofs.Common.{◌≡◌, ℕ, suc, ◌<◌, Bool, true, eqb, ◌&&◌, List, [], ◌∷◌, length, get_or, Option}
-use Rattle.std.proofs.{Common.{Some, None, refl, sym, subst, ap₂, arith, eq-eqb, lt-ltb, pos, ℤ, ◌*ℤ◌, int_le, ◌∙◌}, lemmas.List.Elements.{All-head, All-tail}}
+use Rattle.std.proofs.{Common.{Some, None, refl, sym, subst, ap₂, arith, eq-eqb, lt-ltb}, lemmas.List.Elements.{All-head, All-tail}}
 use Rattle.std.specs.List.{All}
-use Rattle.mdp_math.specs.Rational.{ℚ, of_int, le_ℚ, ◌≤ℚ◌}
-use Rattle.mdp_math.proofs.{Ring.{◌⊗◌, lit, ring}, IntegerRing.{int_ring}, Extremes.{test_of_le}, Order.{0ℚ}}
+use Rattle.mdp_math.specs.Rational.{ℚ}
 use Rattle.mdp_rows.specs.declared.dir.Dir.{Dir}
 use Rattle.mdp_spec.specs.Mdp.{Mdp, states_of}
 use Rattle.mdp_claims.specs.declared.subsystem.Flow.{Flow}
 use Rattle.mdp_subsystem_rules.specs.{Kept.{Ascends}, Shape.{no_flow, FlowsAscend, IsFlowShape, IsFloorShape}}
 use Rattle.mdp_text.specs.declared.init.Init.TheVariants.{Start}
-use Rattle.mdp_cert.specs.Cert.{witness, is_init_of, is_next, is_next_flow, are_kept, are_flows, is_at_least_zero}
+use Rattle.mdp_cert.specs.Cert.{witness, is_init_of, is_next, is_next_flow, are_kept, are_flows}
 
 -- ---- kept states
 
@@ -61,18 +60,6 @@ module _ (m : Mdp) (n : ℕ) (size : n ≡ states_of m) where
       (ap₂ (λ (p q : Bool). p && q)
       (ap₂ (λ (p q : Bool). p && q) (kept_inside kept shape.kept_ascends shape.kept_in_range) (eq-eqb (length wide) (length kept) shape.one_wide_each))
       (eq-eqb (length values) (length kept) shape.one_value_each)) (eq-eqb (length ranks) (length kept) shape.one_rank_each)
-
--- ---- the threshold
-
-zero-times : (x : ℤ) → pos 0 *ℤ x ≡ pos 0
-zero-times x = ring int_ring 1 (λ x. lit (pos 0) ⊗ x) (λ x. lit (pos 0)) refl x
-
-times-one : (x : ℤ) → x *ℤ pos 1 ≡ x
-times-one x = ring int_ring 1 (λ x. x ⊗ lit (pos 1)) (λ x. x) refl x
-
-pub threshold_fits : (t : ℚ) → of_int (pos 0) ≤ℚ t → is_at_least_zero t ≡ true
-unfolding of_int le_ℚ
-threshold_fits t h = ap₂ (λ (x y : ℤ). int_le x y) (sym (zero-times (pos t.den))) (sym (times-one t.num)) ∙ test_of_le 0ℚ t h
 
 -- ---- the initial state
 

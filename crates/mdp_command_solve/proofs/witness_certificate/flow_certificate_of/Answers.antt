@@ -1,7 +1,8 @@
 use Rattle.std.proofs.Common.{arith}
 use Rattle.mdp_rows.specs.declared.dir.Dir.TheVariants.{Max}
 use Rattle.mdp_command_solve.specs.Ways.{owned_name}
-use Rattle.mdp_command_solve.proofs.WitnessFitting.{flow_fits, start_fits, threshold_fits}
+use Rattle.mdp_command.proofs.Thresholds.{threshold_fits}
+use Rattle.mdp_command_solve.proofs.WitnessFitting.{flow_fits, start_fits}
 use Rattle.mdp_command_solve.proofs.witness_certificate.flow_certificate_of.Goals as goal
 
 pub invariant_of-cert : goal.invariant_of-cert
