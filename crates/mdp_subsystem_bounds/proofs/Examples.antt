@@ -1,6 +1,6 @@
 -- Answers, computed, on a model of four states: state 0, with the label `init`, has a choice that goes on to 1 or 2 with 1/2 each, and one that goes on to 3
 -- with 1/3 and to 2 with 2/3; 1 goes on to 2 or 3 with 1/2 each; 2 goes on to 3; 3 has the label `goal`. The states 0 and 1 have the label `stay`.
-use Rattle.std.proofs.Common.{◌≡◌, ℕ, ◌+◌, ◌^◌, List, [], ◌∷◌, refl, pos, Option, Some, None}
+use Rattle.std.proofs.Common.{ℕ, ◌+◌, ◌^◌, List, [], ◌∷◌, refl, pos, Option, Some, None}
 use Rattle.std.specs.Prelude.{codes}
 use Rattle.mdp_math.specs.{Gcd.{gcd, gcd_with_fuel}, Rational.{ℚ, of_int, ratio, le_ℚ, lt_ℚ, ◌+ℚ◌, ◌*ℚ◌}}
 use Rattle.mdp_math.specs.Written.{narrow, narrow_ℚ, written_add, written_mul}
