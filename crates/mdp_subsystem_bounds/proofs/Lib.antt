@@ -4,3 +4,5 @@ pub mod Columns
 pub mod Bodies
 pub mod Heads
 pub mod Outcomes
+mod Examples
+mod TextExamples

@@ -7,6 +7,7 @@ ghost use Rattle.mdp_farkas.specs.Compare.{1ℚ};
 use crate::lists::SubsystemBounds;
 use mdp_num::Frac;
 use mdp_rows::Dir;
+use mdp_text::{all_narrow, all_short};
 
 /// A certificate of bounds of a subsystem: on the kept states alone the greatest, or the least, probability of reaching the label from the initial state
 /// `start` is at least the threshold, by way of states with the label `stay` alone where there is one. There are 1 to 2^20 states with one of each list;
@@ -29,4 +30,18 @@ pub struct SubsystemBoundsCert {
     pub ghost at_least_zero: { IsTrue (is_at_least_zero threshold) },
     pub ghost inside: { start < length lists.bounds.lower.items },
     pub ghost named: { dir ≡ Min → All (λ c. c ≡ 0) lists.bounds.choices.items },
+}
+
+impl SubsystemBoundsCert {
+    ghost use Rattle.mdp_subsystem_bounds.specs.{Cert.{Fits}, Plain.{plain}};
+
+    /// What each certificate keeps: it has a text, and `subsystem_bounds_text_law` says that this is read as the certificate.
+    pub fn known(&self)
+        ensures fits { Fits (plain self.now) }
+    {
+        all_narrow(&self.lists.bounds.lower);
+        all_short(&self.lists.bounds.choices);
+        all_short(&self.lists.bounds.ranks);
+        self.threshold.num();
+    }
 }

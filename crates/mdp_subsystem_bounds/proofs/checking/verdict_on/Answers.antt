@@ -15,15 +15,18 @@ holds_subsystem_bounds-requires-clause-lower c =
 
 pub holds_subsystem_bounds-requires-clause-choices : goal.holds_subsystem_bounds-requires-clause-choices
 holds_subsystem_bounds-requires-clause-choices c =
-    way_sized c.args.model.now c.way_in-way.result.now c.in_ok-left.left c.args.goals.now _ _ _ c.way_in-way.ensures c.in_ok-left.ensures c.name_of.ensures (c.args.cert.now.choice_each ∙ c.requires.states)
+    let each = c.args.cert.now.choice_each ∙ c.requires.states in
+    way_sized c.args.model.now c.way_in-way.result.now c.in_ok-left.left c.args.goals.now _ _ _ c.way_in-way.ensures c.in_ok-left.ensures c.name_of.ensures each
 
 pub holds_subsystem_bounds-requires-clause-ranks : goal.holds_subsystem_bounds-requires-clause-ranks
 holds_subsystem_bounds-requires-clause-ranks c =
-    way_sized c.args.model.now c.way_in-way.result.now c.in_ok-left.left c.args.goals.now _ _ _ c.way_in-way.ensures c.in_ok-left.ensures c.name_of.ensures (c.args.cert.now.rank_each ∙ c.requires.states)
+    let each = c.args.cert.now.rank_each ∙ c.requires.states in
+    way_sized c.args.model.now c.way_in-way.result.now c.in_ok-left.left c.args.goals.now _ _ _ c.way_in-way.ensures c.in_ok-left.ensures c.name_of.ensures each
 
 pub holds_subsystem_bounds-requires-clause-marks : goal.holds_subsystem_bounds-requires-clause-marks
 holds_subsystem_bounds-requires-clause-marks c =
-    way_sized c.args.model.now c.way_in-way.result.now c.in_ok-left.left c.args.goals.now _ _ _ c.way_in-way.ensures c.in_ok-left.ensures c.name_of.ensures (c.args.cert.now.mark_each ∙ c.requires.states)
+    let each = c.args.cert.now.mark_each ∙ c.requires.states in
+    way_sized c.args.model.now c.way_in-way.result.now c.in_ok-left.left c.args.goals.now _ _ _ c.way_in-way.ensures c.in_ok-left.ensures c.name_of.ensures each
 
 pub holds_subsystem_bounds-requires-clause-start : goal.holds_subsystem_bounds-requires-clause-start
 holds_subsystem_bounds-requires-clause-start c =
