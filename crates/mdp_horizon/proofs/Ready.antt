@@ -5,8 +5,8 @@ use Rattle.std.specs.Global.{Global}
 use Rattle.mdp_math.specs.Rational.{ℚ, ◌<ℚ◌}
 use Rattle.mdp_math.proofs.{Order.{0ℚ, <ℚ_irrefl}, Whole.{one-pos}}
 use Rattle.mdp_spec.specs.{Mdp.{Entry, Choice, Mdp, states_of, choices_at, choice_at, no_choice}, Row.{IsRow, IsMdp}}
-use Rattle.mdp_horizon.specs.{Objective.{Objective, gain_of}, declared.choice.Choices.{Choices}, declared.choice.ShortChoice.{ShortChoice}, Scaled.{Scaled, scaled, scale_of, term_of}}
-use Rattle.mdp_horizon.specs.{Columns.{scaled_choice, scaled_state}, BoundsCode.{plain_terms, plain_choices, plain_short, values_of, IsReady, AreReady, AreOf}}
+use Rattle.mdp_horizon.specs.{Objective.{Objective, gain_of}, declared.choice.Choices.{Choices}, Scaled.{Scaled, scaled, scale_of, term_of}}
+use Rattle.mdp_horizon.specs.{Columns.{scaled_choice, scaled_state}, BoundsCode.{plain_terms, plain_choices, values_of, IsReady, AreReady, AreOf}}
 use Rattle.mdp_horizon.specs.{declared.choice.Scale.{Scale}, declared.choice.Term.{Term}, declared.choice.ShortTerm.{ShortTerm}, declared.choice.Terms.{Terms}}
 use Rattle.mdp_horizon.specs.{declared.column.Column.{Column}, declared.short_terms.ShortTerms.{ShortTerms}, Short.{wide_term, wide_terms, known}}
 use Rattle.mdp_horizon.specs.declared.choice.Terms.TheVariants as rows

@@ -57,6 +57,7 @@ fn covered_with(dir: Dir, column: &Column, far: i128, choice: &ScaledChoice<'_>)
 }
 
 /// The farthest of the choices' sums, rounded; none where one of them is missing.
+#[inline(never)]
 fn wide_covered(dir: Dir, column: &Column, choices: &Choices<'_>) -> Option<i128>
     requires some { 0 < length (plain_choices choices.now) }
     requires ready { AreReady (length (values_of column.now)) (plain_choices choices.now) }
@@ -146,6 +147,7 @@ fn judged_sum(
 }
 
 /// The first choice with the best sum, rounded the other way.
+#[inline(never)]
 fn wide_followed(dir: Dir, column: &Column, choices: &Choices<'_>, count: u32) -> Leader
     requires some { 0 < length (plain_choices choices.now) }
     requires count { count ≡ length (plain_choices choices.now) }

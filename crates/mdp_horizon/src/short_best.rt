@@ -21,13 +21,14 @@ fn is_past(dir: Dir, far: i64, n: i128, d: i64) -> bool
 /// Whether n/d, rounded the other way, lies strictly beyond `far`. Where it doesn't, it needn't be divided.
 #[inline(always)]
 fn is_ahead(dir: Dir, far: i64, n: i128, d: i64) -> bool
+    requires { unsigned_abs n ≤ 2 ^ 126 }
     ensures { result ≡ false → IsBehind dir far n d }
 {
     let limit = product(far, d);
     let step = i128::from(d);
     match dir {
-        Dir::Max => limit + step <= n,
-        Dir::Min => n <= limit - step,
+        Dir::Max => limit <= n - step,
+        Dir::Min => n + step <= limit,
     }
 }
 
@@ -49,7 +50,7 @@ impl ShortChoice<'_> {
     fn summed(&self, values: &[i64]) -> i128
         requires { IsReady (length values.now) (plain_short self.now) }
         ensures value { Some result ≡ summed (known values.now) (plain_short self.now) }
-        ensures narrow { unsigned_abs result < 2 ^ 127 }
+        ensures narrow { unsigned_abs result ≤ 2 ^ 126 }
         ensures positive { pos 0 <ℤ self.now.common }
     {
         short_total(self.start, self.terms, values)

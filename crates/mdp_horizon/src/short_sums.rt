@@ -43,7 +43,7 @@ pub(crate) fn product(a: i64, b: i64) -> i128
 pub(crate) fn short_total(start: i64, short: ShortTerms<'_>, values: &[i64]) -> i128
     requires { All (λ t. t.target < length values.now) short.terms.now }
     ensures value { Some result ≡ total_of (known values.now) start (wide_terms short.entry.terms.now) }
-    ensures narrow { unsigned_abs result < 2 ^ 127 }
+    ensures narrow { unsigned_abs result ≤ 2 ^ 126 }
 {
     let mut total = i128::from(start);
     for term in short.terms {

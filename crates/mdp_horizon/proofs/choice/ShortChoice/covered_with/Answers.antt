@@ -3,7 +3,7 @@ use mir.Syntax.{w64}
 use mir.Val.{SFits}
 use Rattle.mdp_num.proofs.Values.{result-bits}
 use Rattle.mdp_horizon.specs.{Short.{known}, Whole.{rounded, farther}, BoundsCode.{plain_short}}
-use Rattle.mdp_horizon.proofs.Past.{reached_same, farther_same, covered_kept, covered_to}
+use Rattle.mdp_horizon.proofs.Past.{reached_same, covered_kept, covered_to}
 use Rattle.mdp_horizon.proofs.choice.ShortChoice.covered_with.Goals as goal
 
 pub returns-then-not-past : goal.returns-then-not-past

@@ -1,4 +1,4 @@
-use Rattle.std.proofs.Common.{◌≡◌, ◌∙◌, ℤ, Bool, true, false, Some, refl, sym, ap, ap₂, rules, to_z-of_z}
+use Rattle.std.proofs.Common.{◌∙◌, ℤ, true, false, Some, refl, sym, ap, ap₂, rules, to_z-of_z}
 use mir.Syntax.{w64, w128}
 use mir.Val.{to_z, of_z, SFits}
 use Rattle.mdp_num.proofs.Values.{result-bits}

@@ -1,4 +1,4 @@
-use Rattle.std.proofs.Common.{◌≡◌, ◌∙◌, ℤ, Option, Some, None, IfSome, sym, ap, ap₂, rules, to_z-of_z}
+use Rattle.std.proofs.Common.{◌∙◌, ℤ, Option, Some, sym, ap, ap₂, rules, to_z-of_z}
 use mir.Syntax.{w64}
 use mir.Val.{SFits}
 use Rattle.std.proofs.lemmas.Option.{IfSome_then}
