@@ -1,16 +1,13 @@
 -- The choices of a state, as the code holds them, can be summed.
-use Rattle.std.proofs.{Common.{◌≡◌, ◌∙◌, ℕ, ◌<◌, List, [], ◌∷◌, length, map, get_or, sym, ap, subst, arith, ℤ, Vec, Option, Some}, lemmas.List.{get_or-map, length-map}}
+use Rattle.std.proofs.{Common.{◌≡◌, ◌∙◌, ℕ, ◌<◌, List, [], ◌∷◌, length, map, get_or, sym, ap, subst, arith, ℤ}, lemmas.List.{get_or-map, length-map}}
 use Rattle.std.proofs.{lemmas.List.Elements.{All-map}, lemmas.List.FromFn.{get_or-map-range_with_len, length-map-range_with_len}}
-use Rattle.std.specs.Global.{Global}
 use Rattle.mdp_math.specs.Rational.{ℚ, ◌<ℚ◌}
 use Rattle.mdp_math.proofs.{Order.{0ℚ, <ℚ_irrefl}, Whole.{one-pos}}
 use Rattle.mdp_spec.specs.{Mdp.{Entry, Choice, Mdp, states_of, choices_at, choice_at, no_choice}, Row.{IsRow, IsMdp}}
 use Rattle.mdp_horizon.specs.{Objective.{Objective, gain_of}, declared.choice.Choices.{Choices}, Scaled.{Scaled, scaled, scale_of, term_of}}
-use Rattle.mdp_horizon.specs.{Columns.{scaled_choice, scaled_state}, BoundsCode.{plain_terms, plain_choices, values_of, IsReady, AreReady, AreOf}}
-use Rattle.mdp_horizon.specs.{declared.choice.Scale.{Scale}, declared.choice.Term.{Term}, declared.choice.ShortTerm.{ShortTerm}, declared.choice.Terms.{Terms}}
-use Rattle.mdp_horizon.specs.{declared.column.Column.{Column}, declared.short_terms.ShortTerms.{ShortTerms}, Short.{wide_term, wide_terms, known}}
-use Rattle.mdp_horizon.specs.declared.choice.Terms.TheVariants as rows
-use Rattle.mdp_horizon.specs.declared.column.Column.TheVariants as columns
+use Rattle.mdp_horizon.specs.{Columns.{scaled_choice, scaled_state}, BoundsCode.{plain_choices, IsReady, AreReady, AreOf}}
+use Rattle.mdp_horizon.specs.{declared.choice.Scale.{Scale}, declared.choice.Term.{Term}, declared.choice.ShortTerm.{ShortTerm}}
+use Rattle.mdp_horizon.specs.{Short.{wide_term, wide_terms}}
 use Rattle.std.specs.List.{All}
 use Rattle.mdp_horizon.proofs.Making.{start-narrow}
 
@@ -51,20 +48,6 @@ module _ (one : ℤ) (m : Mdp) (o : Objective) where
       ∙ get_or-map-range_with_len (scaled_state one m o) 0 (states_of m) s s [] h (omega arith)
 
 -- ---- short entries over short values
-
-pub short_targets : (column : Column) (terms : Terms) (values : Vec ℤ Global) (short : ShortTerms) (items : List ℤ) → column ≡ columns.Short values → terms ≡ rows.Short short → items ≡ values.items
-    → All (λ t. t.target < length (values_of column)) (plain_terms terms) → All (λ t. t.target < length items) short.terms.now
-short_targets column terms values short items e q r h = λ k d l.
-    let ts = short.terms.now in
-    let all : All (λ (t : Term). t.target < length (values_of (columns.Short values))) (wide_terms ts) =
-    subst (λ (y : Column). All (λ (t : Term). t.target < length (values_of y)) (wide_terms ts)) e (subst (λ (x : Terms). All (λ (t : Term). t.target < length (values_of column)) (plain_terms x)) q h)
-    in
-    let inside : k < length (wide_terms ts) = omega (arith, length-map ts wide_term) in
-    let below : Term.target (get_or (wide_terms ts) k (wide_term d)) < length (known values.items) = all k (wide_term d) inside in
-    let same : Term.target (get_or (wide_terms ts) k (wide_term d)) ≡ ShortTerm.target (get_or ts k d) = ap Term.target (get_or-map wide_term ts k d (wide_term d) l) in
-    let long : length (known values.items) ≡ length values.items = length-map values.items (λ (v : ℤ). let o : Option ℤ = Some v in o) in
-    let given : length items ≡ length values.items = ap length r in
-    omega (arith, below, same, long, given)
 
 pub short_below : (n : ℕ) (ts : List ShortTerm) → All (λ t. t.target < n) (wide_terms ts) → All (λ t. t.target < n) ts
 short_below n ts h = λ k d l.
