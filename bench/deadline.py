@@ -6,8 +6,9 @@ hole, drawn by SIDE, which it can't leave. The last tile has the charger. The qu
 tiles that aren't holes.
 
 For each SIDE and STEPS: the states and transitions; the processor time of `curve`, of `bounds` and of the reading alone (a curve of no step), each the whole
-program at DIGITS digits; the peer's, bench/iteration.c, which makes as many sweeps over the same file in doubles and writes the values; whether the curve's
-last line lies within what `bounds` says at the first state; and how far the peer's value lies outside of it.
+program at DIGITS digits, the least of RUNS runs; the peer's, bench/iteration.c, which makes as many sweeps over the same file in doubles and writes the values;
+how many times the peer's `curve` and `bounds` take; whether the curve's last line lies within what `bounds` says at the first state; and how far the peer's
+value lies outside of it.
 Usage: bench/deadline.py [SIDE STEPS ..] (100 tiles a side and 300 steps, 30 and 1000 if nothing is said). It needs gcc, and bin/mdp built.
 """
 
@@ -27,6 +28,7 @@ from mdptools import drn  # noqa: E402
 
 PROGRAM = TOP / "out" / "mdp"
 DIGITS = 9
+RUNS = 5
 WAYS = [("north", 0, -1), ("east", 1, 0), ("south", 0, 1), ("west", -1, 0)]
 
 
@@ -53,12 +55,18 @@ def moved(side, s, way):
     return row
 
 
-def timed(words):
+def timed_once(words):
     """The output of a program that ends well, and its processor time in seconds."""
     before = resource.getrusage(resource.RUSAGE_CHILDREN)
     ran = subprocess.run([str(word) for word in words], stdout=subprocess.PIPE, stderr=subprocess.DEVNULL, check=True)
     after = resource.getrusage(resource.RUSAGE_CHILDREN)
     return ran.stdout.decode(), after.ru_utime + after.ru_stime - before.ru_utime - before.ru_stime
+
+
+def timed(words):
+    """Its output, and the least time of some runs."""
+    runs = [timed_once(words) for _ in range(RUNS)]
+    return runs[0][0], min(seconds for _, seconds in runs)
 
 
 def pair(line):
@@ -84,8 +92,8 @@ def measure(side, steps, folder):
     is_within, outside = lower <= low <= high <= upper, float(max(lower - value, value - upper, 0))
     transitions = sum(1 for line in path.read_text().split("\n") if " : " in line)
     print(
-        f"{side} {steps}: {side * side} states, {transitions} transitions; curve {curve_time:.2f} s, bounds {bounds_time:.2f} s, reading {read_time:.2f} s; "
-        f"peer {peer_time:.2f} s; last line within bounds: {'yes' if is_within else 'no'}; peer outside by {outside:.1e}",
+        f"{side} {steps}: {side * side} states, {transitions} transitions; curve {curve_time:.3f} s, bounds {bounds_time:.3f} s, reading {read_time:.3f} s; "
+        f"peer {peer_time:.3f} s; {curve_time / peer_time:.1f} and {bounds_time / peer_time:.1f} times the peer; last line within bounds: {'yes' if is_within else 'no'}; peer outside by {outside:.1e}",
         flush=True,
     )
     return is_within and outside < 1e-9

@@ -3,14 +3,16 @@ ghost use Rattle.mdp_horizon.specs.Columns.{covered, covered_with, covered_from,
 ghost use Rattle.mdp_horizon.specs.{Scaled.{rounded_sum}, Whole.{rounded, farther, opposite}, Past.{IsReached}};
 ghost use Rattle.mdp_horizon.specs.BoundsCode.{plain_choice, plain_choices, values_of, IsReady, AreReady};
 
-use crate::choice::ScaledChoice;
+use crate::choice::{Choices, ScaledChoice};
 use crate::column::Column;
 use crate::leader::Leader;
+use crate::short_best::{short_covered, short_followed};
 use crate::whole::{farther, opposite, rounded, times};
 use mdp_rows::Dir;
 
 /// Whether `new` is strictly better than `old`.
-fn is_better(dir: Dir, new: i128, old: i128) -> bool
+#[inline(always)]
+pub(crate) fn is_better(dir: Dir, new: i128, old: i128) -> bool
     ensures { result ≡ is_ahead dir (Some new) (Some old) }
 {
     match dir {
@@ -55,16 +57,32 @@ fn covered_with(dir: Dir, column: &Column, far: i128, choice: &ScaledChoice<'_>)
 }
 
 /// The farthest of the choices' sums, rounded; none where one of them is missing.
-pub(crate) fn covered(dir: Dir, column: &Column, choices: &[ScaledChoice<'_>]) -> Option<i128>
-    requires some { 0 < length choices.now }
-    requires ready { AreReady (length (values_of column.now)) choices.now }
+#[inline(never)]
+fn wide_covered(dir: Dir, column: &Column, choices: &Choices<'_>) -> Option<i128>
+    requires some { 0 < length (plain_choices choices.now) }
+    requires ready { AreReady (length (values_of column.now)) (plain_choices choices.now) }
     ensures { result ≡ covered dir (values_of column.now) (plain_choices choices.now) }
 {
-    let mut far = choices[0].rounded_sum(dir, column)?;
+    let mut far = choices.at(0).rounded_sum(dir, column)?;
     for c in 1..choices.len() {
-        far = covered_with(dir, column, far, &choices[c])?;
+        let choice = choices.at(c);
+        far = covered_with(dir, column, far, &choice)?;
     }
     Some(far)
+}
+
+/// The same, in numbers of 64 bits where all are.
+pub(crate) fn covered(dir: Dir, column: &Column, choices: &Choices<'_>) -> Option<i128>
+    requires some { 0 < length (plain_choices choices.now) }
+    requires ready { AreReady (length (values_of column.now)) (plain_choices choices.now) }
+    ensures { result ≡ covered dir (values_of column.now) (plain_choices choices.now) }
+{
+    if let (Choices::Short(short), Column::Short(values)) = (choices, column) {
+        if let Some(far) = short_covered(dir, values, short) {
+            return Some(i128::from(far));
+        }
+    }
+    wide_covered(dir, column, choices)
 }
 
 /// Whether a sum is strictly better than another one; a missing one is worse than each.
@@ -129,23 +147,35 @@ fn judged_sum(
 }
 
 /// The first choice with the best sum, rounded the other way.
-pub(crate) fn followed(
-    dir: Dir,
-    column: &Column,
-    choices: &[ScaledChoice<'_>],
-    count: u32,
-) -> Leader
-    requires some { 0 < length choices.now }
-    requires count { count ≡ length choices.now }
-    requires ready { AreReady (length (values_of column.now)) choices.now }
+#[inline(never)]
+fn wide_followed(dir: Dir, column: &Column, choices: &Choices<'_>, count: u32) -> Leader
+    requires some { 0 < length (plain_choices choices.now) }
+    requires count { count ≡ length (plain_choices choices.now) }
+    requires ready { AreReady (length (values_of column.now)) (plain_choices choices.now) }
     ensures { result ≡ followed dir (values_of column.now) (plain_choices choices.now) }
 {
     let mut leader = Leader {
-        value: choices[0].rounded_sum(opposite(dir), column),
+        value: choices.at(0).rounded_sum(opposite(dir), column),
         choice: 0,
     };
     for c in 1..count {
-        leader = judged_sum(dir, column, c, leader, &choices[c as usize]);
+        let choice = choices.at(c as usize);
+        leader = judged_sum(dir, column, c, leader, &choice);
     }
     leader
+}
+
+/// The same, in numbers of 64 bits where all are.
+pub(crate) fn followed(dir: Dir, column: &Column, choices: &Choices<'_>, count: u32) -> Leader
+    requires some { 0 < length (plain_choices choices.now) }
+    requires count { count ≡ length (plain_choices choices.now) }
+    requires ready { AreReady (length (values_of column.now)) (plain_choices choices.now) }
+    ensures { result ≡ followed dir (values_of column.now) (plain_choices choices.now) }
+{
+    if let (Choices::Short(short), Column::Short(values)) = (choices, column) {
+        if let Some(leader) = short_followed(dir, values, short, count) {
+            return leader.widened();
+        }
+    }
+    wide_followed(dir, column, choices, count)
 }

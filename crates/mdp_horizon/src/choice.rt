@@ -1,3 +1,5 @@
+ghost use Rattle.std.specs.Prelude.{pos, ◌<ℤ◌};
+
 use crate::short_terms::ShortTerms;
 use bumpalo::Bump;
 
@@ -37,11 +39,28 @@ pub struct RoundedStart {
 }
 
 /// A choice in whole numbers: its row and what it earns at once. The latter in units lies apart, since only sums that are too wide need it.
-#[derive(Drop)]
+#[derive(Clone, Copy)]
 pub struct ScaledChoice<'b> {
     pub(crate) scale: Scale,
     pub(crate) terms: Terms<'b>,
     pub(crate) rounded: &'b RoundedStart,
+}
+
+/// The same in numbers of 64 bits.
+#[derive(Clone, Copy)]
+pub(crate) struct ShortChoice<'b> {
+    pub start: i64,
+    pub common: i64,
+    pub terms: ShortTerms<'b>,
+    pub rounded: &'b RoundedStart,
+    ghost positive: { pos 0 <ℤ common },
+}
+
+/// The choices of a state: in numbers of 64 bits, unless one isn't.
+#[derive(Drop)]
+pub(crate) enum Choices<'b> {
+    Short(Vec<ShortChoice<'b>>),
+    Wide(Vec<ScaledChoice<'b>>),
 }
 
 /// The arenas of choices: one for terms, which each step reads, and one for starts in units.

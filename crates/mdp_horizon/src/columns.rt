@@ -1,12 +1,12 @@
 ghost use Rattle.std.specs.Prelude.{◌≡◌, ◌<◌, ◌≤◌, ◌^◌, length, map, pos, ◌<ℤ◌, unsigned_abs, IfOk};
 ghost use Rattle.mdp_spec.specs.Mdp.{states_of, choices_at};
 ghost use Rattle.mdp_horizon.specs.Objective.{earns};
-ghost use Rattle.mdp_horizon.specs.Columns.{stopped, ended, scaled_state, cover_at, follow_at, end_column, cover_next, follow_next, choices_next, shown};
+ghost use Rattle.mdp_horizon.specs.Columns.{stopped, ended, scaled_state, cover_at, follow_at, end_column, cover_next, follow_next, choices_next};
 ghost use Rattle.mdp_horizon.specs.BoundsCode.{plain_choices, plain_objective, values_of, IsAsked, AreOf};
 
 use crate::best::{covered, followed};
 use crate::bounds_objective::Objective;
-use crate::choice::{Arenas, ScaledChoice};
+use crate::choice::{Arenas, Choices};
 use crate::column::Column;
 use crate::leader::Leader;
 use crate::scaling::scaled;
@@ -85,18 +85,18 @@ impl Query<'_> {
         alloc: Global,
         arenas: Arenas<'b>,
         s: u32,
-    ) -> Result<Vec<ScaledChoice<'b>>, AllocError>
+    ) -> Result<Choices<'b>, AllocError>
         requires one { pos 0 <ℤ self.one }
         requires asked { IsAsked self.model.now (plain_objective self.objective) }
         requires state { s < states_of self.model.now }
-        ensures { IfOk result (λ xs. plain_choices xs.items ≡ scaled_state self.entry.one self.entry.model.now (plain_objective self.entry.objective) s) }
+        ensures { IfOk result (λ made. plain_choices made ≡ scaled_state self.entry.one self.entry.model.now (plain_objective self.entry.objective) s) }
     {
         let mut choices = Vec::with_capacity(alloc, self.model.choices(s) as usize)?;
         for c in 0..self.model.choices(s) {
             let start = self.earns(s, c);
             choices.push(scaled(arenas, &start, self.model.row(s, c), self.one)?)?;
         }
-        Ok(choices)
+        Choices::from_scaled(alloc, choices)
     }
 
     /// The choices of all states in whole numbers.
@@ -104,7 +104,7 @@ impl Query<'_> {
         self,
         alloc: Global,
         arenas: Arenas<'b>,
-    ) -> Result<Vec<Vec<ScaledChoice<'b>>>, AllocError>
+    ) -> Result<Vec<Choices<'b>>, AllocError>
         requires one { pos 0 <ℤ self.one }
         requires asked { IsAsked self.model.now (plain_objective self.objective) }
         ensures { IfOk result (λ rows. AreOf self.entry.one self.entry.model.now (plain_objective self.entry.objective) rows.items) }
@@ -130,7 +130,7 @@ impl Query<'_> {
     }
 
     /// The covering value of state `s`, from the column with a step less.
-    fn cover_at(self, choices: &[ScaledChoice<'_>], column: &Column, s: u32) -> Option<i128>
+    fn cover_at(self, choices: &Choices<'_>, column: &Column, s: u32) -> Option<i128>
         requires one { pos 0 <ℤ self.one }
         requires asked { IsAsked self.model.now (plain_objective self.objective) }
         requires state { s < states_of self.model.now }
@@ -146,7 +146,7 @@ impl Query<'_> {
     }
 
     /// The following value of state `s`, from the column with a step less, and its choice.
-    fn follow_at(self, choices: &[ScaledChoice<'_>], column: &Column, s: u32) -> Leader
+    fn follow_at(self, choices: &Choices<'_>, column: &Column, s: u32) -> Leader
         requires one { pos 0 <ℤ self.one }
         requires asked { IsAsked self.model.now (plain_objective self.objective) }
         requires state { s < states_of self.model.now }
@@ -169,7 +169,7 @@ impl Query<'_> {
     pub(crate) fn next(
         self,
         alloc: Global,
-        rows: &[Vec<ScaledChoice<'_>>],
+        rows: &[Choices<'_>],
         cover: &Column,
         follow: &Column,
     ) -> Result<Columns, AllocError>
@@ -189,54 +189,11 @@ impl Query<'_> {
             choices: Vec::with_capacity(alloc, states)?,
         };
         for s in 0..self.model.states() {
-            let choices = rows[s as usize].as_slice();
+            let choices = &rows[s as usize];
             let leader = self.follow_at(choices, follow, s);
             made.cover.push(alloc, self.cover_at(choices, cover, s))?;
             made.follow.push(alloc, leader.value)?;
             made.choices.push(leader.choice)?;
-        }
-        Ok(made)
-    }
-
-    /// The covering column with one step more.
-    pub(crate) fn cover_next(
-        self,
-        alloc: Global,
-        rows: &[Vec<ScaledChoice<'_>>],
-        column: &Column,
-    ) -> Result<Column, AllocError>
-        requires one { pos 0 <ℤ self.one }
-        requires asked { IsAsked self.model.now (plain_objective self.objective) }
-        requires rows { AreOf self.one self.model.now (plain_objective self.objective) rows.now }
-        requires column { length (values_of column.now) ≡ states_of self.model.now }
-        ensures { IfOk result (λ made. values_of made ≡ cover_next self.entry.dir self.entry.one self.entry.model.now (plain_objective self.entry.objective) (values_of column.now)) }
-    {
-        let mut made = Column::with_capacity(alloc, self.model.states() as usize)?;
-        for s in 0..self.model.states() {
-            let choices = rows[s as usize].as_slice();
-            made.push(alloc, self.cover_at(choices, column, s))?;
-        }
-        Ok(made)
-    }
-
-    /// The following column with one step more, without its choices.
-    pub(crate) fn follow_next(
-        self,
-        alloc: Global,
-        rows: &[Vec<ScaledChoice<'_>>],
-        column: &Column,
-    ) -> Result<Column, AllocError>
-        requires one { pos 0 <ℤ self.one }
-        requires asked { IsAsked self.model.now (plain_objective self.objective) }
-        requires rows { AreOf self.one self.model.now (plain_objective self.objective) rows.now }
-        requires column { length (values_of column.now) ≡ states_of self.model.now }
-        ensures { IfOk result (λ made. values_of made ≡ follow_next self.entry.dir self.entry.one self.entry.model.now (plain_objective self.entry.objective) (values_of column.now)) }
-    {
-        let mut made = Column::with_capacity(alloc, self.model.states() as usize)?;
-        for s in 0..self.model.states() {
-            let choices = rows[s as usize].as_slice();
-            let leader = self.follow_at(choices, column, s);
-            made.push(alloc, leader.value)?;
         }
         Ok(made)
     }

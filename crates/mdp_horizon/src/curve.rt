@@ -52,8 +52,9 @@ impl Query<'_> {
         let (lower, upper) = self.values_at(&cover, &follow, s);
         curve.push(Point { lower, upper })?;
         for done in 0..steps {
-            cover = self.cover_next(alloc, &rows, &cover)?;
-            follow = self.follow_next(alloc, &rows, &follow)?;
+            let next = self.next(alloc, &rows, &cover, &follow)?;
+            cover = next.cover;
+            follow = next.follow;
             let (lower, upper) = self.values_at(&cover, &follow, s);
             curve.push(Point { lower, upper })?;
         }

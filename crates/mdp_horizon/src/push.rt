@@ -1,4 +1,4 @@
-ghost use Rattle.std.specs.Prelude.{◌≡◌, ◌++◌, length, OnOk};
+ghost use Rattle.std.specs.Prelude.{◌≡◌, ◌++◌, ◌∷◌, decimal, length, OnOk};
 ghost use Rattle.mdp_spec.specs.Mdp.{states_of};
 ghost use Rattle.mdp_text.specs.{Answer.{Keeps}, Spelling.{line}};
 ghost use Rattle.mdp_horizon.specs.{Spelling.{choice_words, step_text, step_lines, answer_lines}, Answer.{lists, plain}};
@@ -9,13 +9,27 @@ use mdp_rows::Model;
 use mdp_text::Part::{Bytes, Whole};
 use mdp_text::{init_with, push_end, push_init, push_number, push_parts, push_values, push_word};
 
+/// Appends a blank and a choice.
+#[tactic(auto, using(std::proofs::lemmas::Fmt::decimal_digit))]
+#[inline(always)]
+fn push_choice(out: &mut Vec<u8>, choice: u32) -> Result<(), Memory>
+    ensures text { OnOk result (out.new.items ≡ out.old.items ++ 32 ∷ decimal choice) }
+    ensures front { Keeps out.old.items out.new.items }
+{
+    if choice < 10 {
+        out.extend_from_slice(&[b' ', b'0' + choice as u8])?;
+        return Ok(());
+    }
+    push_word(out, u64::from(choice))
+}
+
 /// Appends each choice behind a blank.
 fn push_choices(out: &mut Vec<u8>, choices: &[u32]) -> Result<(), Memory>
     ensures text { OnOk result (out.new.items ≡ out.old.items ++ choice_words choices.now) }
     ensures front { Keeps out.old.items out.new.items }
 {
     for choice in choices {
-        push_word(out, u64::from(*choice))?;
+        push_choice(out, *choice)?;
     }
     Ok(())
 }

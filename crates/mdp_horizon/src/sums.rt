@@ -2,9 +2,8 @@ ghost use Rattle.std.specs.Prelude.{◌≡◌, ◌<◌, ◌≤◌, ◌^◌, leng
 ghost use Rattle.mdp_horizon.specs.Scaled.{total_with, farthest_with, total_of, divided, farthest_from, farthest, start_to, trivial, rounded_sum};
 ghost use Rattle.mdp_horizon.specs.{Whole.{whole_at}, Past.{summed}, BoundsCode.{plain_choice, plain_terms, values_of, IsReady}};
 
-use crate::choice::{ScaledChoice, Term, Terms};
+use crate::choice::{ScaledChoice, Term};
 use crate::column::Column;
-use crate::short_sums::short_total;
 use crate::whole::{farther, plus, rounded, times};
 use mdp_rows::Dir;
 
@@ -39,7 +38,7 @@ fn farthest_with(side: Dir, column: &Column, far: i128, term: Term) -> Option<i1
 impl ScaledChoice<'_> {
     /// The start, and for each term its weight times the value of its target, with each product and each sum tested.
     #[inline(never)]
-    fn wide_total(&self, column: &Column) -> Option<i128>
+    fn total(&self, column: &Column) -> Option<i128>
         requires targets { All (λ t. t.target < length (values_of column.now)) (plain_terms self.now.terms) }
         requires narrow { unsigned_abs self.now.scale.start < 2 ^ 127 }
         ensures value { result ≡ total_of (values_of column.now) self.now.scale.start (plain_terms self.now.terms) }
@@ -50,22 +49,6 @@ impl ScaledChoice<'_> {
             total = total_with(column, total, self.terms.at(i))?;
         }
         Some(total)
-    }
-
-    /// The start, and for each term its weight times the value of its target.
-    #[inline(always)]
-    fn total(&self, column: &Column) -> Option<i128>
-        requires targets { All (λ t. t.target < length (values_of column.now)) (plain_terms self.now.terms) }
-        requires narrow { unsigned_abs self.now.scale.start < 2 ^ 127 }
-        ensures value { result ≡ total_of (values_of column.now) self.now.scale.start (plain_terms self.now.terms) }
-        ensures narrow { IfSome result (λ total. unsigned_abs total < 2 ^ 127) }
-    {
-        match (self.terms, column, i64::try_from(self.scale.start)) {
-            (Terms::Short(terms), Column::Short(values), Ok(start)) => {
-                Some(short_total(start, terms, values))
-            }
-            _ => self.wide_total(column),
-        }
     }
 
     /// The sum before it is divided; none where a term is too wide.

@@ -46,6 +46,16 @@ pub(crate) fn rounded(side: Dir, n: i128, d: i128) -> i128
     }
 }
 
+/// n/d, rounded up for `Max` and down for `Min`; none where that has more than 64 bits.
+#[inline(always)]
+pub(crate) fn short_rounded(side: Dir, n: i128, d: i64) -> Option<i64>
+    requires narrow { unsigned_abs n < 2 ^ 127 }
+    requires positive { pos 0 <ℤ d }
+    ensures { IfSome result (λ quotient. quotient ≡ rounded side n d) }
+{
+    i64::try_from(rounded(side, n, i128::from(d))).ok()
+}
+
 /// The greater number for `Max`, the smaller one for `Min`.
 pub(crate) fn farther(side: Dir, x: i128, y: i128) -> i128
     ensures { result ≡ farther side x y }

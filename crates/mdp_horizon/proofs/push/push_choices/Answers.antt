@@ -1,4 +1,4 @@
-use Rattle.std.proofs.{Common.{◌≡◌, ℕ, ◌+◌, ◌<◌, List, ◌∷◌, ◌++◌, length, take, get_or, decimal, ap, sym, ◌∙◌}, lemmas.List.{take_more, flat_map_more}}
+use Rattle.std.proofs.{Common.{◌≡◌, ℕ, ◌+◌, ◌<◌, List, ◌∷◌, ◌++◌, length, take, get_or, decimal, refl, ap, sym, ◌∙◌}, lemmas.List.{take_more, flat_map_more}}
 use Rattle.mdp_text.proofs.Fronts.{keeps_more}
 use Rattle.mdp_horizon.specs.Spelling.{choice_words}
 use Rattle.mdp_horizon.proofs.push.push_choices.Goals as goal
@@ -11,6 +11,6 @@ one_more old out new xs i n h e made next =
 
 pub loop-choice-preserved : goal.loop-choice-preserved
 loop-choice-preserved c = record {
-  made = one_more _ _ _ c.args.choices.now _ _ c.loop-choice-test.true c.from.ensures c.loop-choice.invariant.made (c.in_ok-push_word.ensures {u = tt}).text;
-  front = keeps_more _ _ _ c.loop-choice.invariant.front c.push_word.ensures.front;
+  made = one_more _ _ _ c.args.choices.now _ _ c.loop-choice-test.true refl c.loop-choice.invariant.made (c.in_ok-push_choice.ensures {u = tt}).text;
+  front = keeps_more _ _ _ c.loop-choice.invariant.front c.push_choice.ensures.front;
 }

@@ -1,15 +1,15 @@
 use Rattle.std.proofs.Common.{length, arith}
-use Rattle.mdp_horizon.specs.BoundsCode.{plain_objective, values_of}
+use Rattle.mdp_horizon.specs.BoundsCode.{plain_choices, plain_objective, values_of}
 use Rattle.mdp_horizon.proofs.Ready.{count_of, ready_state}
 use Rattle.mdp_horizon.proofs.columns.Query.cover_at.Goals as goal
 
 pub covered-requires-clause-ready : goal.covered-requires-clause-ready
 covered-requires-clause-ready c =
-    ready_state c.args.self.one c.args.self.model.now (plain_objective c.args.self.objective) c.args.s (length (values_of c.args.column.now)) c.args.choices.now c.known.ensures.mdp (omega arith) (omega arith)
+    ready_state c.args.self.one c.args.self.model.now (plain_objective c.args.self.objective) c.args.s (length (values_of c.args.column.now)) (plain_choices c.args.choices.now) c.known.ensures.mdp (omega arith) (omega arith)
     c.requires.choices
 
 pub covered-requires-clause-some : goal.covered-requires-clause-some
 covered-requires-clause-some c =
-    let n = count_of c.args.self.one c.args.self.model.now (plain_objective c.args.self.objective) c.args.s c.args.choices.now c.requires.choices in
+    let n = count_of c.args.self.one c.args.self.model.now (plain_objective c.args.self.objective) c.args.s (plain_choices c.args.choices.now) c.requires.choices in
     let some = c.known.ensures.mdp.choice c.args.s (omega arith) in
     omega (arith, n, some)

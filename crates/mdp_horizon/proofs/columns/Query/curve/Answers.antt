@@ -14,13 +14,13 @@ values_at-lower-requires-clause-follow c =
     let e = ap length (c.in_ok-follow.ensures {u = tt}) ∙ follow_states c.args.self.dir c.args.self.one c.args.self.model.now (plain_objective c.args.self.objective) 0 in
     omega (arith, e, c.requires.state)
 
-pub cover_next-requires-clause-column : goal.cover_next-requires-clause-column
-cover_next-requires-clause-column c =
+pub next-requires-clause-cover : goal.next-requires-clause-cover
+next-requires-clause-cover c =
     ap length (c.loop-done.invariant.covers)
     ∙ cover_states c.args.self.dir c.args.self.one c.args.self.model.now (plain_objective c.args.self.objective) c.loop-done.done
 
-pub follow_next-requires-clause-column : goal.follow_next-requires-clause-column
-follow_next-requires-clause-column c =
+pub next-requires-clause-follow : goal.next-requires-clause-follow
+next-requires-clause-follow c =
     ap length (c.loop-done.invariant.follows)
     ∙ follow_states c.args.self.dir c.args.self.one c.args.self.model.now (plain_objective c.args.self.objective) c.loop-done.done
 
@@ -30,7 +30,7 @@ values_at-lower-requires-in-loop-done-clause-cover c =
     let one = c.args.self.one in
     let m = c.args.self.model.now in
     let o = plain_objective c.args.self.objective in
-    let made = c.in_ok-cover-2.ensures {u = tt} ∙ ap (cover_next dir one m o) (c.loop-done.invariant.covers) ∙ cover_more dir one m o c.loop-done.done in
+    let made = (c.in_ok-next.ensures {u = tt}).cover ∙ ap (cover_next dir one m o) (c.loop-done.invariant.covers) ∙ cover_more dir one m o c.loop-done.done in
     let e = ap length (made) ∙ cover_states dir one m o (c.loop-done.done + 1) in
     omega (arith, e, c.requires.state)
 
@@ -40,7 +40,7 @@ values_at-lower-requires-in-loop-done-clause-follow c =
     let one = c.args.self.one in
     let m = c.args.self.model.now in
     let o = plain_objective c.args.self.objective in
-    let made = c.in_ok-follow-2.ensures {u = tt} ∙ ap (follow_next dir one m o) (c.loop-done.invariant.follows) ∙ follow_more dir one m o c.loop-done.done in
+    let made = (c.in_ok-next.ensures {u = tt}).follow ∙ ap (follow_next dir one m o) (c.loop-done.invariant.follows) ∙ follow_more dir one m o c.loop-done.done in
     let e = ap length (made) ∙ follow_states dir one m o (c.loop-done.done + 1) in
     omega (arith, e, c.requires.state)
 
@@ -50,8 +50,8 @@ loop-done-preserved c =
     let one = c.args.self.one in
     let m = c.args.self.model.now in
     let o = plain_objective c.args.self.objective in
-    let covers = c.in_ok-cover-2.ensures {u = tt} ∙ ap (cover_next dir one m o) (c.loop-done.invariant.covers) ∙ cover_more dir one m o c.loop-done.done in
-    let follows = c.in_ok-follow-2.ensures {u = tt} ∙ ap (follow_next dir one m o) (c.loop-done.invariant.follows)
+    let covers = (c.in_ok-next.ensures {u = tt}).cover ∙ ap (cover_next dir one m o) (c.loop-done.invariant.covers) ∙ cover_more dir one m o c.loop-done.done in
+    let follows = (c.in_ok-next.ensures {u = tt}).follow ∙ ap (follow_next dir one m o) (c.loop-done.invariant.follows)
     ∙ follow_more dir one m o c.loop-done.done in
     record {
       covers = covers;

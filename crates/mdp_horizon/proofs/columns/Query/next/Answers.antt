@@ -1,5 +1,5 @@
 use Rattle.std.proofs.Common.{◌∙◌, ap, arith}
-use Rattle.mdp_horizon.specs.{declared.leader.Leader.{Leader}, Columns.{cover_at, follow_at}, BoundsCode.{plain_choices, plain_objective, values_of}}
+use Rattle.mdp_horizon.specs.{declared.leader.Leader.{Leader}, Columns.{cover_at, follow_at}, BoundsCode.{plain_objective, values_of}}
 use Rattle.mdp_horizon.proofs.{More.{more}, Ready.{rows_length, rows_at}}
 use Rattle.mdp_horizon.proofs.columns.Query.next.Goals as goal
 
@@ -10,13 +10,11 @@ bounds-rows-s c =
 
 pub follow_at-leader-requires-clause-choices : goal.follow_at-leader-requires-clause-choices
 follow_at-leader-requires-clause-choices c =
-    ap plain_choices c.as_slice-choices.ensures.value
-    ∙ rows_at c.args.self.one c.args.self.model.now (plain_objective c.args.self.objective) c.args.rows.now c.loop-s.s c.index-rows-s.result c.requires.rows (omega arith) c.index-rows-s.is
+    rows_at c.args.self.one c.args.self.model.now (plain_objective c.args.self.objective) c.args.rows.now c.loop-s.s c.index-rows-s.result c.requires.rows (omega arith) c.index-rows-s.is
 
 pub cover_at-requires-clause-choices : goal.cover_at-requires-clause-choices
 cover_at-requires-clause-choices c =
-    ap plain_choices c.as_slice-choices.ensures.value
-    ∙ rows_at c.args.self.one c.args.self.model.now (plain_objective c.args.self.objective) c.args.rows.now c.loop-s.s c.index-rows-s.result c.requires.rows (omega arith) c.index-rows-s.is
+    rows_at c.args.self.one c.args.self.model.now (plain_objective c.args.self.objective) c.args.rows.now c.loop-s.s c.index-rows-s.result c.requires.rows (omega arith) c.index-rows-s.is
 
 pub loop-s-preserved : goal.loop-s-preserved
 loop-s-preserved c =

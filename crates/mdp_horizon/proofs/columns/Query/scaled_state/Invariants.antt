@@ -1,7 +1,7 @@
 use Rattle.std.proofs.Common.{◌≡◌, map, take}
 use Rattle.mdp_spec.specs.Mdp.{choices_at}
-use Rattle.mdp_horizon.specs.{Columns.{scaled_choice}, BoundsCode.{plain_choices, plain_objective}}
+use Rattle.mdp_horizon.specs.{Columns.{scaled_choice}, BoundsCode.{plain_choice, plain_objective}}
 use Rattle.mdp_horizon.proofs.columns.Query.scaled_state.Given as goal
 
 abbrev pub invariant-loop-c : goal.invariant-loop-c
-invariant-loop-c l = plain_choices l.choices.items ≡ map (scaled_choice l.fn.self.one (plain_objective l.fn.self.objective)) (take l.c (choices_at l.fn.self.model.now l.s))
+invariant-loop-c l = map plain_choice l.choices.items ≡ map (scaled_choice l.fn.self.one (plain_objective l.fn.self.objective)) (take l.c (choices_at l.fn.self.model.now l.s))

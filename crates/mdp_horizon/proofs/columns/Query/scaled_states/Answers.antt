@@ -1,12 +1,10 @@
-use Rattle.std.proofs.Common.{◌∙◌, List, Vec, map, ap}
-use Rattle.std.specs.Global.{Global}
-use Rattle.mdp_horizon.specs.{declared.choice.ScaledChoice.{ScaledChoice}, Columns.{scaled_state}, BoundsCode.{plain_choices, plain_objective}}
+use Rattle.std.proofs.Common.{◌∙◌, List, map, ap}
+use Rattle.mdp_horizon.specs.{declared.choice.Choices.{Choices}, Columns.{scaled_state}, BoundsCode.{plain_choices, plain_objective}}
 use Rattle.mdp_horizon.proofs.More.{seen_more}
 use Rattle.mdp_horizon.proofs.columns.Query.scaled_states.Goals as goal
 
 pub loop-s-preserved : goal.loop-s-preserved
 loop-s-preserved c =
-    let seen = λ (v : Vec ScaledChoice Global). plain_choices v.items in
-    ap (λ (rows : List (Vec ScaledChoice Global)). map seen rows) (c.in_ok-push.ensures {u = tt}).items
-    ∙ seen_more seen (scaled_state c.args.self.one c.args.self.model.now (plain_objective c.args.self.objective)) c.loop-s.s c.loop-s.rows.items c.in_ok-scaled_state.field-0 c.loop-s.invariant
+    ap (λ (rows : List Choices). map plain_choices rows) (c.in_ok-push.ensures {u = tt}).items
+    ∙ seen_more plain_choices (scaled_state c.args.self.one c.args.self.model.now (plain_objective c.args.self.objective)) c.loop-s.s c.loop-s.rows.items c.in_ok-scaled_state.field-0 c.loop-s.invariant
     (c.in_ok-scaled_state.ensures {u = tt})

@@ -5,4 +5,4 @@ use Rattle.mdp_horizon.proofs.columns.Query.scaled_states.Given as goal
 
 abbrev pub invariant-loop-s : goal.invariant-loop-s
 invariant-loop-s l =
-    map (λ v. plain_choices v.items) l.rows.items ≡ map (scaled_state l.fn.self.one l.fn.self.model.now (plain_objective l.fn.self.objective)) (range_with_len 0 l.s)
+    map plain_choices l.rows.items ≡ map (scaled_state l.fn.self.one l.fn.self.model.now (plain_objective l.fn.self.objective)) (range_with_len 0 l.s)

@@ -1,6 +1,6 @@
 use Rattle.std.proofs.Common.{◌≡◌, ◌<◌, ◌^◌, drop, unsigned_abs}
 use Rattle.mdp_horizon.specs.{Scaled.{total_of}, BoundsCode.{plain_terms, values_of}}
-use Rattle.mdp_horizon.proofs.choice.ScaledChoice.wide_total.Given as goal
+use Rattle.mdp_horizon.proofs.choice.ScaledChoice.total.Given as goal
 
 abbrev pub invariant-loop-i : goal.invariant-loop-i
 invariant-loop-i l = record {
