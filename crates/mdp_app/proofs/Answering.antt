@@ -1,8 +1,8 @@
 -- What a run answers, from what was decided and what was written.
-use Rattle.std.proofs.Common.{◌≡◌, ℕ, inl, inr, Bool, true, false, List, Option, Some, None, Result, Ok, Err, IfOk, IsOk, refl, sym, ap, subst, ◌∙◌}
+use Rattle.std.proofs.Common.{◌≡◌, ◌⊎◌, ℕ, inl, inr, Bool, true, false, List, Option, Some, None, Result, Ok, Err, IfOk, IsOk, IsTrue, refl, sym, ap, subst, ◌∙◌}
 use Rattle.mdp_math.specs.Rational.{ℚ}
 use Rattle.mdp_spec.specs.{Labels.{place_of}, Mdp.{Mdp}}
-use Rattle.mdp_rows.specs.declared.dir.Dir.{Dir}
+use Rattle.mdp_rows.specs.{declared.dir.Dir.{Dir}, declared.rule.RowRule.{RowRule}}
 use Rattle.mdp_drn.specs.FromSource.{HadLeft}
 use Rattle.mdp_job.specs.Job.{PlainQuery, solve, witness, check, drill, horizon, total, policy, chain, discount, discount_check, bounds, bounds_until}
 use Rattle.mdp_job.specs.Job.{bounds_total, bounds_discount, bounds_witness, bounds_check, curve_until, curve_total, Asked, reads_model, reads_second}
