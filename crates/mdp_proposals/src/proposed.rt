@@ -32,7 +32,7 @@ pub fn numbers(alloc: Global, states: u32, values: &[u32]) -> Result<Vec<u32>, A
     Ok(list)
 }
 
-/// The fractions of values in units of 1 over `one`, one for each state; 0 where there is none.
+/// The fractions of values in units of 1 over `one`, one for each state; 0 where there is none. States often have the value of the one before.
 pub fn fractions(
     alloc: Global,
     states: u32,
@@ -42,8 +42,13 @@ pub fn fractions(
     ensures each { IfOk result (λ list. length list.items ≡ states) }
 {
     let mut list = vec![in alloc; Frac::whole(0); states as usize]?;
+    let (mut last, mut same) = (0, Frac::whole(0));
     for place in 0..list.len().min(values.len()) {
-        list[place] = fraction(values[place], one);
+        if values[place] != last {
+            last = values[place];
+            same = fraction(last, one);
+        }
+        list[place] = same;
     }
     Ok(list)
 }

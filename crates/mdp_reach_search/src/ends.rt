@@ -74,6 +74,9 @@ pub fn led_policy(
     requires { AreEndsOf model.now ends.now }
 {
     let mut choices = with_picked(alloc, picked, given)?;
+    if picked.is_empty() {
+        return Ok(choices);
+    }
     let exits = exits_of(alloc, model.states(), picked)?;
     let inward = toward_targets(alloc, model, ends, &exits)?;
     for s in 0..model.states() {

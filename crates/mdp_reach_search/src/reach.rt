@@ -4,7 +4,7 @@ ghost use Rattle.std.specs.Prelude.{◌≡◌, length};
 ghost use Rattle.mdp_spec.specs.Mdp.{states_of};
 
 use crate::columns::{Columns, Sought};
-use crate::decided::decide;
+use crate::decided::{Decided, decide};
 use crate::ends::{joined_nodes, led_policy, single_nodes, with_picked};
 use crate::layout::{Earning, Layout};
 use crate::ranks::{max_ranks, min_ranks};
@@ -103,7 +103,41 @@ fn proposed(
     })
 }
 
-/// Bounds of the greatest probabilities: the states of an end component share one.
+/// Bounds where each state is a node, without ranks.
+fn single(
+    alloc: Global,
+    model: &Model,
+    decided: &Decided,
+    dir: Dir,
+    digits: u32,
+) -> Result<ProposedReach, AllocError> {
+    let nodes = single_nodes(alloc, model.states())?;
+    let sought = sought_of(model, &decided.known, &nodes, dir, digits);
+    let columns = sought.columns(alloc, true)?;
+    let choices = with_picked(alloc, columns.picked(dir), &decided.choices)?;
+    proposed(alloc, sought, &columns, choices)
+}
+
+/// Bounds of the greatest probabilities, without ranks: the states of an end component share one. Where the graph decides all there is none to look for.
+fn joined(
+    alloc: Global,
+    model: &Model,
+    decided: &Decided,
+    digits: u32,
+) -> Result<ProposedReach, Memory> {
+    if decided.known.iter().all(|value| value.units().is_some()) {
+        return Ok(single(alloc, model, decided, Dir::Max, digits)?);
+    }
+    let ends = end_components(alloc, model)?;
+    let nodes = joined_nodes(alloc, model, &ends, &decided.known)?;
+    let sought = sought_of(model, &decided.known, &nodes, Dir::Max, digits);
+    let columns = sought.columns(alloc, true)?;
+    let picked = &columns.lower.picked;
+    let choices = led_policy(alloc, model, &ends, picked, &decided.choices)?;
+    Ok(proposed(alloc, sought, &columns, choices)?)
+}
+
+/// Bounds of the greatest probabilities.
 fn greatest(
     alloc: Global,
     model: &Model,
@@ -113,13 +147,7 @@ fn greatest(
     requires { length goals.now ≡ states_of model.now }
 {
     let decided = decide(alloc, model, goals, Dir::Max)?;
-    let ends = end_components(alloc, model)?;
-    let nodes = joined_nodes(alloc, model, &ends, &decided.known)?;
-    let sought = sought_of(model, &decided.known, &nodes, Dir::Max, digits);
-    let columns = sought.columns(alloc, true)?;
-    let picked = &columns.lower.picked;
-    let choices = led_policy(alloc, model, &ends, picked, &decided.choices)?;
-    let mut near = proposed(alloc, sought, &columns, choices)?;
+    let mut near = joined(alloc, model, &decided, digits)?;
     if !near.take_ranks(alloc, model, goals)? {
         near.forget_lower();
         near.take_ranks(alloc, model, goals)?;
@@ -132,11 +160,7 @@ fn least(alloc: Global, model: &Model, goals: &Marks, digits: u32) -> Result<Pro
     requires { length goals.now ≡ states_of model.now }
 {
     let decided = decide(alloc, model, goals, Dir::Min)?;
-    let nodes = single_nodes(alloc, model.states())?;
-    let sought = sought_of(model, &decided.known, &nodes, Dir::Min, digits);
-    let columns = sought.columns(alloc, true)?;
-    let choices = with_picked(alloc, &columns.upper.picked, &decided.choices)?;
-    let mut near = proposed(alloc, sought, &columns, choices)?;
+    let mut near = single(alloc, model, &decided, Dir::Min, digits)?;
     near.ranks = min_ranks(alloc, model, goals, &near.lower)?;
     Ok(near)
 }

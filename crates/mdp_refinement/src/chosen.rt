@@ -15,6 +15,7 @@ pub(crate) struct Spread {
 /// The row of each node.
 #[derive(Drop)]
 pub(crate) struct Chosen {
+    policy: Vec<usize>,
     rows: Vec<FloatRow>,
     entries: Vec<(u32, f64)>,
 }
@@ -35,17 +36,23 @@ impl Chosen {
     /// No row yet.
     pub(crate) fn empty(alloc: Global) -> Chosen {
         Chosen {
+            policy: Vec::new(alloc),
             rows: Vec::new(alloc),
             entries: Vec::new(alloc),
         }
     }
 
-    /// Takes a policy's rows in the place of those before.
+    /// Takes a policy's rows in the place of those before, unless these are the same.
     pub(crate) fn take(
         &mut self,
         component: &Component,
         policy: &[usize],
     ) -> Result<(), AllocError> {
+        if self.policy.as_slice() == policy {
+            return Ok(());
+        }
+        self.policy.clear();
+        self.policy.extend_from_slice(policy)?;
         self.rows.clear();
         self.entries.clear();
         for at in policy {

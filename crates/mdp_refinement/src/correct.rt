@@ -6,7 +6,7 @@ use crate::convert::to_float;
 use crate::evaluate::Evaluation;
 use crate::graph::Graph;
 use crate::leaving::Leaving;
-use crate::lists::{item_at, number};
+use crate::lists::{greatest_size, item_at, number};
 use std::alloc::{AllocError, Global};
 
 /// Components of more nodes are swept before policies are evaluated.
@@ -41,10 +41,14 @@ const MOST_IMPROVEMENTS: u32 = 16;
 /// A row that gains less than this part of a unit is no better than the policy's, unless the search is told to look more closely, or less.
 const SMALL_GAIN: f64 = 4e-3;
 
+/// A row that earns less than the policy's by more than so many times the greatest value isn't tried in a sweep.
+const FAR: f64 = 64.0;
+
 /// What sums of floats may lose in an improvement, as a part of a node's value.
 const GAIN_LOSS: f64 = 1e-13;
 
-/// What each row earns over a gain, whether greater values are better or less, and whether nodes are swept.
+/// What each row earns over a gain, whether greater values are better or less, whether nodes are swept, and by how much less than the policy's a row earns
+/// that isn't tried.
 #[derive(Clone, Copy)]
 struct Earning<'a> {
     component: &'a Component,
@@ -52,12 +56,18 @@ struct Earning<'a> {
     gain: f64,
     sense: f64,
     is_swept: bool,
+    far: f64,
 }
 
 impl Earning<'_> {
     /// What a row earns.
     fn of(self, at: usize) -> f64 {
         item_at(self.gains, at, 0.0) - self.gain
+    }
+
+    /// Whether a row earns so much less than another one that values can't make it better.
+    fn is_far(self, at: usize, chosen: usize) -> bool {
+        (self.of(chosen) - self.of(at)) * self.sense > self.far
     }
 
     /// What a row has over the value of its node, times `sense`.
@@ -82,7 +92,7 @@ impl Earning<'_> {
         let mut best = (chosen, own);
         let mut most = self.rank(chosen, own) + least;
         for at in from..to {
-            if at != chosen {
+            if at != chosen && !self.is_far(at, chosen) {
                 let more = self.over(at, values);
                 let rank = self.rank(at, more);
                 if rank > most {
@@ -136,6 +146,7 @@ pub(crate) struct Corrector<'a> {
     pub(crate) values: Vec<f64>,
     pub(crate) gain: f64,
     pub(crate) small_gain: f64,
+    far: f64,
     is_sweeping: bool,
     earned: Vec<f64>,
     evaluation: Evaluation<'a>,
@@ -160,6 +171,7 @@ impl<'a> Corrector<'a> {
             values: vec![in alloc; 0.0; nodes]?,
             gain: 0.0,
             small_gain: SMALL_GAIN,
+            far: f64::INFINITY,
             is_sweeping: nodes > FEW_NODES,
             earned: vec![in alloc; 0.0; nodes]?,
             evaluation: Evaluation::new(alloc, component),
@@ -178,6 +190,7 @@ impl<'a> Corrector<'a> {
             gain: self.gain,
             sense: self.sense,
             is_swept,
+            far: self.far,
         }
     }
 
@@ -209,6 +222,14 @@ impl<'a> Corrector<'a> {
         spread.size(mean)
     }
 
+    /// Has rows tried that the values may make better. Where these are 0 they are to become no greater than before.
+    fn look_far(&mut self) {
+        let size = greatest_size(&self.values);
+        if size > 0.0 {
+            self.far = FAR * size;
+        }
+    }
+
     /// Sweeps along the policy's rows. What they are wrong by then.
     fn follow(&mut self, gains: &[f64]) -> f64 {
         self.earn(gains);
@@ -222,6 +243,7 @@ impl<'a> Corrector<'a> {
     fn sweep_round(&mut self, gains: &[f64], first: usize) -> Result<(bool, f64), AllocError> {
         let mut is_changed = false;
         for _ in 0..first {
+            self.look_far();
             let earning = self.earning(gains, true);
             if earning.improve(0.0, &mut self.values, &mut self.policy) {
                 is_changed = true;
@@ -301,6 +323,7 @@ impl<'a> Corrector<'a> {
                 return Ok(true);
             }
         }
+        self.far = f64::INFINITY;
         self.by_policies(alloc, gains)
     }
 }

@@ -7,8 +7,8 @@ use crate::component::Component;
 use crate::convert::{nearest, to_float};
 use crate::correct::Corrector;
 use crate::graph::Graph;
-use crate::lists::{put, put_each, set_at};
-use crate::rows::Rows;
+use crate::lists::{greatest_size, item_at, put, put_each, set_at};
+use crate::rows::{Rows, WholeRow};
 use crate::strong::Components;
 use crate::value::{Value, value_at};
 use crate::whole::divided;
@@ -32,6 +32,9 @@ const MOST_STALE: u32 = 3;
 
 /// Gains that lie no further apart than so many units are near enough.
 const NEAR: i128 = 3;
+
+/// By how many times a correction, and a unit, one row may come nearer to another one.
+const FAR: f64 = 6.0;
 
 /// Of no more nodes the bias is corrected once more then, so that its simplest values may be found.
 const FEW_NODES: usize = 1000;
@@ -65,7 +68,8 @@ impl Range {
 }
 
 /// A search for the gain of an end component: about what each row earns over a gain and a bias; of each node the row that earns most; the nearest bounds, and
-/// how many corrections since then brought them hardly nearer.
+/// how many corrections since then brought them hardly nearer. A row that earned less than that of its node by more than `far` earns less after the
+/// corrections since then too, and isn't measured.
 #[derive(Drop)]
 struct Refinement<'a> {
     rows: &'a Rows,
@@ -74,6 +78,8 @@ struct Refinement<'a> {
     gain: i128,
     best: Range,
     stale: u32,
+    far: f64,
+    has_far: bool,
 }
 
 /// Puts the values of a component's nodes less so much.
@@ -98,11 +104,19 @@ impl Refinement<'_> {
         self.best.width() <= NEAR
     }
 
+    /// What a row has over a bias, in its denominator times a unit. None past 128 bits. The first bias is 0.
+    fn excess(&self, row: &WholeRow, bias: &[Value]) -> Option<i128> {
+        if self.best.upper == i128::MAX {
+            return Some(row.reward);
+        }
+        self.rows.excess(row, bias)
+    }
+
     /// Measures the row at a place over a bias. What it gains: its reward, and what it makes of the bias over that of its node. None past 128 bits.
     fn measure_row(&mut self, component: &Component, at: usize, bias: &[Value]) -> Option<Range> {
         let row = self.rows.row(component.pick_at(at)?)?;
         let due = row.denominator.checked_mul(self.gain)?;
-        let over = self.rows.excess(row, bias)?.checked_sub(due)?;
+        let over = self.excess(row, bias)?.checked_sub(due)?;
         let (more, rest) = divided(over, row.denominator)?;
         let lower = self.gain.checked_add(more)?;
         let earned = to_float(over) / to_float(row.denominator);
@@ -121,11 +135,17 @@ impl Refinement<'_> {
         bias: &[Value],
     ) -> Option<Range> {
         let (from, to) = component.range_of(place);
+        let chosen = item_at(&self.policy, place, 0);
+        let least = item_at(&self.earned, chosen, 0.0) - self.far;
         let mut best = Range {
             upper: i128::MIN,
             lower: i128::MIN,
         };
         for at in from..to {
+            if item_at(&self.earned, at, 0.0) < least {
+                self.has_far = true;
+                continue;
+            }
             let own = self.measure_row(component, at, bias)?;
             if own.lower > best.lower {
                 set_at(&mut self.policy, place, at);
@@ -152,9 +172,13 @@ impl Refinement<'_> {
 
     /// Measures the rows over a bias, and keeps that for each bound of the gain that is as near as ever. Whether all were measured.
     fn measure(&mut self, component: &Component, bias: &[Value], found: &mut EndGains) -> bool {
+        self.has_far = false;
         let Some(range) = self.measure_all(component, bias) else {
             return false;
         };
+        if !self.has_far {
+            self.far = 0.0;
+        }
         let (nodes, less) = (&component.nodes, reference(component, bias));
         let before = self.best.width();
         if range.upper <= self.best.upper {
@@ -192,6 +216,7 @@ impl Refinement<'_> {
             return Ok(false);
         };
         self.gain = self.gain.saturating_add(more);
+        self.far += FAR * (greatest_size(&corrector.values) + corrector.gain.abs() + 1.0);
         Ok(component.add(&corrector.values, bias) && self.measure(component, bias, found))
     }
 
@@ -235,6 +260,7 @@ impl Refinement<'_> {
                 break;
             }
             put_relative(bias, component, &found.bias, 0);
+            self.far = f64::INFINITY;
             chance *= RARER;
         }
         if component.ending > 0.0 && component.nodes.len() <= FEW_NODES {
@@ -276,6 +302,8 @@ impl EndGains {
                 lower: i128::MIN,
             },
             stale: 0,
+            far: f64::INFINITY,
+            has_far: false,
         };
         refinement.run(alloc, component, bias, self)?;
         self.width = self.width.max(refinement.best.width());
