@@ -90,15 +90,7 @@ impl Asked<'_> {
             bounds: found.bounds,
             marks,
         };
-        Ok(certificate_of(
-            model,
-            self.dir,
-            stay,
-            label,
-            self.threshold,
-            start,
-            lists,
-        ))
+        Ok(certificate_of(model, self.dir, stay, label, self.threshold, start, lists))
     }
 
     /// The text of a subsystem from this start to these goals on what is left of the model for the way, or its refusal.
