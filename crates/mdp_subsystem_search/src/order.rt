@@ -5,7 +5,7 @@ ghost use Rattle.mdp_spec.specs.Mdp.{states_of};
 
 use crate::floats::{float_at, floats_of, least_choice};
 use crate::visits::visits_of;
-use crate::walk::walk_from;
+use crate::walk::Ways;
 use mdp_bounds::ReachBoundsCert;
 use mdp_refinement::put;
 use mdp_rows::{Dir, Marks, Model};
@@ -109,7 +109,13 @@ pub(crate) fn order_of(
     let values = floats_of(alloc, &cert.lower)?;
     let policy = policy_of(alloc, model, dir, &cert.choices, &values)?;
     let may_pass = passable(alloc, states, kept, &values)?;
-    let walk = walk_from(alloc, model, start, dir, &policy, &may_pass)?;
+    let ways = Ways {
+        model,
+        dir,
+        policy: &policy,
+        may_pass: &may_pass,
+    };
+    let walk = ways.walk_from(alloc, start)?;
     let visits = visits_of(alloc, model, start, &policy, &walk)?;
     let weights = weights_of(alloc, states, &walk, &visits, &values)?;
     all_weighed(alloc, states, kept, &weights)

@@ -18,15 +18,17 @@ const REMOVAL_ENTRIES: u64 = 33_554_432;
 /// The most attempts.
 const MOST_ATTEMPTS: u32 = 1_000_000;
 
-/// How often as many states as may go by their weights are taken out at once, and by what part of what the lower value is over the threshold.
-const LIGHT_ROUNDS: u32 = 40;
+/// How often as many states as may go by their weights are taken out at once.
+const LIGHT_ROUNDS: u32 = 60;
 
-const PART_OF_SPARE: f64 = 0.99;
+/// Up to what part of what the lower value of the start is over the threshold they weigh together; and by how much this part falls where they have to stay.
+const FIRST_PART: f64 = 0.99;
 
-/// How many digits attempts have.
-const ATTEMPT_DIGITS: u32 = 12;
+const LEAST_PART: f64 = 0.01;
 
-/// The digits with which the bounds of what is left are sought at the end, fewest first.
+const FALL: f64 = 0.3;
+
+/// How many digits more than the threshold takes to differ from 0 the bounds of what is left have at the end, fewest first.
 const END_DIGITS: [u32; 3] = [4, 6, 9];
 
 /// A copy of marks.
@@ -79,7 +81,7 @@ impl Query<'_, '_> {
         ensures { IfOk result (λ _. IsFound self.now.dir self.now.model.now self.now.goals.now self.now.start self.now.threshold found.new) }
     {
         let fewer = cleared(alloc, self.model.states(), &found.kept, piece)?;
-        match self.attempt(alloc, &fewer, ATTEMPT_DIGITS, room)? {
+        match self.attempt(alloc, &fewer, self.attempt_digits(), room)? {
             Some(cert) => {
                 *found = Found { kept: fewer, cert };
                 Ok(true)
@@ -122,7 +124,7 @@ impl Query<'_, '_> {
         let Found { kept, cert } = found;
         let mut room = Room::new(0);
         for digits in END_DIGITS {
-            if let Some(short) = self.attempt(alloc, &kept, digits, &mut room)? {
+            if let Some(short) = self.attempt(alloc, &kept, self.digits_more(digits), &mut room)? {
                 return Ok(Found { kept, cert: short });
             }
         }
@@ -146,21 +148,42 @@ impl Query<'_, '_> {
     /// What the lower value of the start is over the threshold, nearly.
     fn spare(&self, found: &Found) -> f64 {
         let lower = item_at(&found.cert.lower, self.start as usize, self.threshold);
-        PART_OF_SPARE * (float_of(&lower) - float_of(&self.threshold))
+        float_of(&lower) - float_of(&self.threshold)
     }
 
-    /// What is left when the states that the start doesn't lead to are taken out, and then, again and again, as many as may go by their weights.
+    /// Takes out the states that the start doesn't lead to, and as many as weigh no more than a part of what the lower value is over the threshold. Whether
+    /// there are such, and what is left still comes to the threshold.
+    fn take_light(
+        &self,
+        alloc: Global,
+        found: &mut Found,
+        part: f64,
+        room: &mut Room,
+    ) -> Result<bool, Memory>
+        requires { IsFound self.now.dir self.now.model.now self.now.goals.now self.now.start self.now.threshold found.old }
+        ensures { IfOk result (λ _. IsFound self.now.dir self.now.model.now self.now.goals.now self.now.start self.now.threshold found.new) }
+    {
+        let order = self.order(alloc, found)?;
+        let light = light_states(alloc, &order, part * self.spare(found))?;
+        if light.is_empty() {
+            return Ok(false);
+        }
+        self.take_out(alloc, found, &light, room)
+    }
+
+    /// What is left when light states are taken out again and again: first those alone that the start doesn't lead to.
     fn without_light(&self, alloc: Global, found: Found, room: &mut Room) -> Result<Found, Memory>
         requires { IsFound self.now.dir self.now.model.now self.now.goals.now self.now.start self.now.threshold found }
         ensures { IfOk result (IsFound self.now.dir self.now.model.now self.now.goals.now self.now.start self.now.threshold) }
     {
         let mut left = found;
-        for round in 0..LIGHT_ROUNDS {
-            let order = self.order(alloc, &left)?;
-            let amount = if round == 0 { -1.0 } else { self.spare(&left) };
-            let light = light_states(alloc, &order, amount)?;
-            let is_out = !light.is_empty() && self.take_out(alloc, &mut left, &light, room)?;
-            if !is_out && round > 0 {
+        self.take_light(alloc, &mut left, -1.0, room)?;
+        let mut part = FIRST_PART;
+        for _ in 0..LIGHT_ROUNDS {
+            if !self.take_light(alloc, &mut left, part, room)? {
+                part *= FALL;
+            }
+            if part < LEAST_PART || room.is_spent() {
                 return Ok(left);
             }
         }

@@ -12,9 +12,6 @@ use std::alloc::Global;
 /// How many entries trials look at in all.
 const TRIAL_ENTRIES: u64 = 33_554_432;
 
-/// How many digits trials have.
-const TRIAL_DIGITS: u32 = 12;
-
 impl Query<'_, '_> {
     /// Whether it is shown that without a kept state the best probability is below the threshold.
     fn is_needed(
@@ -30,7 +27,7 @@ impl Query<'_, '_> {
     {
         let mut others = copied(alloc, self.model.states(), kept)?;
         others.set(s, false);
-        self.falls_short(alloc, &others, TRIAL_DIGITS, room)
+        self.falls_short(alloc, &others, self.attempt_digits(), room)
     }
 
     /// Which of the kept states were shown to be needed, as far as there is room for trials.

@@ -1,85 +1,134 @@
 //! Which kept states the start leads to.
 
-ghost use Rattle.std.specs.{Prelude.{◌≡◌, ◌<◌, length}, List.{All}};
-ghost use Rattle.mdp_spec.specs.Mdp.{states_of, choices_at};
-
-use mdp_refinement::{flag_at, item_at, number_at, put};
+use mdp_refinement::{flag_at, number_at, put};
 use mdp_rows::{Dir, Model};
 use std::alloc::{AllocError, Global};
 
-/// The states that were found, in their order, and which these are.
+/// A state whose choices are followed up to one, and the row of that one up to a place.
+#[derive(Clone, Copy)]
+struct Frame {
+    state: u32,
+    choice: u32,
+    last: u32,
+    place: usize,
+}
+
+/// What comes next at a state: a target, the row of the next choice, or nothing more.
+enum Next {
+    Target(u32),
+    Row,
+    End,
+}
+
+impl Frame {
+    /// The next target at its state.
+    fn next(&self, model: &Model) -> Next {
+        if self.state >= model.states() || self.choice > self.last {
+            return Next::End;
+        }
+        if self.choice >= model.choices(self.state) {
+            return Next::End;
+        }
+        let targets = model.row(self.state, self.choice).targets;
+        if self.place < targets.len() {
+            Next::Target(targets[self.place])
+        } else {
+            Next::Row
+        }
+    }
+
+    /// Behind the next target.
+    fn behind(self) -> Frame {
+        Frame {
+            place: self.place.saturating_add(1),
+            ..self
+        }
+    }
+
+    /// At the row of the next choice.
+    fn at_next_row(self) -> Frame {
+        Frame {
+            choice: self.choice.saturating_add(1),
+            place: 0,
+            ..self
+        }
+    }
+}
+
+/// Which choices are followed, and which states may be passed.
+#[derive(Clone, Copy)]
+pub(crate) struct Ways<'a> {
+    pub model: &'a Model,
+    pub dir: Dir,
+    pub policy: &'a [u32],
+    pub may_pass: &'a [bool],
+}
+
+/// The states that were found, those whose targets are followed, and those that were left, in that order.
 #[derive(Drop)]
 struct Walk {
-    states: Vec<u32>,
     is_found: Vec<bool>,
+    frames: Vec<Frame>,
+    left: Vec<u32>,
 }
 
-impl Walk {
-    /// Finds a state that it may pass.
-    fn find(&mut self, s: u32, may_pass: &[bool]) -> Result<(), AllocError> {
-        if !flag_at(may_pass, s) || flag_at(&self.is_found, s) {
-            return Ok(());
+impl Ways<'_> {
+    /// The first choice to be followed at a state: for the greatest probability the policy's one, for the least one each.
+    fn frame_at(&self, s: u32) -> Frame {
+        let (choice, last) = match self.dir {
+            Dir::Max => (number_at(self.policy, s), number_at(self.policy, s)),
+            Dir::Min => (0, u32::MAX),
+        };
+        Frame {
+            state: s,
+            choice,
+            last,
+            place: 0,
         }
-        put(&mut self.is_found, s, true);
-        self.states.push(s)?;
+    }
+
+    /// Finds a state that may be passed.
+    fn find(&self, walk: &mut Walk, s: u32) -> Result<(), AllocError> {
+        if flag_at(self.may_pass, s) && !flag_at(&walk.is_found, s) {
+            put(&mut walk.is_found, s, true);
+            walk.frames.push(self.frame_at(s))?;
+        }
         Ok(())
     }
 
-    /// Finds each of the targets.
-    fn find_each(&mut self, targets: &[u32], may_pass: &[bool]) -> Result<(), AllocError> {
-        for t in targets {
-            self.find(*t, may_pass)?;
+    /// Follows the next target of a state, or leaves it.
+    fn follow(&self, walk: &mut Walk, frame: Frame) -> Result<(), AllocError> {
+        match frame.next(self.model) {
+            Next::Target(t) => {
+                walk.frames.push(frame.behind())?;
+                self.find(walk, t)
+            }
+            Next::Row => {
+                walk.frames.push(frame.at_next_row())?;
+                Ok(())
+            }
+            Next::End => {
+                walk.left.push(frame.state)?;
+                Ok(())
+            }
         }
-        Ok(())
     }
 
-    /// Finds the targets of each choice of a state.
-    fn find_by_all(&mut self, model: &Model, may_pass: &[bool], s: u32) -> Result<(), AllocError>
-        requires { s < states_of model.now }
-    {
-        for c in 0..model.choices(s) {
-            self.find_each(model.row(s, c).targets, may_pass)?;
+    /// The states that the start leads to by way of states that may be passed, each before those that it leads to, but for those on a way back.
+    pub(crate) fn walk_from(&self, alloc: Global, start: u32) -> Result<Vec<u32>, AllocError> {
+        let mut walk = Walk {
+            is_found: vec![in alloc; false; self.model.states() as usize]?,
+            frames: Vec::new(alloc),
+            left: Vec::new(alloc),
+        };
+        self.find(&mut walk, start)?;
+        for _ in 0..u64::MAX {
+            let Some(frame) = walk.frames.pop() else {
+                break;
+            };
+            self.follow(&mut walk, frame)?;
         }
-        Ok(())
+        walk.left.reverse();
+        Ok(walk.left)
     }
-}
-
-/// Where the policy leads from a state.
-pub(crate) fn policy_targets<'a>(model: &'a Model, policy: &[u32], s: u32) -> &'a [u32]
-    requires { s < states_of model.now }
-{
-    let choice = number_at(policy, s);
-    if choice < model.choices(s) {
-        model.row(s, choice).targets
-    } else {
-        &[]
-    }
-}
-
-/// The states that the start leads to by way of states that may be passed, nearest first: for the greatest probability by the policy's choices, for the least
-/// one by all.
-pub(crate) fn walk_from(
-    alloc: Global,
-    model: &Model,
-    start: u32,
-    dir: Dir,
-    policy: &[u32],
-    may_pass: &[bool],
-) -> Result<Vec<u32>, AllocError> {
-    let mut walk = Walk {
-        states: Vec::new(alloc),
-        is_found: vec![in alloc; false; model.states() as usize]?,
-    };
-    walk.find(start, may_pass)?;
-    for place in 0..model.states() {
-        let s = item_at(&walk.states, place as usize, model.states());
-        if s >= model.states() {
-            break;
-        }
-        match dir {
-            Dir::Max => walk.find_each(policy_targets(model, policy, s), may_pass)?,
-            Dir::Min => walk.find_by_all(model, may_pass, s)?,
-        }
-    }
-    Ok(walk.states)
 }

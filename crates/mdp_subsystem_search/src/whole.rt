@@ -14,9 +14,6 @@ use mdp_rows::Marks;
 use mdp_subsystem_rules::fewer_law;
 use std::alloc::{AllocError, Global};
 
-/// How many digits are tried first.
-const FEW_DIGITS: u32 = 12;
-
 /// The states that are no goals.
 fn others(alloc: Global, states: u32, goals: &Marks) -> Result<Marks, AllocError>
     requires { length goals.now ≡ states }
@@ -89,7 +86,7 @@ impl Query<'_, '_> {
     pub(crate) fn standing(&self, alloc: Global) -> Result<Standing, Memory>
         ensures { IfOk result (StandsSo self.now.dir self.now.model.now self.now.goals.now self.now.start self.now.threshold) }
     {
-        let few = self.standing_with(alloc, FEW_DIGITS)?;
+        let few = self.standing_with(alloc, self.attempt_digits())?;
         if !is_decided(&few) {
             return self.standing_with_most(alloc);
         }
