@@ -9,7 +9,7 @@ use Rattle.mdp_num.specs.{Numeral.{parts_of, terms_of, value_of, numeral_of}, de
 use Rattle.mdp_discount_rules.specs.Rules.{IsFactor}
 use Rattle.mdp_rows.specs.{declared.dir.Dir.{Dir}, declared.rule.RowRule.{RowRule}}
 use Rattle.mdp_app.specs.InRange.{IsInRange, asked_for}
-use Rattle.mdp_job.specs.Job.{PlainJob, solve, witness, check, drill, horizon, policy, discount, Asked}
+use Rattle.mdp_job.specs.Job.{PlainJob, drill, policy, Asked}
 use Rattle.mdp_job.specs.Words.{rows_of, word_at, rule_of, dir_of, check_of, query_of, solve_of, whole_word, can_draw, drill_by, drill_with, drill_of}
 use Rattle.mdp_job.specs.Words.{threshold_by, threshold_of, witness_reach_of, witness_until_of, witness_of, steps_of, horizon_of, total_of, policy_reach_of, policy_until_of, policy_of, chain_of}
 use Rattle.mdp_job.specs.Words.{below_one, factor_of, discount_of, discount_check_of, begins_with_zero, few_digits, digits_of, bounds_query_of, bounds_digits_of, bounds_best_of, bounds_until_of}

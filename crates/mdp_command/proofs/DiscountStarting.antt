@@ -1,24 +1,22 @@
 -- A no to a certificate of discounted rewards names rule 1 exactly where what the line `init` says is false.
-use Rattle.std.proofs.Common.{◌≡◌, ◌↔◌, ℕ, ◌<◌, Bool, true, false, cond, eqb, ◌&&◌, ltb-true, lt-ltb, inl, inr, List, length, Option, Some, None, refl, ap, sym, ◌∙◌}
+use Rattle.std.proofs.Common.{◌≡◌, ◌↔◌, ℕ, Bool, true, false, cond, eqb, ltb-true, lt-ltb, inl, inr, List, length, Option, Some, None, refl, ap, sym, ◌∙◌}
 use Rattle.std.proofs.lemmas.Bool.{and_parts}
 use Rattle.std.specs.Prelude.{nat_lt}
 use Rattle.mdp_math.specs.Rational.{ℚ}
 use Rattle.mdp_math.proofs.Booleans.{and-both}
 use Rattle.mdp_num.specs.OrderView.{equal_decides}
-use Rattle.mdp_spec.specs.{Mdp.{Mdp, states_of}, Bounds.{reward_at}, Row.{IsMdp}, Labels.{initial_of, place_of}}
+use Rattle.mdp_spec.specs.{Mdp.{states_of}, Bounds.{reward_at}, Labels.{initial_of, place_of}}
 use Rattle.mdp_text.specs.{declared.init.Init.{Init}, declared.init.Init.TheVariants.{Missing, Finite, Infinite, Start}}
 use Rattle.mdp_claims.specs.{declared.rule.Rule.TheVariants.{InitialState}, declared.verdict.Fault.{Fault}, declared.verdict.Verdict.{Verdict}}
 use Rattle.mdp_claims.specs.declared.verdict.Verdict.TheVariants as verdict
-use Rattle.mdp_farkas.specs.Initial.{init_fault, is_value}
+use Rattle.mdp_farkas.specs.Initial.{is_value}
 use Rattle.mdp_check.specs.Says.{IsValueAt, IsRewardAt}
 use Rattle.mdp_check.specs.Check as check
-use Rattle.mdp_check.proofs.Starting.{value_is, never, state_is, HoldsOrNamed, state_told, says_nothing, no_by}
-use Rattle.mdp_discount_rules.specs.Cert as exact
+use Rattle.mdp_check.proofs.Starting.{value_is, state_is, HoldsOrNamed, state_told, says_nothing, no_by}
 use Rattle.mdp_discount_rules.specs.Check as exact_check
 use Rattle.mdp_discount_rules.specs.Says as exact_says
 use Rattle.mdp_discount_rules.specs.Laws as exact_laws
 use Rattle.mdp_discount_rules.specs.{declared.answer.DiscountAnswer.{DiscountAnswer}, declared.answer.DiscountAnswer.TheVariants.{No, Size}}
-use Rattle.mdp_discount_bounds.specs.Cert as bounds
 use Rattle.mdp_discount_bounds.specs.Check as bounds_check
 use Rattle.mdp_discount_bounds.specs.Says as bounds_says
 use Rattle.mdp_discount_bounds.specs.Laws as bounds_laws

@@ -1,13 +1,13 @@
 -- Where an upper value of the best probability is below the threshold, no subsystem comes to it.
-use Rattle.std.proofs.{Common.{◌≡◌, ℕ, ◌<◌, ◌≤◌, Bool, true, List, refl, sym, ap, subst, arith}, Math.ListN.{replicate}}
+use Rattle.std.proofs.{Common.{◌≡◌, ℕ, ◌<◌, Bool, true, List, sym, subst, arith}, Math.ListN.{replicate}}
 use Rattle.std.proofs.lemmas.List.{get_or-replicate}
-use Rattle.mdp_math.specs.Rational.{ℚ, ◌+ℚ◌, ◌≤ℚ◌, ◌<ℚ◌}
+use Rattle.mdp_math.specs.Rational.{ℚ, ◌≤ℚ◌}
 use Rattle.mdp_math.proofs.Order.{≤ℚ_trans, ≤ℚ_refl, add-le-add_ℚ, clash_ℚ}
-use Rattle.mdp_spec.specs.{Mdp.{Mdp, states_of, value_at}, Row.{IsMdp}, Sub.{sub_of}, Tree.{Tree, IsStrategy, is_marked, unfolded}, Hit.{hit}}
+use Rattle.mdp_spec.specs.{Mdp.{Mdp, states_of}, Row.{IsMdp}, Sub.{sub_of}, Tree.{Tree, IsStrategy, is_marked, unfolded}, Hit.{hit}}
 use Rattle.mdp_spec.specs.Bounds.{part, SubMax, SubMin}
 use Rattle.mdp_spec.proofs.{Keeping.{unfolded_is_strategy}, Reach.{le_of_parts}, Subsystem.{stays-kept, sub-whole}}
 use Rattle.mdp_rows.specs.{declared.dir.Dir.{Dir}, declared.dir.Dir.TheVariants.{Max, Min}}
-use Rattle.mdp_subsystem_rules.specs.Fewer.{IsIncluded, ReachesMore}
+use Rattle.mdp_subsystem_rules.specs.Fewer.{ReachesMore}
 use Rattle.mdp_subsystem_rules.proofs.Fewer.{reaches_more}
 use Rattle.mdp_subsystem_bounds.specs.Rules.{Reaches}
 use Rattle.mdp_subsystem_search.specs.Shown.{IsBelow}

@@ -1,10 +1,10 @@
 -- The marks of a subsystem say which states are kept, and which of these are needed.
-use Rattle.std.proofs.Common.{◌≡◌, ℕ, ◌<◌, Bool, true, false, ◌&&◌, List, length, map, get_or, refl, sym, ap, ◌∙◌, arith}
+use Rattle.std.proofs.Common.{◌≡◌, ℕ, ◌<◌, Bool, true, false, ◌&&◌, List, length, get_or, refl, sym, ap, ◌∙◌, arith}
 use Rattle.std.proofs.lemmas.{Bool.{and_parts}, List.{length-map, get_or-map, ext_get_or}, List.FromFn.{length-map-range_with_len, get_or-map-range_with_len}}
 use Rattle.mdp_math.specs.Rational.{ℚ}
 use Rattle.mdp_spec.specs.{Mdp.{Mdp, states_of}, Tree.{is_marked}}
 use Rattle.mdp_rows.specs.declared.dir.Dir.{Dir}
-use Rattle.mdp_subsystem_bounds.specs.{Cert.{is_kept, kept_states}, declared.mark.Mark.{Mark}, declared.mark.Mark.TheVariants.{Out, Kept, Open}}
+use Rattle.mdp_subsystem_bounds.specs.{Cert.{is_kept, kept_states}, declared.mark.Mark.{Mark}, declared.mark.Mark.TheVariants.{Out}}
 use Rattle.mdp_subsystem_search.specs.Shown.{AreNeeded}
 use Rattle.mdp_command_bounds_search.specs.{WitnessDue.{is_needed, needed_states}, WitnessMarks.{mark_of, marks_of}}
 

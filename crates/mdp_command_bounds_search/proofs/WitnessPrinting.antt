@@ -1,5 +1,5 @@
 -- What is shown of a subsystem that was found: its certificate is accepted for the model, it has a text, and its marks are true.
-use Rattle.std.proofs.Common.{◌≡◌, ◌⊎◌, ℕ, ◌<◌, ◌≤◌, inl, inr, Bool, true, ◌&&◌, List, length, Option, Some, None, Ok, Err, IfOk, refl, sym, ap, ap₂, subst, ◌∙◌}
+use Rattle.std.proofs.Common.{◌≡◌, ◌⊎◌, ℕ, inl, inr, Bool, true, ◌&&◌, List, length, Option, Some, None, Ok, Err, IfOk, refl, ap, ap₂, subst, ◌∙◌}
 use Rattle.std.specs.Prelude.{All}
 use Rattle.mdp_math.specs.Rational.{ℚ, ◌≤ℚ◌}
 use Rattle.mdp_spec.specs.{Labels.{place_of, initial_of}, Mdp.{Mdp, states_of, value_at}, Row.{IsMdp}, Sub.{sub_of}}
@@ -9,15 +9,15 @@ use Rattle.mdp_bounds.specs.Reach.{IsReachBounds}
 use Rattle.mdp_cert.specs.Cert.{witness, are_names}
 use Rattle.mdp_check.specs.Check.{marks_by, way_by}
 use Rattle.mdp_check.proofs.Ways.{way_by_states}
-use Rattle.mdp_subsystem_bounds.specs.{Cert.{SubsystemClaim, Certificate, kept_states, Fits}, Check.{IsAccepted}, Laws.{AcceptedIsBound, IsReadBack}}
-use Rattle.mdp_subsystem_bounds.specs.{Rules.{AreSubsystemBounds}, Spelling.{text_of}}
+use Rattle.mdp_subsystem_bounds.specs.{Cert.{SubsystemClaim, Certificate, Fits}, Check.{IsAccepted}, Laws.{AcceptedIsBound, IsReadBack}}
+use Rattle.mdp_subsystem_bounds.specs.{Spelling.{text_of}}
 use Rattle.mdp_subsystem_search.specs.{Code.{IfBelow, IfUndecided}, Shown.{ones, AreNeeded, IsBelow, IsUndecided}, declared.subsystem.Subsystem.{Subsystem}}
 use Rattle.mdp_subsystem_search.specs.declared.subsystem.Unshown.{Unshown}
 use Rattle.mdp_subsystem_search.specs.declared.subsystem.Unshown.TheVariants as unshown
 use Rattle.mdp_job.specs.Refusal.{PlainRefusal, below, undecided, no_memory}
 use Rattle.mdp_command.specs.Said.{Said}
 use Rattle.mdp_command_bounds_search.specs.WitnessDue.{refusal_of, MarksAreTrue, IsEndDue}
-use Rattle.mdp_command_bounds_search.specs.{WitnessMarks.{marks_of, IsSized, lists_of, certificate_of}, WitnessShown.{IsBoundsWitnessPrinted}}
+use Rattle.mdp_command_bounds_search.specs.{WitnessMarks.{IsSized, lists_of, certificate_of}, WitnessShown.{IsBoundsWitnessPrinted}}
 use Rattle.mdp_command_bounds_search.proofs.{Printing.{marked_at}, Solved.{stays_there}, WitnessMarks.{kept-back, needed-marks}, WitnessSolved.{printed_text}}
 
 -- labels that were found are names

@@ -1,6 +1,5 @@
 -- What is due to `bounds` of a witness, what is shown of its text, and that where a text is due the best probability isn't below the threshold.
 use Rattle.std.proofs.Common.{◌≡◌, ◌⊎◌, ℕ, ◌<◌, ◌≤◌, inl, inr, Bool, List, length, Option, Some, None, Result, Ok, Err, IfOk, refl, sym, ap, subst, ◌∙◌}
-use Rattle.mdp_math.specs.Rational.{ℚ}
 use Rattle.mdp_spec.specs.{Labels.{initial_of}, Mdp.{Mdp, states_of}, Row.{IsMdp}}
 use Rattle.mdp_spec.proofs.Subsystem.{sub_is_mdp}
 use Rattle.mdp_rows.specs.{Limits.{IsModel}, declared.rule.RowRule.{RowRule}}
@@ -10,10 +9,10 @@ use Rattle.mdp_check.specs.Check.{goal_marks, stay_marks, way_by}
 use Rattle.mdp_check.proofs.Ways.{way_by_states}
 use Rattle.mdp_subsystem_bounds.specs.{Cert.{SubsystemClaim, Certificate, plain_claim, kept_states, Fits}, Check.{IsAccepted}, Laws.{RulesReach, AcceptedIsBound, IsReadBack}}
 use Rattle.mdp_subsystem_bounds.specs.{Reading.{outcome}, Spelling.{text_of}}
-use Rattle.mdp_job.specs.Refusal.{PlainRefusal, no_memory}
+use Rattle.mdp_job.specs.Refusal.{PlainRefusal}
 use Rattle.mdp_command.specs.{Files.{most_bytes, model_due, IsDueToModel}, Kinds.{subsystem_between}, Said.{Said}}
 use Rattle.mdp_command.proofs.{TrueClaims.{true_claim_of}, Working.{read_of_due}}
-use Rattle.mdp_command_bounds_search.specs.WitnessDue.{MarksAreTrue, IsAcceptedText, IsBelowSaid, IsUndecidedSaid, IsEndDue, IsDueAt, IsBoundsWitnessDue}
+use Rattle.mdp_command_bounds_search.specs.WitnessDue.{MarksAreTrue, IsAcceptedText, IsBelowSaid, IsEndDue, IsDueAt, IsBoundsWitnessDue}
 use Rattle.mdp_command_bounds_search.specs.WitnessLaws.{IsUndecidedAnswer, IsTextAnswer, TextExcludesRefusals, TextIsShown}
 use Rattle.mdp_command_bounds_search.specs.WitnessShown.{IsBoundsWitnessPrinted, IsBoundsWitnessShown}
 use Rattle.mdp_command_bounds_search.proofs.{WitnessBelow.{none_below}, WitnessLength.{text_short}}

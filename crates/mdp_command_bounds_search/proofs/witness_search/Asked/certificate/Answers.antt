@@ -1,4 +1,4 @@
-use Rattle.std.proofs.Common.{ℕ, List, length, ap, ◌∙◌}
+use Rattle.std.proofs.Common.{List, length, ap, ◌∙◌}
 use Rattle.mdp_command_bounds_search.proofs.WitnessMarks.{marks-count}
 use Rattle.mdp_subsystem_bounds.specs.declared.mark.Mark.{Mark}
 use Rattle.mdp_command_bounds_search.proofs.witness_search.Asked.certificate.Goals as goal

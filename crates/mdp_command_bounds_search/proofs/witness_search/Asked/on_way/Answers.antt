@@ -1,10 +1,9 @@
-use Rattle.std.proofs.Common.{◌≡◌, ◌⊎◌, ℕ, ◌<◌, inl, inr, List, length, Ok, Err, sym, ap, subst, ◌∙◌}
-use Rattle.mdp_spec.specs.Mdp.{Mdp, states_of}
+use Rattle.std.proofs.Common.{◌≡◌, ℕ, ◌<◌, sym, ap, subst, ◌∙◌}
+use Rattle.mdp_spec.specs.Mdp.{states_of}
 use Rattle.mdp_text.proofs.InitialState.{initial_below}
 use Rattle.mdp_cert.specs.Cert.{witness}
 use Rattle.mdp_check.proofs.{Accepting.{goals_count}, Ways.{way_by_states}}
 use Rattle.mdp_subsystem_bounds.specs.Plain.{plain}
-use Rattle.mdp_subsystem_search.specs.Shown.{ones}
 use Rattle.mdp_command.specs.Said.{said}
 use Rattle.mdp_command_bounds_search.specs.WitnessDue.{name_of, claim_by}
 use Rattle.mdp_command_bounds_search.proofs.WitnessPrinting.{names_there, sized_on, IsShown, text_due, printed, refused_due}
