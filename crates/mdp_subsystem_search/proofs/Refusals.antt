@@ -1,5 +1,5 @@
 -- What the errors of the exact query say of the search.
-use Rattle.std.proofs.Common.{◌≡◌, ℕ, Bool, List, Result, Ok, Err, refl, sym, subst, inl, inr}
+use Rattle.std.proofs.Common.{ℕ, Bool, List, Err, inl}
 use Rattle.mdp_math.specs.Rational.{ℚ}
 use Rattle.mdp_spec.specs.Mdp.{Mdp}
 use Rattle.mdp_spec.proofs.Reach.{reach_max_between, reach_min_between}

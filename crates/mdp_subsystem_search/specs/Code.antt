@@ -1,5 +1,4 @@
 -- What the code answers.
-use Rattle.std.specs.Prelude.{ℕ}
 use Rattle.mdp_math.specs.Rational.{ℚ}
 use Rattle.mdp_witness.specs.declared.subsystem.WitnessError.{WitnessError}
 use Rattle.mdp_witness.specs.declared.subsystem.WitnessError.TheVariants as refused

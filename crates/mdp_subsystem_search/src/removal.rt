@@ -13,7 +13,7 @@ use mdp_rows::Marks;
 use std::alloc::{AllocError, Global};
 
 /// How many entries attempts to take out states look at in all.
-const REMOVAL_ENTRIES: u64 = 33_554_432;
+const REMOVAL_ENTRIES: u64 = 67_108_864;
 
 /// The most attempts.
 const MOST_ATTEMPTS: u32 = 1_000_000;
@@ -21,10 +21,13 @@ const MOST_ATTEMPTS: u32 = 1_000_000;
 /// How often as many states as may go by their weights are taken out at once.
 const LIGHT_ROUNDS: u32 = 60;
 
-/// Up to what part of what the lower value of the start is over the threshold they weigh together; and by how much this part falls where they have to stay.
+/// Up to what part of what the lower value of the start is over the threshold they weigh together at first. Where they go that was too little: states on one
+/// way lose the goals the same. Where they have to stay it was too much.
 const FIRST_PART: f64 = 0.99;
 
 const LEAST_PART: f64 = 0.01;
+
+const GROWTH: f64 = 1.5;
 
 const FALL: f64 = 0.3;
 
@@ -180,9 +183,8 @@ impl Query<'_, '_> {
         self.take_light(alloc, &mut left, -1.0, room)?;
         let mut part = FIRST_PART;
         for _ in 0..LIGHT_ROUNDS {
-            if !self.take_light(alloc, &mut left, part, room)? {
-                part *= FALL;
-            }
+            let is_out = self.take_light(alloc, &mut left, part, room)?;
+            part *= if is_out { GROWTH } else { FALL };
             if part < LEAST_PART || room.is_spent() {
                 return Ok(left);
             }

@@ -1,11 +1,11 @@
-use Rattle.std.proofs.Common.{◌≡◌, ℕ, Bool, List, length, ap, ap₂, subst, sym, ◌∙◌}
-use Rattle.mdp_spec.specs.{Mdp.{Mdp, states_of}, Sub.{sub_of}}
+use Rattle.std.proofs.Common.{◌≡◌, ℕ, List, length, ap, ap₂, sym, ◌∙◌}
+use Rattle.mdp_spec.specs.{Mdp.{states_of}}
 use Rattle.mdp_spec.proofs.Subsystem.{sub-states}
 use Rattle.mdp_subsystem_rules.specs.Kept.{kept_marks}
 use Rattle.mdp_subsystem_rules.proofs.Kept.{length-kept_marks}
 use Rattle.mdp_reach.specs.Query.{Answer, HasOneEach}
 use Rattle.mdp_reach.specs.Query as reach
-use Rattle.mdp_witness.specs.{Code.{plain}, Shown.{kept_in, kept_of}}
+use Rattle.mdp_witness.specs.{Code.{plain}, Shown.{kept_in}}
 use Rattle.mdp_subsystem_search.proofs.Reached.{reached_by, sizes_on}
 use Rattle.mdp_subsystem_search.proofs.query.Query.answer_on.Goals as goal
 

@@ -1,4 +1,4 @@
-use Rattle.std.proofs.Common.{◌≡◌, true, false, true≢false, sym, ◌∙◌}
+use Rattle.std.proofs.Common.{true≢false, sym, ◌∙◌}
 use Rattle.mdp_spec.specs.Mdp.{states_of, value_at}
 use Rattle.mdp_math.proofs.Order.{clash_ℚ}
 use Rattle.mdp_subsystem_search.specs.Steps.{AreHeld}
