@@ -174,6 +174,8 @@ def split(text):
         name, *words = line.split(b" ")
         if name in (b"state", b"run"):
             first, last = int(words[0]), int(words[name == b"run"])
+            if last - first > 2**16:
+                raise ValueError(line)
             yield from ((s, words[1 + (name == b"run") :]) for s in range(first, last + 1))
         else:
             yield line
