@@ -278,3 +278,18 @@ def islands(parts, size):
             yield choice([0], *(((other % parts, size // 2), value) for other, value in others))
 
     return drn.explored(["cost"], (1, 0), lambda state: ["goal"] * (state[0] == 3), choices)
+
+
+def scattered(states):
+    """Three choices a state, each to three states that are drawn from all; with 1/100 the first one comes to a goal or to a trap, as is drawn."""
+    draw = random.Random(states)
+    ends = ["goal", "trap"]
+
+    def choices(state):
+        if state in ends:
+            return [choice([0], (state, 1))]
+        own = random.Random(states * 1000003 + state)
+        parts = [sorted(own.sample(range(1, 99), 2)) for _ in range(3)]
+        return [choice([1], *((own.randrange(states), Fraction(part, 100)) for part in (low, high - low, 99 - high)), (own.choice(ends), "1/100")) for low, high in parts]
+
+    return drn.explored(["steps"], draw.randrange(states), lambda state: [state] if state in ends else [], choices)

@@ -63,6 +63,14 @@ QUESTIONS = {
         r"(?P<s>[\d.]+) \| (?P<slowest_s>[\d.]+) \|$",
         statuses=(0, 1),
     ),
+    "witness": Question(
+        "How many states does a witness keep, and what does it take?",
+        "`bounds .. witness` beside `witness`, of families of models; the threshold is a part of the value of the initial state. A state that is kept is needed where the best "
+        "probability without it is shown to be below the threshold. Processor time of the whole program.",
+        "witness.py",
+        r"^(?P<model>[a-z][^,\n]*), (?P<query>\S[^:\n]*?) (?P<part>\S+): (?P<states>\d+) states, threshold \S+; bounds keeps (?P<bounds_keeps>\S+), (?P<needed>\S+) of them "
+        r"needed, in (?P<bounds_s>[\d.]+) s, [^;]*; witness (?:keeps (?P<witness_keeps>\d+)|(?P<or_ends>.+?)) in (?P<witness_s>[\d.]+) s$",
+    ),
     "deadline": Question(
         "What does a deadline take?",
         "`curve` and `bounds` of an until within so many steps at 9 digits: a robot on a square, a seventh of whose tiles are holes; the whole program. Beside them as many "

@@ -29,6 +29,8 @@ bounds MODEL ROWS DIR mean NAME DIGITS
 bounds MODEL ROWS DIR discount NAME FACTOR DIGITS
 bounds MODEL ROWS DIR until A B STEPS DIGITS
 bounds MODEL ROWS DIR total NAME STEPS DIGITS
+bounds MODEL ROWS DIR witness LABEL THRESHOLD
+bounds MODEL ROWS DIR witness until A B THRESHOLD
 witness MODEL ROWS DIR LABEL THRESHOLD
 witness MODEL ROWS DIR until A B THRESHOLD
 check MODEL ROWS CERT
@@ -203,7 +205,7 @@ explain() {
   case $first in
     model) advice 'Lines of a model' "$kind" ;;
     cert | policy) advice 'Lines of a certificate' "$kind" ;;
-    memory | below) advice 'Every answer' "$first" ;;
+    memory | below | undecided) advice 'Every answer' "$first" ;;
     denied | query | too-wide | read-fault | long) advice 'Every answer' "$first $second" ;;
     words)
       advice 'Every answer' "$first $second"

@@ -10,13 +10,16 @@ from functools import lru_cache
 from .drn import Unclear, lines_of
 
 INFINITE = {"inf": math.inf, "-inf": -math.inf}
+# Those of bounds of a witness: kept and needed, kept, and not kept.
+MARKS = ("kept", "open", "-")
 VERSION = re.compile("mdp-(bounds 1|certificate [12]|curve 1|discount 1|horizon 1|horizon-bounds 1|policy 1|value 1)")
 
 
 @dataclass
 class Text:
-    """What a text says. `lower` and `upper` have a value for each state; the two are the same list where the values are exact. `steps` has, by the
-    number of steps that are left, the choices; `curve` has pairs of lower and upper by the number of steps, from 0 on."""
+    """What a text says. `lower` and `upper` have a value for each state; the two are the same list where the values are exact, and bounds of a witness, which
+    has `marks`, have no upper ones. `steps` has, by the number of steps that are left, the choices; `curve` has pairs of lower and upper by the number of
+    steps, from 0 on."""
 
     version: str = ""
     claim: str = ""
@@ -25,6 +28,7 @@ class Text:
     lower: list = field(default_factory=list)
     upper: list = field(default_factory=list)
     choices: list = field(default_factory=list)
+    marks: list = field(default_factory=list)
     steps: dict = field(default_factory=dict)
     curve: list = field(default_factory=list)
 
@@ -133,6 +137,9 @@ class Values(Reader):
         self.text.claim = line
         words = re.sub('"[^"]*"', '""', line).split(" ")
         is_bounds, kind = self.text.is_bounds, words[2] if len(words) > 2 else ""
+        if is_bounds and kind == "witness":
+            self.places = (0, 0, 1 if words[1] == "max" else None)
+            return
         choice = {"reach": 1, "until": 1, "reward": 1, "mean": 3, "discount": 1}.get(kind)
         if "horizon" in self.text.version or self.text.version == "mdp-value 1" or words[1] in ("upper", "reach"):
             choice = None
@@ -158,6 +165,8 @@ class Values(Reader):
             values.upper += [number(words[high])] * count
         if choice is not None:
             values.choices += [int(words[choice])] * count
+        if words[-1] in MARKS:
+            values.marks += [words[-1]] * count
 
     def choose(self, state, words):
         self.states(state, state, words)
@@ -176,7 +185,8 @@ class Values(Reader):
     deadline = keep = flow = passed
 
     def end(self):
-        self.text.upper = self.text.upper or self.text.lower
+        if not self.text.marks:
+            self.text.upper = self.text.upper or self.text.lower
 
 
 def read(path):

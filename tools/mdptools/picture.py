@@ -9,8 +9,8 @@ names the file and its line, and status 2; so does a model of more than 400 stat
 States are ellipses with their number, their valuation where the model has it in comments, and labels, and with a certificate their value, or their
 lower and upper one, and rank (for a mean payoff gain and bias). Choices are small points; what a choice earns stands at the edge to it. The policy's
 choices and entries are bold, all others grey. Goals have a double line, states of infinite value a dashed one, and states that are cut a dotted one:
-those that a witness doesn't keep, and of `until` those that have neither label. Kept states are filled; those that are kept since their trial was too
-wide are filled darker. The flow through a choice stands at its edge. A value of more than 12 characters is followed by a decimal of three places.
+those that a witness doesn't keep, and of `until` those that have neither label. Kept states are filled; those that weren't shown to be needed (marked
+`wide` or `open`) are filled darker. The flow through a choice stands at its edge. A value of more than 12 characters is followed by a decimal of three places.
 """
 
 import pathlib
@@ -84,6 +84,12 @@ def bounds_words(kind, words):
     return [f"from {shown(low)}", f"to {shown(high)}", f"rank {int(rank)}"], int(choice), low == "inf"
 
 
+def subsystem_words(words):
+    """What a kept state shows, and its choice, which `min` doesn't name."""
+    low, *choice, rank = words
+    return [f"at least {shown(low)}", f"rank {int(rank)}"], int(choice[0]) if choice else None
+
+
 def state_words(kind, words):
     """The lines that a state shows, the choice of the policy, and whether the value is infinite."""
     if kind == "upper":
@@ -107,7 +113,7 @@ def fits(evidence, model):
 
 # The kinds of claims that a text of a first line has.
 KINDS = {
-    "mdp-bounds 1": ("reach", "until", "reward", "mean", "discount"),
+    "mdp-bounds 1": ("reach", "until", "reward", "mean", "discount", "witness"),
     "mdp-certificate 1": ("upper", "reach", "until", "reward", "mean", "witness"),
     "mdp-certificate 2": ("upper", "reach", "until", "reward", "mean", "witness"),
     "mdp-discount 1": ("discount",),
@@ -122,7 +128,7 @@ class Reader(certificates.Reader):
 
     def __init__(self, model):
         super().__init__()
-        self.model, self.kind, self.evidence = model, "", None
+        self.model, self.kind, self.evidence, self.direction = model, "", None, ""
 
     def begin(self, line):
         if line not in KINDS:
@@ -136,6 +142,7 @@ class Reader(certificates.Reader):
 
     def claim(self, line):
         self.kind, self.evidence = claim_of(line, self.model)
+        self.direction = line.split(" ")[1]
         self.evidence.is_bounds = self.version == "mdp-bounds 1"
         if self.kind not in KINDS[self.version]:
             raise ValueError(line)
@@ -148,7 +155,26 @@ class Reader(certificates.Reader):
         if name == "improve":
             raise ValueError(name)
 
+    def subsystem(self, first, last, words):
+        """The line of states of bounds of a witness."""
+        *words, mark = words
+        if mark not in certificates.MARKS or len(words) != 2 + (self.direction == "max"):
+            raise ValueError(mark)
+        says, choice = subsystem_words(words)
+        for s in range(first, last + 1):
+            if s >= len(self.model.states):
+                raise ValueError(s)
+            if mark != "-":
+                self.evidence.kept[s], self.evidence.says[s] = mark, says
+            if mark != "-" and choice is not None and s not in self.evidence.goals | self.evidence.cut:
+                self.evidence.policy[s] = choice
+
     def states(self, first, last, words):
+        if self.kind == "witness":
+            if not self.evidence.is_bounds:
+                raise ValueError(words)
+            self.subsystem(first, last, words)
+            return
         says, choice, infinite = (bounds_words if self.evidence.is_bounds else state_words)(self.kind, words)
         for s in range(first, last + 1):
             self.evidence.says[s] = says

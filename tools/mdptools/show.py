@@ -8,7 +8,7 @@ the file and its line, and status 2.
 
 Each number stands as it is. Where it isn't short as a decimal, one of six digits stands beside it: behind ≈ the nearest, behind ≤ one that isn't
 below the number, where that bounds from above, and behind ≥ one that isn't above it, where it bounds from below. Choices are numbered from 0;
-with a model their names stand behind. Of bounds it says how far apart they are at most.
+with a model their names stand behind. Of bounds it says how far apart they are at most, and of those of a witness how many states are kept.
 """
 
 import decimal
@@ -85,6 +85,8 @@ CURVES = [
     (rf"claim (max|min) total {NAME}", 'the {0} total reward "{1}" within a number of steps'),
 ]
 BETWEEN = [("lower", "≥"), ("upper", "≤")]
+# What a line of bounds of a witness has.
+KEPT = {"max": [("at least", "≥"), ("choice", ""), ("rank", ""), ("mark", "")], "min": [("at least", "≥"), ("rank", ""), ("mark", "")]}
 WORDS = {"max": "greatest", "min": "least"}
 
 
@@ -103,6 +105,7 @@ class Shown:
     is_bounds: bool = False
     is_curve: bool = False
     has_steps: bool = False
+    marks: list = field(default_factory=list)
     gaps: list = field(default_factory=list)
 
 
@@ -115,6 +118,7 @@ class Reader(certificates.Reader):
         super().__init__()
         self.model = model
         self.shown = Shown()
+        self.is_subsystem = False
 
     def labels(self, s):
         return " ".join(filter(None, [self.model.states[s].name, *self.model.states[s].labels])) if self.model else ""
@@ -133,8 +137,11 @@ class Reader(certificates.Reader):
         for (name, mark), word in zip(self.shown.columns, words):
             if mark:
                 yield from number_cells(word, mark)
+            elif name == "choice":
+                # A state that isn't kept has a loop in place of its choices.
+                yield "" if self.is_subsystem and words[-1] == "-" else self.choice(s, word)
             else:
-                yield self.choice(s, word) if name == "choice" else word
+                yield word
 
     def claim(self, text):
         for spelled, title, columns in [(*claim, BETWEEN) for claim in CURVES] if self.shown.is_curve else CLAIMS:
@@ -143,7 +150,11 @@ class Reader(certificates.Reader):
                 self.shown.title = title.format(*(WORDS.get(word, word) for word in found.groups()))
                 if self.shown.has_steps:
                     self.shown.title = self.shown.title.replace(' on a way through "-"', "")
-                self.shown.columns = BETWEEN + columns[1:] if self.shown.is_bounds else columns
+                self.is_subsystem = self.shown.is_bounds and "witness" in spelled
+                if self.is_subsystem:
+                    self.shown.columns = KEPT[found[1]]
+                else:
+                    self.shown.columns = BETWEEN + columns[1:] if self.shown.is_bounds else columns
                 return
         raise ValueError(text)
 
@@ -181,7 +192,11 @@ class Reader(certificates.Reader):
 
     def states(self, first, last, words):
         """The lines of the states from one to another with the same words: each its own with a model, and one for all without."""
-        if self.shown.is_bounds and not any(word in INFINITE for word in words[:2]):
+        if self.is_subsystem:
+            if words[-1] not in certificates.MARKS:
+                raise ValueError(words)
+            self.shown.marks += [words[-1]] * (last - first + 1)
+        elif self.shown.is_bounds and not any(word in INFINITE for word in words[:2]):
             self.shown.gaps.append(fraction(words[1]) - fraction(words[0]))
         if not self.model and first != last:
             self.shown.states.append((f"{first} to {last}", "", *self.cells(first, words)))
@@ -239,6 +254,9 @@ def read(path, model_path=None):
 def shown_text(reader):
     shown = reader.shown
     gap = [f"lower and upper differ by at most: {' '.join(number_cells(str(max(shown.gaps)), '≤')).rstrip()}"] if shown.gaps else []
+    if shown.marks:
+        needed, others = shown.marks.count("kept"), shown.marks.count("open")
+        gap = [f"kept: {needed + others} states, {needed} of them shown to be needed"]
     parts = [[shown.title, f"{shown.count} {'steps' if shown.is_curve else 'states'}", *shown.notes, *gap]]
     if shown.curve:
         rows = [(str(first) if first == last else f"{first} to {last}", *cells) for first, last, *cells in shown.curve]

@@ -33,6 +33,7 @@ BROKEN, MODELS, MOST_STATES = 4000, 30, 40
 # The command that judges a text, by its first line, beside `check`, which judges each.
 COMMANDS = {b"mdp-discount 1": "discount-check", b"mdp-bounds 1": "bounds-check"}
 NAMES = [b"A", b"B", b"init", b"cost", b"-", b"goal", b"nowhere"]
+MARKS = [b"kept", b"open", b"-"]
 OBJECTIVES = [
     b'claim %s reach "%s"',
     b'claim %s until "%s" "%s"',
@@ -103,6 +104,8 @@ def queries():
     yield ["bounds"], ["discount", "cost", "3/4", "2"]
     yield ["witness"], ["B", "1/4"]
     yield ["witness"], ["until", "A", "B", "1/5"]
+    yield ["bounds"], ["witness", "B", "1/4"]
+    yield ["bounds"], ["witness", "until", "A", "B", "1/5"]
 
 
 def written_certificates(program, folder):
@@ -143,7 +146,9 @@ def by_kind(certificates):
 
 
 def other_number(draw, word, text):
-    """Another number in the place of one: near to it, one that stands elsewhere in the text, or one of some that are special."""
+    """Another number, or mark, in the place of one: near to it, one that stands elsewhere in the text, or one of some that are special."""
+    if word in MARKS:
+        return draw.choice([*MARKS, b"wide"])
     found = re.findall(rb"(?<= )-?[0-9]+(?:/[0-9]+)?(?=[ \n])", text)
     special = [b"0", b"1", b"2", b"1/2", b"-1", b"inf", b"-inf", b"4294967295", b"4294967296", b"01", b"2/4", b"1/1"]
     wide = [b"%d/%d" % (2**126 + 1, 2**127 - 1), b"1/%d" % (2**127 - 1), b"%d" % (2**127 - 1), b"1/%d" % 3**79, b"1/%d" % 2**126, b"1/%d" % 2**127]
@@ -169,6 +174,8 @@ def split(text):
         name, *words = line.split(b" ")
         if name in (b"state", b"run"):
             first, last = int(words[0]), int(words[name == b"run"])
+            if last - first > 2**16:
+                raise ValueError(line)
             yield from ((s, words[1 + (name == b"run") :]) for s in range(first, last + 1))
         else:
             yield line

@@ -24,6 +24,7 @@ PICTURES = {
     "machine-least-cost": ("machine.drn", "machine-least-cost.cert"),
     "server-least-energy": ("server.drn", "server-least-energy.cert"),
     "transfer-risk": ("transfer.drn", "transfer-risk.cert"),
+    "retransmission-risk": ("retransmission-4.drn", "retransmission-risk.cert"),
 }
 
 

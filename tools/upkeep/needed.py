@@ -50,8 +50,9 @@ KINDS = {
     },
     "`mdp-discount 1`": {"`discount`": "Discounted"},
     "`mdp-bounds 1` of a discounted reward": {"bounds of `discount`": "DiscountedBounds"},
+    "`mdp-bounds 1` of a witness": {"bounds of `witness`": "SubsystemBounds"},
 }
-KIND_CASES = ("Exact", "Discounted", "Bounds", "DiscountedBounds")
+KIND_CASES = ("Exact", "Discounted", "Bounds", "DiscountedBounds", "SubsystemBounds")
 CASES = {case for kinds in KINDS.values() for cases in kinds.values() for case in cases.split()}
 
 
