@@ -24,7 +24,7 @@ pub(crate) fn float_at(values: &[f64], place: u32) -> f64 {
 }
 
 /// What the row of choice `c` at state `s` comes to by the values of its targets.
-fn worth(model: &Model, values: &[f64], s: u32, c: u32) -> f64
+pub(crate) fn worth(model: &Model, values: &[f64], s: u32, c: u32) -> f64
     requires state { s < states_of model.now }
     requires choice { c < length (choices_at model.now s) }
 {

@@ -8,6 +8,7 @@ mod bounds;
 mod exact;
 mod floats;
 mod found;
+mod nearest;
 mod order;
 mod query;
 mod removal;

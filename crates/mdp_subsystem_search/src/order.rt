@@ -4,13 +4,14 @@ ghost use Rattle.std.specs.Prelude.{◌≡◌, length};
 ghost use Rattle.mdp_spec.specs.Mdp.{states_of};
 
 use crate::floats::{float_at, floats_of, least_choice};
+use crate::nearest::{distances_of, nearest_choice};
 use crate::visits::visits_of;
 use crate::walk::Ways;
 use mdp_bounds::ReachBoundsCert;
-use mdp_refinement::put;
+use mdp_refinement::{number_at, put};
 use mdp_rows::{Dir, Marks, Model};
 use std::alloc::{AllocError, Global};
-use std::cmp::OrderedFloat;
+use std::cmp::{OrderedFloat, Reverse};
 
 /// A state, and what the goals get by way of it: how often it is visited, times its value.
 #[derive(Clone, Copy)]
@@ -19,20 +20,21 @@ pub(crate) struct Weighed {
     pub weight: f64,
 }
 
-/// For the greatest probability the choices of a certificate, for the least one those whose rows come to least.
+/// For the greatest probability the best choices that come to the goals soon, for the least one those whose rows come to least.
 fn policy_of(
     alloc: Global,
     model: &Model,
     dir: Dir,
     choices: &[u32],
     values: &[f64],
+    distances: &[u32],
 ) -> Result<Vec<u32>, AllocError> {
-    if dir == Dir::Max {
-        return choices.to_vec(alloc);
-    }
     let mut policy = Vec::new(alloc);
     for s in 0..model.states() {
-        policy.push(least_choice(model, values, s))?;
+        policy.push(match dir {
+            Dir::Max => nearest_choice(model, values, distances, s, number_at(choices, s)),
+            Dir::Min => least_choice(model, values, s),
+        })?;
     }
     Ok(policy)
 }
@@ -98,24 +100,28 @@ fn all_weighed(
 pub(crate) fn order_of(
     alloc: Global,
     model: &Model,
+    goals: &Marks,
     start: u32,
     dir: Dir,
     kept: &Marks,
     cert: &ReachBoundsCert,
 ) -> Result<Vec<Weighed>, AllocError>
-    requires { length kept.now ≡ states_of model.now }
+    requires goals { length goals.now ≡ states_of model.now }
+    requires kept { length kept.now ≡ states_of model.now }
 {
     let states = model.states();
     let values = floats_of(alloc, &cert.lower)?;
-    let policy = policy_of(alloc, model, dir, &cert.choices, &values)?;
     let may_pass = passable(alloc, states, kept, &values)?;
+    let distances = distances_of(alloc, model, goals, &may_pass, &values)?;
+    let policy = policy_of(alloc, model, dir, &cert.choices, &values, &distances)?;
     let ways = Ways {
         model,
         dir,
         policy: &policy,
         may_pass: &may_pass,
     };
-    let walk = ways.walk_from(alloc, start)?;
+    let mut walk = ways.walk_from(alloc, start)?;
+    walk.sort_by_key(|s| Reverse(number_at(&distances, *s)))?;
     let visits = visits_of(alloc, model, start, &policy, &walk)?;
     let weights = weights_of(alloc, states, &walk, &visits, &values)?;
     all_weighed(alloc, states, kept, &weights)

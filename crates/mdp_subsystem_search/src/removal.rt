@@ -141,6 +141,7 @@ impl Query<'_, '_> {
         order_of(
             alloc,
             self.model,
+            self.goals,
             self.start,
             self.dir,
             &found.kept,
