@@ -56,7 +56,7 @@ layers 1000: min careful 1/2
 retransmission 16600 2: max failed 1/2
 crowds 10 64: max suspect 1/2
 gambler 100000: max broke 1/2
-robot 316: max until floor charger 1/2
+robot 312: max until floor charger 1/2
 election 20 10: max elected 1/2
 scattered 100000: max goal 1/2, min goal 1/2
 layers 100000: min careful 1/2
