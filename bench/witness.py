@@ -41,7 +41,7 @@ retransmission 16 2: max failed 1/2, max failed 9/10, min failed 1/2
 crowds 10 6: max suspect 1/2, min suspect 1/2
 gambler 100: max rich 1/2, max broke 9/10, min rich 9/10
 windy 10 3: max goal 1/2, min broken 1/2
-robot 10: max until floor charger 1/2, max until floor charger 9/10
+robot 12: max until floor charger 1/2, max until floor charger 9/10
 election 6 5: max elected 1/2, min elected 1/2
 scattered 100: max goal 1/2, min goal 1/2
 layers 200: max goal 1/2, min careful 1/2
@@ -56,7 +56,7 @@ layers 1000: min careful 1/2
 retransmission 16600 2: max failed 1/2
 crowds 10 64: max suspect 1/2
 gambler 100000: max broke 1/2
-robot 316: max until floor charger 1/2
+robot 312: max until floor charger 1/2
 election 20 10: max elected 1/2
 scattered 100000: max goal 1/2, min goal 1/2
 layers 100000: min careful 1/2

@@ -1,10 +1,11 @@
 """Draws a model, and what a certificate says of it, as text for Graphviz.
 
     tools/picture MODEL [CERT] > out.dot      and then, with Graphviz: dot -Tsvg out.dot > out.svg
+    tools/picture --kept MODEL CERT > out.dot draws of the states only those that a witness keeps and the goals that these come to, and one more for all others
     tools/picture --test                      tries all models and certificates of examples/ and of the worked rows
 
 It judges nothing: it takes what `check` accepts, and draws many a text that they refuse. A text that it can't follow ends with a line that
-names the file and its line, and status 2; so does a model of more than 400 states.
+names the file and its line, and status 2; so does a picture of more than 400 states.
 
 States are ellipses with their number, their valuation where the model has it in comments, and labels, and with a certificate their value, or their
 lower and upper one, and rank (for a mean payoff gain and bias). Choices are small points; what a choice earns stands at the edge to it. The policy's
@@ -27,6 +28,8 @@ from .drn import Unclear, fraction
 TOP = pathlib.Path(__file__).resolve().parent.parent.parent
 MOST_STATES = 400
 LONGEST_VALUE = 12
+# The name of the state that stands for all that aren't drawn.
+OTHERS = "others"
 
 
 # ---- the certificate
@@ -262,7 +265,16 @@ def edge_look(taken, evidence):
     return {"style": "bold"} if taken else {"color": "grey60", "fontcolor": "grey60"}
 
 
-def choice_lines(s, c, choice, evidence, names):
+def joined_row(row, shown_states):
+    """The entries of a row by the names of their targets; those of states that aren't drawn are together."""
+    entries = {}
+    for target, chance in row:
+        name = f"s{target}" if shown_states is None or target in shown_states else OTHERS
+        entries[name] = entries.get(name, 0) + chance
+    return entries
+
+
+def choice_lines(s, c, choice, evidence, names, shown_states):
     taken = evidence is not None and evidence.policy.get(s) == c
     look = edge_look(taken, evidence)
     flow = [f"flow {evidence.flows[s, c]}"] if evidence and (s, c) in evidence.flows else []
@@ -270,23 +282,32 @@ def choice_lines(s, c, choice, evidence, names):
     point = f"s{s}c{c}"
     yield f"  {point} {attributes(shape='point', color=look.get('color', ''))};"
     yield f"  s{s} -> {point} {attributes(arrowhead='none', label=says, **look)};"
-    for target, chance in choice.row:
+    for name, chance in joined_row(choice.row, shown_states).items():
         if chance != 0:
-            yield f"  {point} -> s{target} {attributes(label='' if chance == 1 else shown(chance), **look)};"
+            yield f"  {point} -> {name} {attributes(label='' if chance == 1 else shown(chance), **look)};"
 
 
-def picture(model, evidence):
+def kept_and_goals(model, evidence):
+    """The states that a witness keeps, and the goals that they come to."""
+    reached = {target for s in evidence.kept for choice in model.states[s].choices for target, chance in choice.row if chance}
+    return evidence.kept.keys() | (evidence.goals & (reached | set(model.states_with("init"))))
+
+
+def picture(model, evidence, shown_states=None):
+    drawn_states = range(len(model.states)) if shown_states is None else sorted(shown_states)
     yield "digraph model {"
     yield "  rankdir=LR;"
     yield '  node [fontname="Helvetica", fontsize="11"];'
     yield '  edge [fontname="Helvetica", fontsize="10"];'
     if evidence is not None:
         yield f"  label={quoted(evidence.title)};"
-    for s, state in enumerate(model.states):
-        yield state_line(s, state, evidence)
-    for s, state in enumerate(model.states):
-        for c, choice in enumerate(state.choices):
-            yield from choice_lines(s, c, choice, evidence, model.names)
+    for s in drawn_states:
+        yield state_line(s, model.states[s], evidence)
+    if len(drawn_states) < len(model.states):
+        yield f"  {OTHERS} {attributes(label=f'{len(model.states) - len(drawn_states)} others', style='dotted')};"
+    for s in drawn_states:
+        for c, choice in enumerate(model.states[s].choices):
+            yield from choice_lines(s, c, choice, evidence, model.names, shown_states)
     yield "}"
 
 
@@ -294,6 +315,18 @@ def drawn(model_path, cert_path=None):
     model = drn.read(model_path, MOST_STATES)
     evidence = None if cert_path is None else read_certificate(cert_path, model)
     return model, evidence, "\n".join(picture(model, evidence)) + "\n"
+
+
+def drawn_kept(model_path, cert_path):
+    """The same of the states that a witness keeps alone."""
+    model = drn.read(model_path)
+    evidence = read_certificate(cert_path, model)
+    if not evidence.cuts:
+        raise Unclear(cert_path, 2, "only a witness keeps states")
+    states = kept_and_goals(model, evidence)
+    if len(states) > MOST_STATES:
+        raise Unclear(model_path, 0, f"{len(states)} states are too many to draw, the most are {MOST_STATES}")
+    return model, evidence, "\n".join(picture(model, evidence, states)) + "\n"
 
 
 # ---- the test
@@ -363,6 +396,19 @@ def wrong_in(model, evidence, text):
     return "" if found and {edge for edge in bold if "c" not in edge[0]} == policy else "a state, a choice or an entry is missing or there twice"
 
 
+def wrong_kept(model, evidence, text):
+    """What the picture of the kept states lacks: they, their choices, and the entries of these stand there once."""
+    statements, states = list(statements_of(text)), kept_and_goals(model, evidence)
+    nodes = {names[0] for names, _ in statements if len(names) == 1 and names[0] not in ("node", "edge")}
+    edges = [tuple(names) for names, _ in statements if len(names) == 2]
+    due = [(f"s{s}", f"s{s}c{c}") for s in states for c in range(len(model.states[s].choices))]
+    rows = [(f"s{s}c{c}", choice.row) for s in states for c, choice in enumerate(model.states[s].choices)]
+    due += [(point, target) for point, row in rows for target in {f"s{t}" if t in states else OTHERS for t, chance in row if chance}]
+    due_nodes = {f"s{s}" for s in states} | {point for _, point in due[: len(rows)]}
+    found = sorted(edges) == sorted(due) and nodes - {OTHERS} == due_nodes and (OTHERS in nodes) == (len(states) < len(model.states))
+    return "" if found else "a kept state, a choice or an entry is missing or there twice"
+
+
 def dot_refuses(text):
     """What Graphviz says against a picture, where it is installed."""
     if shutil.which("dot") is None:
@@ -395,6 +441,9 @@ def try_pair(model_path, cert_path, accepted):
     except Unclear as unclear:
         return f"{unclear}" if accepted and "states are too many" not in str(unclear) else ""
     problem = wrong_in(model, evidence, text) or dot_refuses(text)
+    if not problem and evidence and evidence.cuts:
+        *_, text = drawn_kept(model_path, cert_path)
+        problem = wrong_kept(model, evidence, text) or dot_refuses(text)
     return problem and f"{model_path} {cert_path}: {problem}"
 
 
@@ -411,11 +460,12 @@ def main(words):
         return
     if words == ["--test"]:
         test()
-    if len(words) not in (1, 2):
-        sys.stderr.write("usage: tools/picture MODEL [CERT] > out.dot, or tools/picture --test\n")
+    is_kept = words[:1] == ["--kept"]
+    if len(words) not in (1, 2) and not is_kept or is_kept and len(words) != 3:
+        sys.stderr.write("usage: tools/picture MODEL [CERT] > out.dot, tools/picture --kept MODEL CERT, or tools/picture --test\n")
         sys.exit(2)
     try:
-        sys.stdout.write(drawn(*words)[2])
+        sys.stdout.write((drawn_kept(*words[1:]) if is_kept else drawn(*words))[2])
     except Unclear as unclear:
         sys.stderr.write(f"{unclear}\n")
         sys.exit(2)

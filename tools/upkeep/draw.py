@@ -24,7 +24,7 @@ PICTURES = {
     "machine-least-cost": ("machine.drn", "machine-least-cost.cert"),
     "server-least-energy": ("server.drn", "server-least-energy.cert"),
     "transfer-risk": ("transfer.drn", "transfer-risk.cert"),
-    "retransmission-risk": ("retransmission-4.drn", "retransmission-risk.cert"),
+    "retransmission-risk": ("--kept", "retransmission-4.drn", "retransmission-risk.cert"),
 }
 
 
@@ -124,9 +124,9 @@ def with_diagram(text):
 def draw_examples():
     folder = TOP / "docs" / "pictures"
     folder.mkdir(exist_ok=True)
-    for name, (model, cert) in PICTURES.items():
+    for name, (*options, model, cert) in PICTURES.items():
         examples = TOP / "examples"
-        text = subprocess.run([TOP / "tools" / "picture", examples / model, examples / cert], stdout=subprocess.PIPE, check=True).stdout
+        text = subprocess.run([TOP / "tools" / "picture", *options, examples / model, examples / cert], stdout=subprocess.PIPE, check=True).stdout
         subprocess.run(["dot", "-Tsvg", "-o", folder / f"{name}.svg"], input=text, check=True)
 
 
