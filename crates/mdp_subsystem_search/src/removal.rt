@@ -12,8 +12,10 @@ use mdp_refinement::item_at;
 use mdp_rows::Marks;
 use std::alloc::{AllocError, Global};
 
-/// How many entries attempts to take out states look at in all.
-const REMOVAL_ENTRIES: u64 = 67_108_864;
+/// How many entries attempts to take out states look at in all: so many, and each of the model's so often.
+const REMOVAL_ENTRIES: u64 = 4_194_304;
+
+const REMOVAL_PASSES: u64 = 24;
 
 /// The most attempts.
 const MOST_ATTEMPTS: u32 = 1_000_000;
@@ -125,7 +127,7 @@ impl Query<'_, '_> {
         ensures { IfOk result (IsFound self.now.dir self.now.model.now self.now.goals.now self.now.start self.now.threshold) }
     {
         let Found { kept, cert } = found;
-        let mut room = Room::new(0);
+        let mut room = Room::none();
         for digits in END_DIGITS {
             if let Some(short) = self.attempt(alloc, &kept, self.digits_more(digits), &mut room)? {
                 return Ok(Found { kept, cert: short });
@@ -198,7 +200,7 @@ impl Query<'_, '_> {
         requires { IsFound self.now.dir self.now.model.now self.now.goals.now self.now.start self.now.threshold found }
         ensures { IfOk result (IsFound self.now.dir self.now.model.now self.now.goals.now self.now.start self.now.threshold) }
     {
-        let mut room = Room::new(REMOVAL_ENTRIES);
+        let mut room = Room::of(self.model, REMOVAL_ENTRIES, REMOVAL_PASSES);
         let near = self.without_light(alloc, found, &mut room)?;
         let order = self.order(alloc, &near)?;
         let mut pieces = Vec::new(alloc);

@@ -30,9 +30,17 @@ fn entries_of(model: &Model) -> u64 {
 }
 
 impl Room {
-    /// Room for so many entries.
-    pub(crate) fn new(entries: u64) -> Room {
-        Room { entries }
+    /// Room for so many entries, and for those of a model so many times.
+    pub(crate) fn of(model: &Model, entries: u64, passes: u64) -> Room {
+        let more = entries_of(model).saturating_mul(passes);
+        Room {
+            entries: entries.saturating_add(more),
+        }
+    }
+
+    /// No room.
+    pub(crate) fn none() -> Room {
+        Room { entries: 0 }
     }
 
     /// Whether there is none left.

@@ -9,8 +9,10 @@ use mdp_num::Memory;
 use mdp_rows::Marks;
 use std::alloc::Global;
 
-/// How many entries trials look at in all.
-const TRIAL_ENTRIES: u64 = 33_554_432;
+/// How many entries trials look at in all: so many, and each of the model's so often.
+const TRIAL_ENTRIES: u64 = 2_097_152;
+
+const TRIAL_PASSES: u64 = 12;
 
 impl Query<'_, '_> {
     /// Whether it is shown that without a kept state the best probability is below the threshold.
@@ -36,7 +38,7 @@ impl Query<'_, '_> {
         ensures each { IfOk result (λ needed. length needed ≡ states_of self.now.model.now) }
         ensures needed { IfOk result (AreNeeded self.now.dir self.now.model.now self.now.goals.now self.now.start self.now.threshold kept.now) }
     {
-        let mut room = Room::new(TRIAL_ENTRIES);
+        let mut room = Room::of(self.model, TRIAL_ENTRIES, TRIAL_PASSES);
         let mut needed = Marks::empty(alloc, self.model.states())?;
         for s in 0..self.model.states() {
             if kept.at(s) && !room.is_spent() {
