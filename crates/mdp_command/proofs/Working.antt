@@ -8,7 +8,7 @@ use Rattle.mdp_drn.specs.Reading.{outcome, Reads}
 use Rattle.mdp_job.specs.Refusal.{PlainRefusal, read_model, read_certificate, long_model, no_memory}
 use Rattle.mdp_command.proofs.FileBytes.{or_nothing, had_nothing}
 use Rattle.mdp_command.specs.Files.{most_bytes, model_or_refusal, model_due, IsDueToModel}
-use Rattle.mdp_command.specs.{Read.{IsDueToBytes, IsRead, IsSaidOfBytes, IsReadAs, IsWorkOnModel, IsWorkOnPair}, Said.{Said}, Streams.{Input, IsStill}}
+use Rattle.mdp_command.specs.{Read.{IsDueToBytes, IsRead, IsSaidOfBytes, IsReadAs, IsWorkOnModel, IsWorkOnPair}, Said.{Said}, Shown.{IsShownOf}, Streams.{Input, IsStill}}
 
 -- ---- the model's bytes
 
@@ -20,6 +20,12 @@ model_is_read false (Err r) m e = cc
 -- bytes to which a model is due are at most 2^30 and read as it
 pub read_of_due : (rule : RowRule) (bytes : List ℕ) (m : Mdp) → model_due rule bytes ≡ Ok m → (length bytes ≤ most_bytes) × Reads bytes rule m
 read_of_due rule bytes m e = let read = model_is_read (nat_lt most_bytes (length bytes)) (outcome rule bytes) m e in (ltb-false most_bytes (length bytes) read.0, read.1)
+
+-- what is printed for a model is shown of any bytes to which it is due
+pub shown_of : (IsPrinted : Mdp → List ℕ → Type 0) (rule : RowRule) (m : Mdp) (said : Said) → IfOk said (IsPrinted m) → (bytes : List ℕ) → model_due rule bytes ≡ Ok m
+    → IfOk said (IsShownOf IsPrinted rule bytes)
+shown_of IsPrinted rule m (Ok text) printed bytes is = let read = read_of_due rule bytes m is in record { short = read.0; model = m; reads = read.1; printed = printed }
+shown_of IsPrinted rule m (Err r) printed bytes is = tt
 
 module _ (rule : RowRule) (model : Input) where
   pub model_had : (m : Mdp) → IsRead model (model_due rule) read_model (Ok m) → IsDueToBytes model.before (model_due rule) (Ok m) × IsStill model

@@ -3,6 +3,7 @@ pub mod Said
 pub mod Streams
 pub mod Files
 pub mod Read
+pub mod Shown
 pub mod Meaning
 pub mod Accepted
 pub mod Answered
