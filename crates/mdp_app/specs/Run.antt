@@ -2,7 +2,7 @@
 use Rattle.std.specs.{Prelude.{◌≡◌, ◌⊎◌, ℕ, Bool, true, false, List, Ok, Err, IsTrue, IsFalse}, Io.KnownBytes.{IsAtEnd}}
 use Rattle.mdp_drn.specs.FromSource.{HadLeft}
 use Rattle.mdp_edge.specs.Faults.{FaultCounted}
-use Rattle.mdp_job.specs.{Job.{bounds_witness, Asked, reads_model, reads_second}, Refusal.{read_model, long_model, read_certificate, long_certificate, no_memory}, declared.status.Status.{Status}}
+use Rattle.mdp_job.specs.{Job.{on_model, bounds_witness, Asked, reads_model, reads_second}, Refusal.{read_model, long_model, read_certificate, long_certificate, no_memory}, declared.status.Status.{Status}}
 use Rattle.mdp_job.specs.declared.status.Status.TheVariants.{Done, ReadFault, WriteFault, Memory, Undecided}
 use Rattle.mdp_command.specs.{Read.{is_of_model}, Said.{Said}, Streams.{Input, HasFailed, IsStill, Told, Output}, Written.{WroteAll, Wrote}}
 use Rattle.mdp_app.specs.{Due.{IsDue, IsModelRead}, Shown.{IsShown}}
@@ -85,7 +85,7 @@ SourceFailed asked model second = (IsTrue (reads_model asked) × HasFailed model
 
 -- bounds of a witness may leave it undecided whether the threshold is reached
 abbrev pub may_be_undecided : Asked → Bool
-may_be_undecided (Ok (bounds_witness rule dir stay label threshold)) = true
+may_be_undecided (Ok (on_model rule (bounds_witness dir stay label threshold))) = true
 may_be_undecided asked = false
 
 -- the work is done, but for want of memory and for faults that were counted; and where the search for bounds of a witness comes to bounds between which the

@@ -1,31 +1,41 @@
 -- What is shown of the work of each command.
 use Rattle.std.specs.Prelude.{ℕ, List, Some, None, Ok, Err}
-use Rattle.mdp_job.specs.Job.{solve, witness, check, drill, horizon, total, policy, chain, discount, discount_check, bounds, bounds_until, bounds_total}
-use Rattle.mdp_job.specs.Job.{bounds_discount, bounds_witness, bounds_check, curve_until, curve_total, Asked}
-use Rattle.mdp_command.specs.{Kinds.{discounted, checker_for}, CheckShown.{IsYes}, declared.kind.CertificateKind.TheVariants.{Bounds}}
-use Rattle.mdp_command_solve.specs.{Solved.{IsSolved}, Drilled.{IsDrilled}, WitnessShown.{IsWitnessShown}, DiscountShown.{IsDiscountSolved}}
-use Rattle.mdp_command_horizon.specs.{BoundsShown.{AreUntilBoundsShown, AreTotalBoundsShown}, CurveShown.{IsUntilCurveShown, IsTotalCurveShown}, Shown.{IsHorizonShown, IsTotalShown}}
+use Rattle.mdp_spec.specs.Mdp.{Mdp}
+use Rattle.mdp_rows.specs.declared.rule.RowRule.{RowRule}
+use Rattle.mdp_job.specs.Job.{PlainTask, solve, witness, horizon, total, discount, bounds, bounds_until, bounds_total, bounds_discount, bounds_witness, curve_until, curve_total}
+use Rattle.mdp_job.specs.Job.{PlainPairTask, check, policy, chain, discount_check, bounds_check, on_model, on_pair, drill, Asked}
+use Rattle.mdp_command.specs.{Kinds.{discounted, checker_for}, CheckShown.{IsYes}, Shown.{IsShownOf}, declared.kind.CertificateKind.TheVariants.{Bounds}}
+use Rattle.mdp_command_solve.specs.{Solved.{IsPrinted}, Drilled.{IsDrilled}, WitnessShown.{IsWitnessPrinted}, DiscountShown.{IsDiscountPrinted}}
+use Rattle.mdp_command_horizon.specs.{BoundsShown.{AreUntilBoundsPrinted, AreTotalBoundsPrinted}, CurveShown.{IsUntilCurvePrinted, IsTotalCurvePrinted}, Shown.{IsHorizonPrinted, IsTotalPrinted}}
 use Rattle.mdp_command_policy.specs.{Shown.{IsPolicyShown}, ChainShown.{IsChainShown}}
-use Rattle.mdp_command_bounds_search.specs.{DiscountShown.{IsDiscountBoundsSolved}, Shown.{IsBoundsSolved}, WitnessDue.{claim_by}, WitnessShown.{IsBoundsWitnessShown}}
+use Rattle.mdp_command_bounds_search.specs.{DiscountShown.{IsDiscountBoundsPrinted}, Shown.{IsBoundsPrinted}, WitnessDue.{claim_by}, WitnessShown.{IsBoundsWitnessPrinted}}
 
--- what is shown of the model's bytes, of those of the second file and of the text, where the work was done. Each command is a case
+-- the text is printed for a model of which this is asked
+abbrev pub IsTaskPrinted : PlainTask → Mdp → List ℕ → Type 0
+IsTaskPrinted (solve dir query) = IsPrinted dir query
+IsTaskPrinted (witness dir stay label threshold) = IsWitnessPrinted dir stay label threshold
+IsTaskPrinted (horizon dir stay label steps) = IsHorizonPrinted dir stay label steps
+IsTaskPrinted (total dir name steps) = IsTotalPrinted dir name steps
+IsTaskPrinted (discount dir name factor) = IsDiscountPrinted dir name factor
+IsTaskPrinted (bounds dir query digits) = IsBoundsPrinted dir query digits
+IsTaskPrinted (bounds_until dir stay label steps digits) = AreUntilBoundsPrinted dir stay label steps digits
+IsTaskPrinted (bounds_total dir name steps digits) = AreTotalBoundsPrinted dir name steps digits
+IsTaskPrinted (bounds_discount dir name factor digits) = IsDiscountBoundsPrinted dir name factor digits
+IsTaskPrinted (bounds_witness dir stay label threshold) = IsBoundsWitnessPrinted (claim_by dir stay label threshold)
+IsTaskPrinted (curve_until dir stay label steps digits) = IsUntilCurvePrinted dir stay label steps digits
+IsTaskPrinted (curve_total dir name steps digits) = IsTotalCurvePrinted dir name steps digits
+
+-- what is shown of the model's bytes, of those of the second file and of the text, where this was asked of both
+abbrev pub IsPairShown : PlainPairTask → RowRule → List ℕ → List ℕ → List ℕ → Type 0
+IsPairShown check rule model second text = IsYes (checker_for None second) rule model second text
+IsPairShown (policy stay label) rule model second text = IsPolicyShown rule stay label model second text
+IsPairShown chain rule model second text = IsChainShown rule model second text
+IsPairShown discount_check rule model second text = IsYes discounted rule model second text
+IsPairShown bounds_check rule model second text = IsYes (checker_for (Some Bounds) second) rule model second text
+
+-- what is shown of the model's bytes, of those of the second file and of the text, where the work was done
 abbrev pub IsShown : Asked → List ℕ → List ℕ → List ℕ → Type 0
-IsShown (Ok (solve rule dir query)) model second text = IsSolved rule dir query model text
-IsShown (Ok (witness rule dir stay label threshold)) model second text = IsWitnessShown rule dir stay label threshold model text
-IsShown (Ok (check rule)) model second text = IsYes (checker_for None second) rule model second text
+IsShown (Ok (on_model rule task)) model second text = IsShownOf (IsTaskPrinted task) rule model text
+IsShown (Ok (on_pair rule task)) model second text = IsPairShown task rule model second text
 IsShown (Ok (drill number layers width)) model second text = IsDrilled number layers width text
-IsShown (Ok (horizon rule dir stay label steps)) model second text = IsHorizonShown rule dir stay label steps model text
-IsShown (Ok (total rule dir name steps)) model second text = IsTotalShown rule dir name steps model text
-IsShown (Ok (policy rule stay label)) model second text = IsPolicyShown rule stay label model second text
-IsShown (Ok (chain rule)) model second text = IsChainShown rule model second text
-IsShown (Ok (discount rule dir name factor)) model second text = IsDiscountSolved rule dir name factor model text
-IsShown (Ok (discount_check rule)) model second text = IsYes discounted rule model second text
-IsShown (Ok (bounds rule dir query digits)) model second text = IsBoundsSolved rule dir query digits model text
-IsShown (Ok (bounds_until rule dir stay label steps digits)) model second text = AreUntilBoundsShown rule dir stay label steps digits model text
-IsShown (Ok (bounds_total rule dir name steps digits)) model second text = AreTotalBoundsShown rule dir name steps digits model text
-IsShown (Ok (bounds_discount rule dir name factor digits)) model second text = IsDiscountBoundsSolved rule dir name factor digits model text
-IsShown (Ok (bounds_witness rule dir stay label threshold)) model second text = IsBoundsWitnessShown rule (claim_by dir stay label threshold) model text
-IsShown (Ok (bounds_check rule)) model second text = IsYes (checker_for (Some Bounds) second) rule model second text
-IsShown (Ok (curve_until rule dir stay label steps digits)) model second text = IsUntilCurveShown rule dir stay label steps digits model text
-IsShown (Ok (curve_total rule dir name steps digits)) model second text = IsTotalCurveShown rule dir name steps digits model text
 IsShown (Err e) model second text = ⊥

@@ -10,6 +10,7 @@ mod command_tests;
 #[cfg(test)]
 mod hostile_tests;
 mod run;
+mod tasks;
 #[cfg(test)]
 mod tests;
 

@@ -3,18 +3,10 @@ ghost use Rattle.mdp_job.specs.Words.{job_of, model_path, second_path};
 ghost use Rattle.mdp_command.specs.{Opened.{OnFiles}, Prelude.{said, input, output}};
 ghost use Rattle.mdp_app.specs.{Run.{IsAnswered, IsWorkDone, IsComplete, HasRun}, Decided.{IsDecided}};
 
-use mdp_command::{CertificateKind, check_files, written};
-use mdp_command_bounds_search::{
-    bounds_discount_file, bounds_file, bounds_witness_file, bounds_witness_law,
-};
-use mdp_command_horizon::{
-    horizon_file, total_bounds_file, total_curve_file, total_file, until_bounds_file,
-    until_curve_file,
-};
-use mdp_command_policy::{chain_file, policy_file};
-use mdp_command_solve::{
-    discount_file, drill, solve_file, solve_law, witness_file, witness_step_law,
-};
+use crate::tasks::{on_model, on_pair};
+use mdp_command::written;
+use mdp_command_bounds_search::bounds_witness_law;
+use mdp_command_solve::{drill, solve_law, witness_step_law};
 use mdp_edge::{Sink, Source};
 use mdp_job::{Job, Refusal, Status, job_of, paths_of};
 use std::alloc::Global;
@@ -33,103 +25,13 @@ fn decided<S: Source, C: Source>(
         Err(error) => return Err(Refusal::Words(error)),
     };
     match job {
-        Job::Solve { rule, dir, query } => solve_file(alloc, rule, dir, query, model),
-        Job::Witness {
-            rule,
-            dir,
-            stay,
-            label,
-            threshold,
-        } => witness_file(alloc, rule, dir, stay, label, threshold, model),
-        Job::Check { rule } => check_files(alloc, rule, None, model, second),
+        Job::OnModel { rule, task } => on_model(alloc, rule, task, model),
+        Job::OnPair { rule, task } => on_pair(alloc, rule, task, model, second),
         Job::Drill {
             number,
             layers,
             width,
         } => drill(alloc, number, layers, width),
-        Job::Horizon {
-            rule,
-            dir,
-            stay,
-            label,
-            steps,
-        } => horizon_file(alloc, rule, dir, stay, label, steps, model),
-        Job::Total {
-            rule,
-            dir,
-            name,
-            steps,
-        } => total_file(alloc, rule, dir, name, steps, model),
-        Job::Policy { rule, stay, label } => policy_file(alloc, rule, stay, label, model, second),
-        Job::Chain { rule } => chain_file(alloc, rule, model, second),
-        Job::Discount {
-            rule,
-            dir,
-            name,
-            factor,
-        } => discount_file(alloc, rule, dir, name, factor, model),
-        Job::DiscountCheck { rule } => {
-            check_files(
-                alloc,
-                rule,
-                Some(CertificateKind::Discounted),
-                model,
-                second,
-            )
-        }
-        Job::Bounds {
-            rule,
-            dir,
-            query,
-            digits,
-        } => bounds_file(alloc, rule, dir, query, digits, model),
-        Job::BoundsUntil {
-            rule,
-            dir,
-            stay,
-            label,
-            steps,
-            digits,
-        } => until_bounds_file(alloc, rule, dir, stay, label, steps, digits, model),
-        Job::BoundsTotal {
-            rule,
-            dir,
-            name,
-            steps,
-            digits,
-        } => total_bounds_file(alloc, rule, dir, name, steps, digits, model),
-        Job::BoundsDiscount {
-            rule,
-            dir,
-            name,
-            factor,
-            digits,
-        } => bounds_discount_file(alloc, rule, dir, name, factor, digits, model),
-        Job::BoundsWitness {
-            rule,
-            dir,
-            stay,
-            label,
-            threshold,
-        } => bounds_witness_file(alloc, rule, dir, stay, label, threshold, model),
-        Job::BoundsCheck { rule } => {
-            check_files(alloc, rule, Some(CertificateKind::Bounds), model, second)
-        }
-        Job::CurveUntil {
-            rule,
-            dir,
-            stay,
-            label,
-            steps,
-            digits,
-        } => until_curve_file(alloc, rule, dir, stay, label, steps, digits, model),
-        Job::CurveTotal {
-            rule,
-            dir,
-            name,
-            steps,
-            digits,
-        } => total_curve_file(alloc, rule, dir, name, steps, digits, model),
     }
 }
 
