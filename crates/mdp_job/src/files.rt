@@ -15,30 +15,11 @@ pub fn files_of(words: &[String]) -> Files
     ensures { result ≡ files_of (job_of words.now) }
 {
     match job_of(words) {
-        Ok(
-            Job::Solve { .. }
-            | Job::Witness { .. }
-            | Job::Horizon { .. }
-            | Job::Total { .. }
-            | Job::Discount { .. }
-            | Job::Bounds { .. }
-            | Job::BoundsUntil { .. }
-            | Job::BoundsTotal { .. }
-            | Job::BoundsDiscount { .. }
-            | Job::BoundsWitness { .. }
-            | Job::CurveUntil { .. }
-            | Job::CurveTotal { .. },
-        ) => Files {
+        Ok(Job::OnModel { .. }) => Files {
             model: Some(1),
             second: None,
         },
-        Ok(
-            Job::Check { .. }
-            | Job::Policy { .. }
-            | Job::Chain { .. }
-            | Job::DiscountCheck { .. }
-            | Job::BoundsCheck { .. },
-        ) => Files {
+        Ok(Job::OnPair { .. }) => Files {
             model: Some(1),
             second: Some(3),
         },
