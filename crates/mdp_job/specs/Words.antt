@@ -308,9 +308,9 @@ abbrev pub path_at : List (List ℕ) → Option ℕ → List ℕ
 path_at words None = []
 path_at words (Some i) = word_at words i
 
--- the names of the model's file and of the second one; the empty name where the job reads no such file
-abbrev pub model_path : List (String Global) → List ℕ
-model_path words = path_at (map string_bytes words) (files_of (job_of words)).model
+-- the names of the model's file and of the second one, of the words that ask for this; the empty name where the job reads no such file
+abbrev pub model_path : Asked → List (String Global) → List ℕ
+model_path asked words = path_at (map string_bytes words) (files_of asked).model
 
-abbrev pub second_path : List (String Global) → List ℕ
-second_path words = path_at (map string_bytes words) (files_of (job_of words)).second
+abbrev pub second_path : Asked → List (String Global) → List ℕ
+second_path asked words = path_at (map string_bytes words) (files_of asked).second
