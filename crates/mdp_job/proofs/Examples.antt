@@ -4,7 +4,7 @@ use Rattle.std.specs.{Fmt.{digits}, List.{slice_split}, Prelude.{◌==◌, codes
 use Rattle.mdp_math.specs.{Gcd.{gcd, gcd_with_fuel}, Rational.{of_int, ratio, lt_ℚ}}
 use Rattle.mdp_num.specs.{Numeral.{parts_of, numeral_of}, Value.{spelling}}
 use Rattle.mdp_rows.specs.{declared.rule.RowRule.TheVariants.{Exact, Scaled}, declared.dir.Dir.TheVariants.{Max, Min}}
-use Rattle.mdp_job.specs.Job.{Asked, reach, until, reward, mean, solve, witness, check, drill, horizon, total, policy, chain, discount, discount_check, files_of}
+use Rattle.mdp_job.specs.Job.{Asked, reach, until, reward, mean, solve, witness, check, drill, horizon, total, policy, chain, discount, discount_check, on_model, on_pair, files_of}
 use Rattle.mdp_job.specs.{Job.{bounds, bounds_until, bounds_total, bounds_discount, bounds_witness, bounds_check, curve_until, curve_total}, Refusal.{no_job, query_init, below, undecided}}
 use Rattle.mdp_job.specs.{Status.{code_of, status_of}, Text.{text_of}, Words.{job_of_texts, path_at}}
 use Rattle.mdp_job.specs.declared.words_error.WordsError.TheVariants.{Command, Number, Rows, Direction, Objective, Threshold, Drill, Steps, Factor, Digits, Encoding}
@@ -36,10 +36,10 @@ checks : Asks (
     (codes "visit m exact c", Err Command) ∷
     (codes "check m EXACT", Err Number) ∷
     (codes "check m EXACT c", Err Rows) ∷
-    (codes "check m scaled c", Ok (check Scaled)) ∷
-    (codes "discount-check m scaled c", Ok (discount_check Scaled)) ∷
+    (codes "check m scaled c", Ok (on_pair Scaled check)) ∷
+    (codes "discount-check m scaled c", Ok (on_pair Scaled discount_check)) ∷
     (codes "discount-check m exact c d", Err Number) ∷
-    (codes "bounds-check m exact c", Ok (bounds_check Exact)) ∷
+    (codes "bounds-check m exact c", Ok (on_pair Exact bounds_check)) ∷
     (codes "bounds-check m EXACT", Err Number) ∷
     (codes "bounds-check m EXACT c", Err Rows) ∷
     []
@@ -47,10 +47,10 @@ checks : Asks (
 checks = refl
 
 -- the files of a check are its first and its third word
-model_of_check : path_at (words (codes "check m scaled c")) (files_of (Ok (check Scaled))).model ≡ codes "m"
+model_of_check : path_at (words (codes "check m scaled c")) (files_of (Ok (on_pair Scaled check))).model ≡ codes "m"
 model_of_check = refl
 
-cert_of_check : path_at (words (codes "check m scaled c")) (files_of (Ok (check Scaled))).second ≡ codes "c"
+cert_of_check : path_at (words (codes "check m scaled c")) (files_of (Ok (on_pair Scaled check))).second ≡ codes "c"
 cert_of_check = refl
 
 no_second : path_at (words (codes "horizon m")) None ≡ []
@@ -64,17 +64,17 @@ solves : Asks (
     (codes "solve m exact best reach goal", Err Direction) ∷
     (codes "solve m exact max visit", Err Objective) ∷
     (codes "solve m exact max reach", Err Number) ∷
-    (codes "solve m scaled max reach goal", Ok (solve Scaled Max (reach (codes "goal")))) ∷
+    (codes "solve m scaled max reach goal", Ok (on_model Scaled (solve Max (reach (codes "goal"))))) ∷
     -- until has two labels; `-` is a label's name here
-    (codes "solve m exact max until safe goal", Ok (solve Exact Max (until (codes "safe") (codes "goal")))) ∷
-    (codes "solve m exact max until - goal", Ok (solve Exact Max (until (codes "-") (codes "goal")))) ∷
+    (codes "solve m exact max until safe goal", Ok (on_model Exact (solve Max (until (codes "safe") (codes "goal"))))) ∷
+    (codes "solve m exact max until - goal", Ok (on_model Exact (solve Max (until (codes "-") (codes "goal"))))) ∷
     (codes "solve m exact max until goal", Err Number) ∷
     (codes "solve m exact max until safe goal 3", Err Number) ∷
     -- a reward has a name and a label
     (codes "solve m exact max reward -", Err Number) ∷
-    (codes "solve m exact max reward - goal", Ok (solve Exact Max (reward (codes "-") (codes "goal")))) ∷
+    (codes "solve m exact max reward - goal", Ok (on_model Exact (solve Max (reward (codes "-") (codes "goal"))))) ∷
     -- a mean payoff has a name alone
-    (codes "solve m exact max mean -", Ok (solve Exact Max (mean (codes "-")))) ∷
+    (codes "solve m exact max mean -", Ok (on_model Exact (solve Max (mean (codes "-"))))) ∷
     (codes "solve m exact max mean - goal", Err Number) ∷
     (codes "solve m exact max mean", Err Number) ∷
     []
@@ -82,7 +82,7 @@ solves : Asks (
 solves = refl
 
 -- a label may have a blank
-blank_label : job_of_texts (codes "solve" ∷ codes "m" ∷ codes "scaled" ∷ codes "max" ∷ codes "reach" ∷ codes "is done" ∷ []) ≡ Ok (solve Scaled Max (reach (codes "is done")))
+blank_label : job_of_texts (codes "solve" ∷ codes "m" ∷ codes "scaled" ∷ codes "max" ∷ codes "reach" ∷ codes "is done" ∷ []) ≡ Ok (on_model Scaled (solve Max (reach (codes "is done"))))
 blank_label = refl
 
 -- ---- `drill`: numbers of at most 20 digits below 2^64, 1 to 100 layers, at most 2^20 - 2 states in them
@@ -104,15 +104,15 @@ drills = refl
 -- ---- `horizon`, `total`: the row rule, the direction, then the steps
 
 horizons : Asks (
-    (codes "horizon m exact max - goal 2", Ok (horizon Exact Max None (codes "goal") 2)) ∷
-    (codes "horizon m exact max safe goal 9999999", Ok (horizon Exact Max (Some (codes "safe")) (codes "goal") 9999999)) ∷
+    (codes "horizon m exact max - goal 2", Ok (on_model Exact (horizon Max None (codes "goal") 2))) ∷
+    (codes "horizon m exact max safe goal 9999999", Ok (on_model Exact (horizon Max (Some (codes "safe")) (codes "goal") 9999999))) ∷
     (codes "horizon m exact best - goal x", Err Direction) ∷
     (codes "horizon m exact max - goal 00000001", Err Steps) ∷
     -- an empty word
     (codes "horizon m exact max - goal ", Err Steps) ∷
     -- `reward` is a label as any other
-    (codes "horizon m exact max reward cost 30", Ok (horizon Exact Max (Some (codes "reward")) (codes "cost") 30)) ∷
-    (codes "total m exact max cost 30", Ok (total Exact Max (codes "cost") 30)) ∷
+    (codes "horizon m exact max reward cost 30", Ok (on_model Exact (horizon Max (Some (codes "reward")) (codes "cost") 30))) ∷
+    (codes "total m exact max cost 30", Ok (on_model Exact (total Max (codes "cost") 30))) ∷
     (codes "total m exact best cost x", Err Direction) ∷
     (codes "total m exact max cost 12345678", Err Steps) ∷
     (codes "total m EXACT max cost", Err Number) ∷
@@ -123,9 +123,9 @@ horizons = refl
 -- ---- `curve`: four words at least, the row rule, the direction, the objective, its number of words, the steps, then the digits
 
 curves : Asks (
-    (codes "curve m exact max until - goal 100 9", Ok (curve_until Exact Max None (codes "goal") 100 9)) ∷
-    (codes "curve m exact min until safe goal 0 30", Ok (curve_until Exact Min (Some (codes "safe")) (codes "goal") 0 30)) ∷
-    (codes "curve m scaled max total cost 30 6", Ok (curve_total Scaled Max (codes "cost") 30 6)) ∷
+    (codes "curve m exact max until - goal 100 9", Ok (on_model Exact (curve_until Max None (codes "goal") 100 9))) ∷
+    (codes "curve m exact min until safe goal 0 30", Ok (on_model Exact (curve_until Min (Some (codes "safe")) (codes "goal") 0 30))) ∷
+    (codes "curve m scaled max total cost 30 6", Ok (on_model Scaled (curve_total Max (codes "cost") 30 6))) ∷
     (codes "curve m EXACT", Err Number) ∷
     (codes "curve m EXACT best visit", Err Rows) ∷
     (codes "curve m exact best visit", Err Direction) ∷
@@ -141,8 +141,8 @@ curves = refl
 -- ---- `policy`: the number of words, the row rule, then the objective; `chain`: the number of words, then the row rule
 
 policies : Asks (
-    (codes "policy m exact p reach goal", Ok (policy Exact None (codes "goal"))) ∷
-    (codes "policy m exact p until safe goal", Ok (policy Exact (Some (codes "safe")) (codes "goal"))) ∷
+    (codes "policy m exact p reach goal", Ok (on_pair Exact (policy None (codes "goal")))) ∷
+    (codes "policy m exact p until safe goal", Ok (on_pair Exact (policy (Some (codes "safe")) (codes "goal")))) ∷
     (codes "policy m EXACT p until safe goal", Err Rows) ∷
     -- one label, and another objective with two
     (codes "policy m exact p until goal", Err Objective) ∷
@@ -150,7 +150,7 @@ policies : Asks (
     (codes "policy m EXACT p visit", Err Number) ∷
     (codes "policy m EXACT p visit goal", Err Rows) ∷
     (codes "policy m exact p reward goal", Err Objective) ∷
-    (codes "chain m scaled p", Ok (chain Scaled)) ∷
+    (codes "chain m scaled p", Ok (on_pair Scaled chain)) ∷
     (codes "chain m EXACT p reach", Err Number) ∷
     (codes "chain m EXACT p", Err Rows) ∷
     []
@@ -160,14 +160,14 @@ policies = refl
 -- ---- `witness`: the number of words, the row rule, the direction, then the threshold, which may be above 1
 
 witnesses : Asks (
-    (codes "witness m exact min goal 0.50", Ok (witness Exact Min None (codes "goal") (ratio (pos 1) 2))) ∷
-    (codes "witness m scaled max goal 2", Ok (witness Scaled Max None (codes "goal") (ratio (pos 2) 1))) ∷
+    (codes "witness m exact min goal 0.50", Ok (on_model Exact (witness Min None (codes "goal") (ratio (pos 1) 2)))) ∷
+    (codes "witness m scaled max goal 2", Ok (on_model Scaled (witness Max None (codes "goal") (ratio (pos 2) 1)))) ∷
     -- with two labels
-    (codes "witness m exact max until safe goal 0.50", Ok (witness Exact Max (Some (codes "safe")) (codes "goal") (ratio (pos 1) 2))) ∷
+    (codes "witness m exact max until safe goal 0.50", Ok (on_model Exact (witness Max (Some (codes "safe")) (codes "goal") (ratio (pos 1) 2)))) ∷
     (codes "witness m exact max until safe goal half", Err Threshold) ∷
     (codes "witness m EXACT max reach safe goal 1", Err Number) ∷
     -- `until` as a label
-    (codes "witness m exact max until 1", Ok (witness Exact Max None (codes "until") (ratio (pos 1) 1))) ∷
+    (codes "witness m exact max until 1", Ok (on_model Exact (witness Max None (codes "until") (ratio (pos 1) 1)))) ∷
     (codes "witness m exact max goal -1/2", Err Threshold) ∷
     (codes "witness m exact best goal half", Err Direction) ∷
     (codes "witness m EXACT best goal", Err Number) ∷
@@ -179,8 +179,8 @@ witnesses = refl
 -- ---- `discount`: the number of words, the row rule, the direction, then the factor, at least 0 and below 1
 
 discounts : Asks (
-    (codes "discount m exact max - 0.50", Ok (discount Exact Max (codes "-") (ratio (pos 1) 2))) ∷
-    (codes "discount m exact max energy 0", Ok (discount Exact Max (codes "energy") (ratio (pos 0) 1))) ∷
+    (codes "discount m exact max - 0.50", Ok (on_model Exact (discount Max (codes "-") (ratio (pos 1) 2)))) ∷
+    (codes "discount m exact max energy 0", Ok (on_model Exact (discount Max (codes "energy") (ratio (pos 0) 1)))) ∷
     (codes "discount m exact max - 1", Err Factor) ∷
     (codes "discount m exact max - -1/2", Err Factor) ∷
     (codes "discount m exact best - 2", Err Direction) ∷
@@ -193,8 +193,8 @@ discounts = refl
 -- ---- `bounds`: six words at least, the row rule, the direction, the objective, its number of words, then the digits, 1 to 30
 
 bounds_asked : Asks (
-    (codes "bounds m exact min reach goal 12", Ok (bounds Exact Min (reach (codes "goal")) 12)) ∷
-    (codes "bounds m scaled max reach goal 30", Ok (bounds Scaled Max (reach (codes "goal")) 30)) ∷
+    (codes "bounds m exact min reach goal 12", Ok (on_model Exact (bounds Min (reach (codes "goal")) 12))) ∷
+    (codes "bounds m scaled max reach goal 30", Ok (on_model Scaled (bounds Max (reach (codes "goal")) 30))) ∷
     (codes "bounds m exact max reach goal 31", Err Digits) ∷
     (codes "bounds m exact max reach goal 0", Err Digits) ∷
     (codes "bounds m exact max reach goal 06", Err Digits) ∷
@@ -204,14 +204,14 @@ bounds_asked : Asks (
     (codes "bounds m exact max visit - goal 0", Err Objective) ∷
     (codes "bounds m exact max reach goal 0 1", Err Number) ∷
     -- until without a deadline
-    (codes "bounds m exact max until safe goal 6", Ok (bounds Exact Max (until (codes "safe") (codes "goal")) 6)) ∷
+    (codes "bounds m exact max until safe goal 6", Ok (on_model Exact (bounds Max (until (codes "safe") (codes "goal")) 6))) ∷
     (codes "bounds m exact max until safe goal 0", Err Digits) ∷
     (codes "bounds m exact max until goal 0", Err Number) ∷
     -- a reward has a name and a label before the digits, a mean payoff a name alone
-    (codes "bounds m exact max reward - goal 6", Ok (bounds Exact Max (reward (codes "-") (codes "goal")) 6)) ∷
+    (codes "bounds m exact max reward - goal 6", Ok (on_model Exact (bounds Max (reward (codes "-") (codes "goal")) 6))) ∷
     (codes "bounds m exact max reward goal 0", Err Number) ∷
     (codes "bounds m exact max reward - goal 0", Err Digits) ∷
-    (codes "bounds m exact min mean - 6", Ok (bounds Exact Min (mean (codes "-")) 6)) ∷
+    (codes "bounds m exact min mean - 6", Ok (on_model Exact (bounds Min (mean (codes "-")) 6))) ∷
     (codes "bounds m exact min mean - goal 0", Err Number) ∷
     []
     )
@@ -219,12 +219,12 @@ bounds_asked = refl
 
 -- a deadline or a factor comes before the digits, and has its own refusal
 bounds_within : Asks (
-    (codes "bounds m exact max until - goal 100 9", Ok (bounds_until Exact Max None (codes "goal") 100 9)) ∷
+    (codes "bounds m exact max until - goal 100 9", Ok (on_model Exact (bounds_until Max None (codes "goal") 100 9))) ∷
     (codes "bounds m exact max until - goal 100 9 1", Err Number) ∷
     (codes "bounds m exact max until - goal x 0", Err Steps) ∷
-    (codes "bounds m exact min total cost 7 9", Ok (bounds_total Exact Min (codes "cost") 7 9)) ∷
+    (codes "bounds m exact min total cost 7 9", Ok (on_model Exact (bounds_total Min (codes "cost") 7 9))) ∷
     (codes "bounds m exact max total - 7 0", Err Digits) ∷
-    (codes "bounds m exact max discount - 0.50 9", Ok (bounds_discount Exact Max (codes "-") (ratio (pos 1) 2) 9)) ∷
+    (codes "bounds m exact max discount - 0.50 9", Ok (on_model Exact (bounds_discount Max (codes "-") (ratio (pos 1) 2) 9))) ∷
     (codes "bounds m exact max discount - 1 0", Err Factor) ∷
     []
     )
@@ -233,9 +233,9 @@ bounds_within = refl
 
 -- the words of `witness` behind the objective: one label, or two behind `until`; then the threshold
 bounds_of_witness : Asks (
-    (codes "bounds m exact max witness goal 1/4", Ok (bounds_witness Exact Max None (codes "goal") (ratio (pos 1) 4))) ∷
-    (codes "bounds m scaled min witness until 0.5", Ok (bounds_witness Scaled Min None (codes "until") (ratio (pos 1) 2))) ∷
-    (codes "bounds m exact max witness until safe goal 1/4", Ok (bounds_witness Exact Max (Some (codes "safe")) (codes "goal") (ratio (pos 1) 4))) ∷
+    (codes "bounds m exact max witness goal 1/4", Ok (on_model Exact (bounds_witness Max None (codes "goal") (ratio (pos 1) 4)))) ∷
+    (codes "bounds m scaled min witness until 0.5", Ok (on_model Scaled (bounds_witness Min None (codes "until") (ratio (pos 1) 2)))) ∷
+    (codes "bounds m exact max witness until safe goal 1/4", Ok (on_model Exact (bounds_witness Max (Some (codes "safe")) (codes "goal") (ratio (pos 1) 4)))) ∷
     (codes "bounds m exact max witness goal 1/0", Err Threshold) ∷
     (codes "bounds m exact max witness until safe goal -1", Err Threshold) ∷
     (codes "bounds m exact max witness goal 1/4 9", Err Number) ∷

@@ -34,8 +34,9 @@ use Rattle.mdp_math.specs.{Rational.{ℚ, of_int, lt_ℚ}, Result.{◌>>=◌}}
 use Rattle.mdp_num.specs.{Digits.{is_digits, number}, Numeral.{numeral_of}, declared.errors.NumeralError.{NumeralError}}
 use Rattle.mdp_rows.specs.{declared.dir.Dir.{Dir}, declared.dir.Dir.TheVariants.{Max, Min}, declared.rule.RowRule.{RowRule}}
 use Rattle.mdp_rows.specs.declared.rule.RowRule.TheVariants.{Exact, Scaled}
-use Rattle.mdp_job.specs.Job.{PlainQuery, reach, until, reward, mean, solve, witness, check, drill, horizon, total, policy, chain, discount, discount_check}
-use Rattle.mdp_job.specs.Job.{bounds, bounds_until, bounds_total, bounds_discount, bounds_witness, bounds_check, curve_until, curve_total, Asked, files_of}
+use Rattle.mdp_job.specs.Job.{PlainQuery, reach, until, reward, mean, PlainTask, solve, witness, horizon, total, discount, bounds, bounds_until, bounds_total}
+use Rattle.mdp_job.specs.Job.{bounds_discount, bounds_witness, curve_until, curve_total, PlainPairTask, check, policy, chain, discount_check, bounds_check}
+use Rattle.mdp_job.specs.Job.{on_model, on_pair, drill, Asked, files_of}
 use Rattle.mdp_job.specs.declared.words_error.WordsError.{WordsError}
 use Rattle.mdp_job.specs.declared.words_error.WordsError.TheVariants.{Command, Number, Rows, Direction, Objective, Threshold, Drill, Steps, Factor, Digits}
 
@@ -50,13 +51,25 @@ rule_of word = if bytes_eq word (codes "exact") then Ok Exact else (if bytes_eq 
 abbrev pub dir_of : List ℕ → Result Dir WordsError
 dir_of word = if bytes_eq word (codes "max") then Ok Max else (if bytes_eq word (codes "min") then Ok Min else Err Direction)
 
+-- ---- what the words of several commands begin with
+
+-- the row rule, then the direction
+abbrev pub head_of : List ℕ → List ℕ → Result (RowRule × Dir) WordsError
+head_of rows dir = rule_of rows >>= (λ rule. dir_of dir >>= (λ best. Ok (record { 0 = rule; 1 = best })))
+
+-- MODEL ROWS DIR, then the words of a task
+abbrev pub on_model_of : List (List ℕ) → (Dir → Result PlainTask WordsError) → Asked
+on_model_of words task_of = head_of (word_at words 1) (word_at words 2) >>= (λ head. task_of head.1 >>= (λ task. Ok (on_model head.0 task)))
+
 -- the row rule of the words MODEL ROWS CERT
 abbrev pub rows_of : List (List ℕ) → Result RowRule WordsError
 rows_of words = if length words == 3 then rule_of (word_at words 1) else Err Number
 
--- the words behind `check`
-abbrev pub check_of : List (List ℕ) → Asked
-check_of words = rows_of words >>= λ rule. Ok (check rule)
+-- MODEL ROWS and a second file, where the task has no words of its own
+abbrev pub pair_of : PlainPairTask → List (List ℕ) → Asked
+pair_of task words = rows_of words >>= λ rule. Ok (on_pair rule task)
+
+-- ---- the commands
 
 -- the words behind `solve`: how many there are at least, the row rule, the direction, the objective, and how many words that has
 abbrev pub reach_of : List (List ℕ) → Result PlainQuery WordsError
@@ -81,7 +94,7 @@ query_of words =
 abbrev pub solve_of : List (List ℕ) → Asked
 solve_of words =
     if nat_lt (length words) 4 then Err Number
-    else (rule_of (word_at words 1) >>= (λ rule. dir_of (word_at words 2) >>= (λ dir. query_of words >>= (λ query. Ok (solve rule dir query)))))
+    else on_model_of words (λ dir. query_of words >>= (λ query. Ok (solve dir query)))
 
 -- a numeral, as a value of a model's row is spelled
 abbrev pub threshold_by : Result ℚ NumeralError → Result ℚ WordsError
@@ -95,17 +108,14 @@ threshold_of word = threshold_by (numeral_of word)
 abbrev pub witness_reach_of : List (List ℕ) → Asked
 witness_reach_of words =
     if length words == 5
-    then (rule_of (word_at words 1)
-    >>= (λ rule. dir_of (word_at words 2) >>= (λ dir. threshold_of (word_at words 4) >>= (λ threshold. Ok (witness rule dir None (word_at words 3) threshold)))))
+    then on_model_of words (λ dir. threshold_of (word_at words 4) >>= (λ threshold. Ok (witness dir None (word_at words 3) threshold)))
     else Err Number
 
 -- the same of seven words, with two labels
 abbrev pub witness_until_of : List (List ℕ) → Asked
 witness_until_of words =
     if length words == 7
-    then (rule_of (word_at words 1)
-    >>= (λ rule. dir_of (word_at words 2)
-    >>= (λ dir. threshold_of (word_at words 6) >>= (λ threshold. Ok (witness rule dir (Some (word_at words 4)) (word_at words 5) threshold)))))
+    then on_model_of words (λ dir. threshold_of (word_at words 6) >>= (λ threshold. Ok (witness dir (Some (word_at words 4)) (word_at words 5) threshold)))
     else Err Number
 
 -- seven words of which the fourth is `until` name two labels
@@ -143,38 +153,31 @@ steps_of word = ok_or (whole_word 7 word) Steps
 abbrev pub horizon_of : List (List ℕ) → Asked
 horizon_of words =
     if length words == 6
-    then (rule_of (word_at words 1)
-    >>= (λ rule. dir_of (word_at words 2)
-    >>= (λ dir. steps_of (word_at words 5) >>= (λ steps. Ok (horizon rule dir (stay_of (word_at words 3)) (word_at words 4) steps)))))
+    then on_model_of words (λ dir. steps_of (word_at words 5) >>= (λ steps. Ok (horizon dir (stay_of (word_at words 3)) (word_at words 4) steps)))
     else Err Number
 
 -- the words behind `total`: the same
 abbrev pub total_of : List (List ℕ) → Asked
 total_of words =
     if length words == 5
-    then (rule_of (word_at words 1)
-    >>= (λ rule. dir_of (word_at words 2) >>= (λ dir. steps_of (word_at words 4) >>= (λ steps. Ok (total rule dir (word_at words 3) steps)))))
+    then on_model_of words (λ dir. steps_of (word_at words 4) >>= (λ steps. Ok (total dir (word_at words 3) steps)))
     else Err Number
 
 -- the words behind `policy`: the row rule, then the objective
 abbrev pub policy_reach_of : List (List ℕ) → Asked
 policy_reach_of words =
     if length words == 5
-    then (rule_of (word_at words 1) >>= (λ rule. if bytes_eq (word_at words 3) (codes "reach") then Ok (policy rule None (word_at words 4)) else Err Objective))
+    then (rule_of (word_at words 1) >>= (λ rule. if bytes_eq (word_at words 3) (codes "reach") then Ok (on_pair rule (policy None (word_at words 4))) else Err Objective))
     else Err Number
 
 -- the row rule of six words, with two labels
 abbrev pub policy_until_of : List (List ℕ) → Asked
 policy_until_of words =
-    if length words == 6 then (rule_of (word_at words 1) >>= (λ rule. Ok (policy rule (Some (word_at words 4)) (word_at words 5)))) else Err Number
+    if length words == 6 then (rule_of (word_at words 1) >>= (λ rule. Ok (on_pair rule (policy (Some (word_at words 4)) (word_at words 5))))) else Err Number
 
 -- six words of which the fourth is `until` name two labels
 abbrev pub policy_of : List (List ℕ) → Asked
 policy_of words = if (length words == 6) && bytes_eq (word_at words 3) (codes "until") then policy_until_of words else policy_reach_of words
-
--- the words behind `chain`
-abbrev pub chain_of : List (List ℕ) → Asked
-chain_of words = rows_of words >>= λ rule. Ok (chain rule)
 
 -- a numeral below 1, as a value of a model's row is spelled
 abbrev pub below_one : Result ℚ NumeralError → Result ℚ WordsError
@@ -188,13 +191,8 @@ factor_of word = below_one (numeral_of word)
 abbrev pub discount_of : List (List ℕ) → Asked
 discount_of words =
     if length words == 5
-    then (rule_of (word_at words 1)
-    >>= (λ rule. dir_of (word_at words 2) >>= (λ dir. factor_of (word_at words 4) >>= (λ factor. Ok (discount rule dir (word_at words 3) factor)))))
+    then on_model_of words (λ dir. factor_of (word_at words 4) >>= (λ factor. Ok (discount dir (word_at words 3) factor)))
     else Err Number
-
--- the words behind `discount-check`
-abbrev pub discount_check_of : List (List ℕ) → Asked
-discount_check_of words = rows_of words >>= λ rule. Ok (discount_check rule)
 
 -- whether the first byte is `0`
 abbrev pub begins_with_zero : List ℕ → Bool
@@ -218,107 +216,82 @@ bounds_query_of words = query_of (take (length words - 1) words)
 abbrev pub bounds_digits_of : List (List ℕ) → Result ℕ WordsError
 bounds_digits_of words = digits_of (word_at words (length words - 1))
 
-abbrev pub bounds_best_of : RowRule → Dir → List (List ℕ) → Asked
-bounds_best_of rule dir words = bounds_query_of words >>= (λ query. bounds_digits_of words >>= (λ digits. Ok (bounds rule dir query digits)))
+abbrev pub bounds_best_of : Dir → List (List ℕ) → Result PlainTask WordsError
+bounds_best_of dir words = bounds_query_of words >>= (λ query. bounds_digits_of words >>= (λ digits. Ok (bounds dir query digits)))
 
-abbrev pub bounds_until_of : RowRule → Dir → List (List ℕ) → Asked
-bounds_until_of rule dir words =
+-- of `bounds` and of `curve` behind the objective `until`: two labels, the steps, then the digits
+abbrev pub until_within : List (List ℕ) → (Option (List ℕ) → List ℕ → ℕ → ℕ → PlainTask) → Result PlainTask WordsError
+until_within words task =
     if length words == 8
-    then (steps_of (word_at words 6)
-    >>= (λ steps. digits_of (word_at words 7) >>= (λ digits. Ok (bounds_until rule dir (stay_of (word_at words 4)) (word_at words 5) steps digits))))
+    then (steps_of (word_at words 6) >>= (λ steps. digits_of (word_at words 7) >>= (λ digits. Ok (task (stay_of (word_at words 4)) (word_at words 5) steps digits))))
     else Err Number
 
-abbrev pub bounds_total_of : RowRule → Dir → List (List ℕ) → Asked
-bounds_total_of rule dir words =
+-- and behind the objective `total`: a name, the steps, then the digits
+abbrev pub total_within : List (List ℕ) → (List ℕ → ℕ → ℕ → PlainTask) → Result PlainTask WordsError
+total_within words task =
     if length words == 7
-    then (steps_of (word_at words 5) >>= (λ steps. digits_of (word_at words 6) >>= (λ digits. Ok (bounds_total rule dir (word_at words 4) steps digits))))
+    then (steps_of (word_at words 5) >>= (λ steps. digits_of (word_at words 6) >>= (λ digits. Ok (task (word_at words 4) steps digits))))
     else Err Number
 
-abbrev pub bounds_discount_of : RowRule → Dir → List (List ℕ) → Asked
-bounds_discount_of rule dir words =
+abbrev pub bounds_discount_of : Dir → List (List ℕ) → Result PlainTask WordsError
+bounds_discount_of dir words =
     if length words == 7
-    then (factor_of (word_at words 5) >>= (λ factor. digits_of (word_at words 6) >>= (λ digits. Ok (bounds_discount rule dir (word_at words 4) factor digits))))
+    then (factor_of (word_at words 5) >>= (λ factor. digits_of (word_at words 6) >>= (λ digits. Ok (bounds_discount dir (word_at words 4) factor digits))))
     else Err Number
 
 -- the words of `witness` behind the objective, without those of the row rule and the direction: eight words of which the fifth is `until` name two labels
-abbrev pub bounds_witness_reach_of : RowRule → Dir → List (List ℕ) → Asked
-bounds_witness_reach_of rule dir words =
-    if length words == 6 then (threshold_of (word_at words 5) >>= (λ threshold. Ok (bounds_witness rule dir None (word_at words 4) threshold))) else Err Number
+abbrev pub bounds_witness_reach_of : Dir → List (List ℕ) → Result PlainTask WordsError
+bounds_witness_reach_of dir words =
+    if length words == 6 then (threshold_of (word_at words 5) >>= (λ threshold. Ok (bounds_witness dir None (word_at words 4) threshold))) else Err Number
 
-abbrev pub bounds_witness_until_of : RowRule → Dir → List (List ℕ) → Asked
-bounds_witness_until_of rule dir words =
+abbrev pub bounds_witness_until_of : Dir → List (List ℕ) → Result PlainTask WordsError
+bounds_witness_until_of dir words =
     if length words == 8
-    then (threshold_of (word_at words 7) >>= (λ threshold. Ok (bounds_witness rule dir (Some (word_at words 5)) (word_at words 6) threshold)))
+    then (threshold_of (word_at words 7) >>= (λ threshold. Ok (bounds_witness dir (Some (word_at words 5)) (word_at words 6) threshold)))
     else Err Number
 
-abbrev pub bounds_witness_of : RowRule → Dir → List (List ℕ) → Asked
-bounds_witness_of rule dir words =
-    if (length words == 8) && bytes_eq (word_at words 4) (codes "until") then bounds_witness_until_of rule dir words else bounds_witness_reach_of rule dir words
+abbrev pub bounds_witness_of : Dir → List (List ℕ) → Result PlainTask WordsError
+bounds_witness_of dir words = if (length words == 8) && bytes_eq (word_at words 4) (codes "until") then bounds_witness_until_of dir words else bounds_witness_reach_of dir words
 
-abbrev pub bounds_by : RowRule → Dir → List (List ℕ) → Asked
-bounds_by rule dir words =
-    if bytes_eq (word_at words 3) (codes "until") && (length words == 8) then bounds_until_of rule dir words
-    else (if bytes_eq (word_at words 3) (codes "total") then bounds_total_of rule dir words
-    else (if bytes_eq (word_at words 3) (codes "discount") then bounds_discount_of rule dir words
-    else (if bytes_eq (word_at words 3) (codes "witness") then bounds_witness_of rule dir words else bounds_best_of rule dir words)))
+abbrev pub bounds_by : Dir → List (List ℕ) → Result PlainTask WordsError
+bounds_by dir words =
+    if bytes_eq (word_at words 3) (codes "until") && (length words == 8) then until_within words (bounds_until dir)
+    else (if bytes_eq (word_at words 3) (codes "total") then total_within words (bounds_total dir)
+    else (if bytes_eq (word_at words 3) (codes "discount") then bounds_discount_of dir words
+    else (if bytes_eq (word_at words 3) (codes "witness") then bounds_witness_of dir words else bounds_best_of dir words)))
 
 abbrev pub bounds_of : List (List ℕ) → Asked
-bounds_of words =
-    if nat_lt (length words) 6 then Err Number
-    else (rule_of (word_at words 1) >>= (λ rule. dir_of (word_at words 2) >>= (λ dir. bounds_by rule dir words)))
-
--- the words behind `bounds-check`
-abbrev pub bounds_check_of : List (List ℕ) → Asked
-bounds_check_of words = rows_of words >>= λ rule. Ok (bounds_check rule)
+bounds_of words = if nat_lt (length words) 6 then Err Number else on_model_of words (λ dir. bounds_by dir words)
 
 -- the words behind `curve`: how many there are at least, the row rule, the direction, the objective, how many words that has, the steps, then the digits
-abbrev pub curve_until_of : RowRule → Dir → List (List ℕ) → Asked
-curve_until_of rule dir words =
-    if length words == 8
-    then (steps_of (word_at words 6)
-    >>= (λ steps. digits_of (word_at words 7) >>= (λ digits. Ok (curve_until rule dir (stay_of (word_at words 4)) (word_at words 5) steps digits))))
-    else Err Number
-
-abbrev pub curve_total_of : RowRule → Dir → List (List ℕ) → Asked
-curve_total_of rule dir words =
-    if length words == 7
-    then (steps_of (word_at words 5) >>= (λ steps. digits_of (word_at words 6) >>= (λ digits. Ok (curve_total rule dir (word_at words 4) steps digits))))
-    else Err Number
-
-abbrev pub curve_by : RowRule → Dir → List (List ℕ) → Asked
-curve_by rule dir words =
-    if bytes_eq (word_at words 3) (codes "until") then curve_until_of rule dir words
-    else (if bytes_eq (word_at words 3) (codes "total") then curve_total_of rule dir words else Err Objective)
+abbrev pub curve_by : Dir → List (List ℕ) → Result PlainTask WordsError
+curve_by dir words =
+    if bytes_eq (word_at words 3) (codes "until") then until_within words (curve_until dir)
+    else (if bytes_eq (word_at words 3) (codes "total") then total_within words (curve_total dir) else Err Objective)
 
 abbrev pub curve_of : List (List ℕ) → Asked
-curve_of words =
-    if nat_lt (length words) 4 then Err Number
-    else (rule_of (word_at words 1) >>= (λ rule. dir_of (word_at words 2) >>= (λ dir. curve_by rule dir words)))
+curve_of words = if nat_lt (length words) 4 then Err Number else on_model_of words (λ dir. curve_by dir words)
 
--- the words behind a command whose answer is no certificate and no verdict
-abbrev pub direct_of : List ℕ → List (List ℕ) → Asked
-direct_of command words =
-    if bytes_eq command (codes "horizon") then horizon_of words
+-- the words behind a command on a model alone
+abbrev pub on_model_by : List ℕ → List (List ℕ) → Asked
+on_model_by command words =
+    if bytes_eq command (codes "solve") then solve_of words
+    else (if bytes_eq command (codes "witness") then witness_of words
+    else (if bytes_eq command (codes "horizon") then horizon_of words
     else (if bytes_eq command (codes "total") then total_of words
-    else (if bytes_eq command (codes "curve") then curve_of words
-    else (if bytes_eq command (codes "policy") then policy_of words
-    else (if bytes_eq command (codes "chain") then chain_of words else Err Command))))
-
--- the words behind a command that is none of `solve`, `witness`, `check` and `drill`
-abbrev pub other_of : List ℕ → List (List ℕ) → Asked
-other_of command words =
-    if bytes_eq command (codes "discount") then discount_of words
-    else (if bytes_eq command (codes "discount-check") then discount_check_of words
+    else (if bytes_eq command (codes "discount") then discount_of words
     else (if bytes_eq command (codes "bounds") then bounds_of words
-    else (if bytes_eq command (codes "bounds-check") then bounds_check_of words else direct_of command words)))
+    else (if bytes_eq command (codes "curve") then curve_of words else Err Command))))))
 
 -- a command, and the words behind it
 abbrev pub job_by : List ℕ → List (List ℕ) → Asked
 job_by command words =
-    if bytes_eq command (codes "solve") then solve_of words
-    else (if bytes_eq command (codes "witness") then witness_of words
-    else (if bytes_eq command (codes "check") then check_of words
-    else (if bytes_eq command (codes "drill") then drill_of words else other_of command words)))
+    if bytes_eq command (codes "check") then pair_of check words
+    else (if bytes_eq command (codes "discount-check") then pair_of discount_check words
+    else (if bytes_eq command (codes "bounds-check") then pair_of bounds_check words
+    else (if bytes_eq command (codes "chain") then pair_of chain words
+    else (if bytes_eq command (codes "policy") then policy_of words
+    else (if bytes_eq command (codes "drill") then drill_of words else on_model_by command words)))))
 
 -- the words, as texts
 abbrev pub job_of_texts : List (List ℕ) → Asked
@@ -335,9 +308,9 @@ abbrev pub path_at : List (List ℕ) → Option ℕ → List ℕ
 path_at words None = []
 path_at words (Some i) = word_at words i
 
--- the names of the model's file and of the second one; the empty name where the job reads no such file
-abbrev pub model_path : List (String Global) → List ℕ
-model_path words = path_at (map string_bytes words) (files_of (job_of words)).model
+-- the names of the model's file and of the second one, of the words that ask for this; the empty name where the job reads no such file
+abbrev pub model_path : Asked → List (String Global) → List ℕ
+model_path asked words = path_at (map string_bytes words) (files_of asked).model
 
-abbrev pub second_path : List (String Global) → List ℕ
-second_path words = path_at (map string_bytes words) (files_of (job_of words)).second
+abbrev pub second_path : Asked → List (String Global) → List ℕ
+second_path asked words = path_at (map string_bytes words) (files_of asked).second

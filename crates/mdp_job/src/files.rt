@@ -1,7 +1,8 @@
 ghost use Rattle.std.specs.{Prelude.{◌≡◌, map}, String.{string_bytes}};
-ghost use Rattle.mdp_job.specs.{Job.{files_of}, Words.{job_of, path_at, model_path, second_path}};
+ghost use Rattle.mdp_job.specs.{Job.{asked, files_of}, Words.{path_at, model_path, second_path}};
 
-use crate::job::{Job, job_of};
+use crate::job::Job;
+use crate::words_error::WordsError;
 
 /// The places of the words that name the files of a job, counted from 0. None where the job reads no such file.
 #[derive(Clone, Copy)]
@@ -10,35 +11,16 @@ pub struct Files {
     pub second: Option<usize>,
 }
 
-/// Which of the words name files. Words that are no job name none.
-pub fn files_of(words: &[String]) -> Files
-    ensures { result ≡ files_of (job_of words.now) }
+/// Which of the words name files, where they ask for this job. Words that are no job name none.
+pub fn files_of(job: &Result<Job<'_>, WordsError>) -> Files
+    ensures { result ≡ files_of (asked job.now) }
 {
-    match job_of(words) {
-        Ok(
-            Job::Solve { .. }
-            | Job::Witness { .. }
-            | Job::Horizon { .. }
-            | Job::Total { .. }
-            | Job::Discount { .. }
-            | Job::Bounds { .. }
-            | Job::BoundsUntil { .. }
-            | Job::BoundsTotal { .. }
-            | Job::BoundsDiscount { .. }
-            | Job::BoundsWitness { .. }
-            | Job::CurveUntil { .. }
-            | Job::CurveTotal { .. },
-        ) => Files {
+    match job {
+        Ok(Job::OnModel { .. }) => Files {
             model: Some(1),
             second: None,
         },
-        Ok(
-            Job::Check { .. }
-            | Job::Policy { .. }
-            | Job::Chain { .. }
-            | Job::DiscountCheck { .. }
-            | Job::BoundsCheck { .. },
-        ) => Files {
+        Ok(Job::OnPair { .. }) => Files {
             model: Some(1),
             second: Some(3),
         },
@@ -66,12 +48,12 @@ fn path_at<'a>(words: &'a [String], place: Option<usize>) -> &'a str
     }
 }
 
-/// The words that name the files of the job.
-pub fn paths_of<'a>(words: &'a [String]) -> Paths<'a>
-    ensures model { result.model.now ≡ model_path words.now }
-    ensures second { result.second.now ≡ second_path words.now }
+/// The words that name the files of the job that they ask for.
+pub fn paths_of<'a>(words: &'a [String], job: &Result<Job<'_>, WordsError>) -> Paths<'a>
+    ensures model { result.model.now ≡ model_path (asked job.now) words.now }
+    ensures second { result.second.now ≡ second_path (asked job.now) words.now }
 {
-    let files = files_of(words);
+    let files = files_of(job);
     Paths {
         model: path_at(words, files.model),
         second: path_at(words, files.second),

@@ -1,5 +1,5 @@
 use Rattle.std.proofs.{Common.{arith}, lemmas.Grind.{common_steps}}
-use Rattle.mdp_job.proofs.job.query_of.Goals as goal
+use Rattle.mdp_job.proofs.query_words.query_of.Goals as goal
 
 pub returns-then-eq-3 : goal.returns-then-eq-3
 returns-then-eq-3 c = grind (arith, common_steps)

@@ -1,7 +1,7 @@
 use Rattle.std.proofs.Common.{rules, pos, ℤ, subst}
 use Rattle.std.specs.Prelude.{◌<ℤ◌, ◌≤ℤ◌}
 use Rattle.mdp_job.proofs.Factors.{below_one_by}
-use Rattle.mdp_job.proofs.job.is_below_one.Goals as goal
+use Rattle.mdp_job.proofs.word.is_below_one.Goals as goal
 
 pub returns : goal.returns
 returns c =

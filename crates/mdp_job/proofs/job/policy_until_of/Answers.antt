@@ -1,8 +1,0 @@
-use Rattle.std.proofs.{Common.{arith}, lemmas.Grind.{common_steps}}
-use Rattle.mdp_job.proofs.job.policy_until_of.Goals as goal
-
-pub returns : goal.returns
-returns c = grind (arith, common_steps)
-
-pub returns-in_err-rule : goal.returns-in_err-rule
-returns-in_err-rule c = grind (arith, common_steps)
