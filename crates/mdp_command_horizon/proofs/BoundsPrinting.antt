@@ -1,5 +1,5 @@
 -- A text that is due to `bounds` within a number of steps is that of bounds.
-use Rattle.std.proofs.Common.{◌≡◌, ℕ, ◌*◌, ◌≤◌, ◌⊎◌, inl, inr, nat_lt, List, Option, Some, None, Ok, Err, IfOk, pos, refl, sym}
+use Rattle.std.proofs.Common.{◌≡◌, ℕ, ◌*◌, ◌≤◌, nat_lt, List, Option, Some, None, Ok, pos, refl, sym}
 use Rattle.mdp_math.specs.Result.{◌>>=◌}
 use Rattle.mdp_spec.specs.{Labels.{place_of}, Mdp.{Mdp, states_of}, Row.{IsMdp}}
 use Rattle.mdp_rows.specs.{declared.dir.Dir.{Dir}, declared.dir.Dir.TheVariants.{Max, Min}}
@@ -9,10 +9,8 @@ use Rattle.mdp_horizon.specs.{BoundsSpelling.{PlainClaim, bounds_text}, BoundsSp
 use Rattle.mdp_horizon.proofs.{Turns.{ok_same, ok_part}, Between.{bounds-max, bounds-min}}
 use Rattle.mdp_horizon.proofs.{Finite.{finite_by}, Gap.{near_by}, Fineness.{unit-positive, unit-narrow}}
 use Rattle.mdp_command_horizon.specs.BoundsDue.{said_of_bounds, IsUntilBoundsDue, IsTotalBoundsDue}
-use Rattle.mdp_command_horizon.specs.BoundsShown.{AreBetween, AreBoundsPrinted, AreUntilBoundsPrinted, AreTotalBoundsPrinted}
+use Rattle.mdp_command_horizon.specs.BoundsPrinted.{AreBetween, AreBoundsPrinted, AreUntilBoundsPrinted, AreTotalBoundsPrinted}
 use Rattle.mdp_command_horizon.specs.Due.{most_choices, states_with, states_that_stay, stay_word, name_at}
-use Rattle.mdp_job.specs.Refusal.{no_memory}
-use Rattle.mdp_command.specs.Said.{Said}
 use Rattle.mdp_command_horizon.proofs.Printing.{not_long}
 
 module _ (steps digits : ℕ) (m : Mdp) (mdp : IsMdp m) where
@@ -61,17 +59,3 @@ module _ (steps digits : ℕ) (m : Mdp) (mdp : IsMdp m) where
   pub printed_of_total : (dir : Dir) (name : List ℕ) (text : List ℕ) → IsTotalBoundsDue dir name steps digits m (Ok text)
       → AreTotalBoundsPrinted dir name steps digits m text
   printed_of_total dir name text due = total_by dir name text (place_of name m.names) refl (sym due)
-
-  -- ---- of what is said
-
-  pub until_printed : (dir : Dir) (stay : Option (List ℕ)) (label : List ℕ) → digits ≤ 30 → (said : Said)
-      → (said ≡ Err no_memory) ⊎ IsUntilBoundsDue dir stay label steps digits m said → IfOk said (AreUntilBoundsPrinted dir stay label steps digits m)
-  until_printed dir stay label few (Ok text) (inl memory) = cc memory
-  until_printed dir stay label few (Ok text) (inr due) = printed_of_until dir stay label text few due
-  until_printed dir stay label few (Err r) due = tt
-
-  pub total_printed : (dir : Dir) (name : List ℕ) (said : Said)
-      → (said ≡ Err no_memory) ⊎ IsTotalBoundsDue dir name steps digits m said → IfOk said (AreTotalBoundsPrinted dir name steps digits m)
-  total_printed dir name (Ok text) (inl memory) = cc memory
-  total_printed dir name (Ok text) (inr due) = printed_of_total dir name text due
-  total_printed dir name (Err r) due = tt
