@@ -10,8 +10,8 @@ use Rattle.mdp_horizon.proofs.{Turns.{ok_same, ok_part}, Between.{bounds-max, bo
 use Rattle.mdp_horizon.proofs.{Finite.{finite_by}, Gap.{near_by}, Fineness.{unit-positive, unit-narrow}}
 use Rattle.mdp_command_horizon.specs.BoundsDue.{said_of_bounds, IsUntilBoundsDue, IsTotalBoundsDue}
 use Rattle.mdp_command_horizon.specs.BoundsPrinted.{AreBetween, AreBoundsPrinted, AreUntilBoundsPrinted, AreTotalBoundsPrinted}
-use Rattle.mdp_command_horizon.specs.Due.{most_choices, states_with, states_that_stay, stay_word, name_at}
-use Rattle.mdp_command_horizon.proofs.Printing.{not_long}
+use Rattle.mdp_command_horizon.specs.Due.{most_choices, states_with, states_that_stay, stay_word}
+use Rattle.mdp_command_horizon.proofs.Printing.{not_long, place_part}
 
 module _ (steps digits : ℕ) (m : Mdp) (mdp : IsMdp m) where
   between_of : (dir : Dir) (o : Objective) → AreBetween dir m o steps (bounds_of dir (pos (unit_of m o digits steps)) m o steps)
@@ -50,12 +50,8 @@ module _ (steps digits : ℕ) (m : Mdp) (mdp : IsMdp m) where
         finite = finite_by dir (unit_of m o digits steps) m a.0 b.0 steps _ (unit-positive m o digits steps) (unit-narrow m o digits steps few) mdp refl;
       }
 
-  total_by : (dir : Dir) (name : List ℕ) (text : List ℕ) (place : Option ℕ) → place_of name m.names ≡ place
-      → name_at place >>= (λ r. said_of_bounds dir (total_claim name) (total_objective r) steps digits m) ≡ Ok text
-      → AreTotalBoundsPrinted dir name steps digits m text
-  total_by dir name text None is due = cc due
-  total_by dir name text (Some r) is due = record { place = r; place_is = is; printed = printed_of dir (total_claim name) (total_objective r) text due }
-
   pub printed_of_total : (dir : Dir) (name : List ℕ) (text : List ℕ) → IsTotalBoundsDue dir name steps digits m (Ok text)
       → AreTotalBoundsPrinted dir name steps digits m text
-  printed_of_total dir name text due = total_by dir name text (place_of name m.names) refl (sym due)
+  printed_of_total dir name text due =
+      let r = place_part (place_of name m.names) (λ r. said_of_bounds dir (total_claim name) (total_objective r) steps digits m) text (sym due) in
+      record { place = r.0; place_is = r.1; printed = printed_of dir (total_claim name) (total_objective r.0) text r.2 }

@@ -37,6 +37,11 @@ pub not_long : (long : Bool) (said : Said) (text : List ℕ) → (if long then E
 not_long true said text e = cc e
 not_long false said text e = e
 
+-- what is said of a name is said of its place
+pub place_part : (place : Option ℕ) (f : ℕ → Said) (text : List ℕ) → name_at place >>= f ≡ Ok text → (r : ℕ) × (place ≡ Some r) × (f r ≡ Ok text)
+place_part None f text e = cc e
+place_part (Some r) f text e = (r, refl, e)
+
 text_within : (steps : ℕ) (m : Mdp) (f : Answer → List ℕ) (end : Result Answer Place) (text : List ℕ) → said_within steps m f end ≡ Ok text → (a : Answer) × (end ≡ Ok a) × (text ≡ f a)
 text_within steps m f end text e = text_by f end text (not_long (nat_lt most_choices (steps * states_of m)) (said_of_end f end) text e)
 
@@ -61,11 +66,8 @@ module _ (greatest : TotalsAreGreatest) (least : TotalsAreLeast) (name : List �
   best_total_of Max r a named made = greatest m r steps a mdp named made
   best_total_of Min r a named made = least m r steps a mdp named made
 
-  printed_by : (dir : Dir) (place : Option ℕ) → place_of name m.names ≡ place → name_at place >>= said_of_name dir name steps m ≡ Ok text → IsTotalPrinted dir name steps m text
-  printed_by dir None e due = cc due
-  printed_by dir (Some r) e due =
-      let c = text_within steps m (total_text dir name m) (written_total dir m r steps) text due in
-      record { place = r; place_is = e; answer = c.0; spelled = c.2; computed = c.1; best = best_total_of dir r c.0 (below_names name m.names r e) c.1 }
-
   pub printed_of_total_due : (dir : Dir) → IsTotalDue dir name steps m (Ok text) → IsTotalPrinted dir name steps m text
-  printed_of_total_due dir due = printed_by dir (place_of name m.names) refl (sym due)
+  printed_of_total_due dir due =
+      let r = place_part (place_of name m.names) (said_of_name dir name steps m) text (sym due) in
+      let c = text_within steps m (total_text dir name m) (written_total dir m r.0 steps) text r.2 in
+      record { place = r.0; place_is = r.1; answer = c.0; spelled = c.2; computed = c.1; best = best_total_of dir r.0 c.0 (below_names name m.names r.0 r.1) c.1 }
