@@ -1,5 +1,5 @@
 -- A text that is due to `bounds` within a number of steps is that of bounds.
-use Rattle.std.proofs.Common.{◌≡◌, ℕ, ◌*◌, ◌≤◌, ◌⊎◌, inl, inr, nat_lt, List, Option, Some, None, Ok, Err, IfOk, pos, refl, sym}
+use Rattle.std.proofs.Common.{◌≡◌, ℕ, ◌*◌, ◌≤◌, nat_lt, List, Option, Some, None, Ok, pos, refl, sym}
 use Rattle.mdp_math.specs.Result.{◌>>=◌}
 use Rattle.mdp_spec.specs.{Labels.{place_of}, Mdp.{Mdp, states_of}, Row.{IsMdp}}
 use Rattle.mdp_rows.specs.{declared.dir.Dir.{Dir}, declared.dir.Dir.TheVariants.{Max, Min}}
@@ -9,11 +9,9 @@ use Rattle.mdp_horizon.specs.{BoundsSpelling.{PlainClaim, bounds_text}, BoundsSp
 use Rattle.mdp_horizon.proofs.{Turns.{ok_same, ok_part}, Between.{bounds-max, bounds-min}}
 use Rattle.mdp_horizon.proofs.{Finite.{finite_by}, Gap.{near_by}, Fineness.{unit-positive, unit-narrow}}
 use Rattle.mdp_command_horizon.specs.BoundsDue.{said_of_bounds, IsUntilBoundsDue, IsTotalBoundsDue}
-use Rattle.mdp_command_horizon.specs.BoundsShown.{AreBetween, AreBoundsPrinted, AreUntilBoundsPrinted, AreTotalBoundsPrinted}
-use Rattle.mdp_command_horizon.specs.Due.{most_choices, states_with, states_that_stay, stay_word, name_at}
-use Rattle.mdp_job.specs.Refusal.{no_memory}
-use Rattle.mdp_command.specs.Said.{Said}
-use Rattle.mdp_command_horizon.proofs.Printing.{not_long}
+use Rattle.mdp_command_horizon.specs.BoundsPrinted.{AreBetween, AreBoundsPrinted, AreUntilBoundsPrinted, AreTotalBoundsPrinted}
+use Rattle.mdp_command_horizon.specs.Due.{most_choices, states_with, states_that_stay, stay_word}
+use Rattle.mdp_command_horizon.proofs.Printing.{not_long, place_part}
 
 module _ (steps digits : ℕ) (m : Mdp) (mdp : IsMdp m) where
   between_of : (dir : Dir) (o : Objective) → AreBetween dir m o steps (bounds_of dir (pos (unit_of m o digits steps)) m o steps)
@@ -52,26 +50,8 @@ module _ (steps digits : ℕ) (m : Mdp) (mdp : IsMdp m) where
         finite = finite_by dir (unit_of m o digits steps) m a.0 b.0 steps _ (unit-positive m o digits steps) (unit-narrow m o digits steps few) mdp refl;
       }
 
-  total_by : (dir : Dir) (name : List ℕ) (text : List ℕ) (place : Option ℕ) → place_of name m.names ≡ place
-      → name_at place >>= (λ r. said_of_bounds dir (total_claim name) (total_objective r) steps digits m) ≡ Ok text
-      → AreTotalBoundsPrinted dir name steps digits m text
-  total_by dir name text None is due = cc due
-  total_by dir name text (Some r) is due = record { place = r; place_is = is; printed = printed_of dir (total_claim name) (total_objective r) text due }
-
   pub printed_of_total : (dir : Dir) (name : List ℕ) (text : List ℕ) → IsTotalBoundsDue dir name steps digits m (Ok text)
       → AreTotalBoundsPrinted dir name steps digits m text
-  printed_of_total dir name text due = total_by dir name text (place_of name m.names) refl (sym due)
-
-  -- ---- of what is said
-
-  pub until_printed : (dir : Dir) (stay : Option (List ℕ)) (label : List ℕ) → digits ≤ 30 → (said : Said)
-      → (said ≡ Err no_memory) ⊎ IsUntilBoundsDue dir stay label steps digits m said → IfOk said (AreUntilBoundsPrinted dir stay label steps digits m)
-  until_printed dir stay label few (Ok text) (inl memory) = cc memory
-  until_printed dir stay label few (Ok text) (inr due) = printed_of_until dir stay label text few due
-  until_printed dir stay label few (Err r) due = tt
-
-  pub total_printed : (dir : Dir) (name : List ℕ) (said : Said)
-      → (said ≡ Err no_memory) ⊎ IsTotalBoundsDue dir name steps digits m said → IfOk said (AreTotalBoundsPrinted dir name steps digits m)
-  total_printed dir name (Ok text) (inl memory) = cc memory
-  total_printed dir name (Ok text) (inr due) = printed_of_total dir name text due
-  total_printed dir name (Err r) due = tt
+  printed_of_total dir name text due =
+      let r = place_part (place_of name m.names) (λ r. said_of_bounds dir (total_claim name) (total_objective r) steps digits m) text (sym due) in
+      record { place = r.0; place_is = r.1; printed = printed_of dir (total_claim name) (total_objective r.0) text r.2 }

@@ -1,5 +1,5 @@
 -- A text that is due to `curve` is that of a curve.
-use Rattle.std.proofs.Common.{◌≡◌, ℕ, ◌≤◌, ◌⊎◌, inl, inr, Bool, List, Option, Some, None, Ok, Err, IfOk, pos, refl, sym}
+use Rattle.std.proofs.Common.{◌≡◌, ℕ, ◌≤◌, Bool, List, Option, Some, None, Ok, pos, refl, sym}
 use Rattle.mdp_math.specs.Result.{◌>>=◌}
 use Rattle.mdp_spec.specs.{Labels.{place_of, initial_of}, Mdp.{Mdp}, Row.{IsMdp}}
 use Rattle.mdp_rows.specs.{declared.dir.Dir.{Dir}, declared.dir.Dir.TheVariants.{Max, Min}}
@@ -8,10 +8,9 @@ use Rattle.mdp_horizon.specs.{Objective.{Objective}, Objective.Objective.{until 
 use Rattle.mdp_horizon.specs.{Finer.{unit_of}, Curve.{curve_of, IsFiniteCurve}, CurveSpelling.{curve_text}}
 use Rattle.mdp_horizon.specs.{BoundsSpelling.{PlainClaim}, BoundsSpelling.PlainClaim.{until as until_claim, total as total_claim}}
 use Rattle.mdp_horizon.proofs.{Turns.{ok_same, ok_part}, Curves.{length_by, bounds_by, max_by, min_by, near_by, finite_by}, Fineness.{unit-positive, unit-narrow}}
-use Rattle.mdp_command_horizon.specs.{CurveDue.{said_of_curve, IsUntilCurveDue, IsTotalCurveDue}, Due.{states_with, states_that_stay, stay_word, name_at}}
-use Rattle.mdp_command_horizon.specs.CurveShown.{IsCurveBetween, IsCurvePrinted, IsUntilCurvePrinted, IsTotalCurvePrinted}
-use Rattle.mdp_job.specs.Refusal.{no_memory}
-use Rattle.mdp_command.specs.Said.{Said}
+use Rattle.mdp_command_horizon.specs.{CurveDue.{said_of_curve, IsUntilCurveDue, IsTotalCurveDue}, Due.{states_with, states_that_stay, stay_word}}
+use Rattle.mdp_command_horizon.specs.CurvePrinted.{IsCurveBetween, IsCurvePrinted, IsUntilCurvePrinted, IsTotalCurvePrinted}
+use Rattle.mdp_command_horizon.proofs.Printing.{place_part}
 
 module _ (steps digits : ℕ) (m : Mdp) (mdp : IsMdp m) where
   between_of : (dir : Dir) (o : Objective) (s : ℕ) → initial_of m ≡ Some s → IsCurveBetween dir m o s steps (curve_of dir (pos (unit_of m o digits steps)) m o s steps)
@@ -62,29 +61,8 @@ printed_of_until dir stay label steps digits m text mdp few due =
       finite = finite_at steps digits m mdp dir asked a.0 b.0 text (initial_of m) refl b.2 few;
     }
 
-total_by : (dir : Dir) (name : List ℕ) (steps digits : ℕ) (m : Mdp) (text : List ℕ) → IsMdp m → (place : Option ℕ) → place_of name m.names ≡ place
-    → name_at place >>= (λ r. said_of_curve dir (total_claim name) (total_objective r) steps digits m (initial_of m)) ≡ Ok text → IsTotalCurvePrinted dir name steps digits m text
-total_by dir name steps digits m text mdp None is due = cc due
-total_by dir name steps digits m text mdp (Some r) is due = record {
-  place = r;
-  place_is = is;
-  printed = printed_at steps digits m mdp dir (total_claim name) (total_objective r) text (initial_of m) refl due;
-}
-
 pub printed_of_total : (dir : Dir) (name : List ℕ) (steps digits : ℕ) (m : Mdp) (text : List ℕ) → IsMdp m → IsTotalCurveDue dir name steps digits m (Ok text)
     → IsTotalCurvePrinted dir name steps digits m text
-printed_of_total dir name steps digits m text mdp due = total_by dir name steps digits m text mdp (place_of name m.names) refl (sym due)
-
--- ---- of what is said
-
-pub until_printed : (dir : Dir) (stay : Option (List ℕ)) (label : List ℕ) (steps digits : ℕ) (m : Mdp) → IsMdp m → digits ≤ 30 → (said : Said)
-    → (said ≡ Err no_memory) ⊎ IsUntilCurveDue dir stay label steps digits m said → IfOk said (IsUntilCurvePrinted dir stay label steps digits m)
-until_printed dir stay label steps digits m mdp few (Ok text) (inl memory) = cc memory
-until_printed dir stay label steps digits m mdp few (Ok text) (inr due) = printed_of_until dir stay label steps digits m text mdp few due
-until_printed dir stay label steps digits m mdp few (Err r) due = tt
-
-pub total_printed : (dir : Dir) (name : List ℕ) (steps digits : ℕ) (m : Mdp) → IsMdp m → (said : Said)
-    → (said ≡ Err no_memory) ⊎ IsTotalCurveDue dir name steps digits m said → IfOk said (IsTotalCurvePrinted dir name steps digits m)
-total_printed dir name steps digits m mdp (Ok text) (inl memory) = cc memory
-total_printed dir name steps digits m mdp (Ok text) (inr due) = printed_of_total dir name steps digits m text mdp due
-total_printed dir name steps digits m mdp (Err r) due = tt
+printed_of_total dir name steps digits m text mdp due =
+    let r = place_part (place_of name m.names) (λ r. said_of_curve dir (total_claim name) (total_objective r) steps digits m (initial_of m)) text (sym due) in
+    record { place = r.0; place_is = r.1; printed = printed_at steps digits m mdp dir (total_claim name) (total_objective r.0) text (initial_of m) refl r.2 }

@@ -1,18 +1,17 @@
 -- A text that is due is that of best values; and the states that it speaks of.
-use Rattle.std.proofs.Common.{◌≡◌, ℕ, ◌*◌, ◌<◌, Bool, true, false, if◌then◌else◌, nat_lt, List, length, Option, Some, None, Result, Ok, Err, IfOk, replicate, refl, sym, ap, ◌∙◌}
+use Rattle.std.proofs.Common.{◌≡◌, ℕ, ◌*◌, ◌<◌, Bool, true, false, if◌then◌else◌, nat_lt, List, length, Option, Some, None, Result, Ok, Err, replicate, refl, sym, ap, ◌∙◌}
 use Rattle.std.proofs.lemmas.List.{length-map, length-replicate}
 use Rattle.mdp_math.specs.Result.{◌>>=◌}
 use Rattle.mdp_spec.specs.{Labels.{place_of, marks_of}, Mdp.{Mdp, states_of}, Row.{IsMdp}}
-use Rattle.mdp_rows.specs.{declared.dir.Dir.{Dir}, declared.dir.Dir.TheVariants.{Max, Min}, declared.rule.RowRule.{RowRule}}
+use Rattle.mdp_rows.specs.{declared.dir.Dir.{Dir}, declared.dir.Dir.TheVariants.{Max, Min}}
 use Rattle.mdp_check.proofs.Accepting.{below_names}
 use Rattle.mdp_horizon.specs.{Laws.{AnswersAreGreatest, AnswersAreLeast, TotalsAreGreatest, TotalsAreLeast}, Spelling.{until_text, total_text}}
 use Rattle.mdp_horizon.specs.Written.{Place, Answer, written_until, written_total}
 use Rattle.mdp_horizon.proofs.Turns.{ok_same, ok_part}
 use Rattle.mdp_job.specs.Refusal.{query_steps}
-use Rattle.mdp_command.specs.{Files.{model_due}, Said.{Said}}
-use Rattle.mdp_command.proofs.Working.{read_of_due}
+use Rattle.mdp_command.specs.Said.{Said}
 use Rattle.mdp_command_horizon.specs.Due.{most_choices, said_of_end, said_within, marks_at, states_with, states_that_stay, stay_word, said_of_marks, IsHorizonDue, name_at, said_of_name, IsTotalDue}
-use Rattle.mdp_command_horizon.specs.Shown.{IsShownOf, IsBest, IsHorizonPrinted, IsHorizonShown, IsBestTotal, IsTotalPrinted, IsTotalShown}
+use Rattle.mdp_command_horizon.specs.Printed.{IsBest, IsHorizonPrinted, IsBestTotal, IsTotalPrinted}
 
 -- ---- one mark for each state
 
@@ -38,6 +37,11 @@ pub not_long : (long : Bool) (said : Said) (text : List ℕ) → (if long then E
 not_long true said text e = cc e
 not_long false said text e = e
 
+-- what is said of a name is said of its place
+pub place_part : (place : Option ℕ) (f : ℕ → Said) (text : List ℕ) → name_at place >>= f ≡ Ok text → (r : ℕ) × (place ≡ Some r) × (f r ≡ Ok text)
+place_part None f text e = cc e
+place_part (Some r) f text e = (r, refl, e)
+
 text_within : (steps : ℕ) (m : Mdp) (f : Answer → List ℕ) (end : Result Answer Place) (text : List ℕ) → said_within steps m f end ≡ Ok text → (a : Answer) × (end ≡ Ok a) × (text ≡ f a)
 text_within steps m f end text e = text_by f end text (not_long (nat_lt most_choices (steps * states_of m)) (said_of_end f end) text e)
 
@@ -62,26 +66,8 @@ module _ (greatest : TotalsAreGreatest) (least : TotalsAreLeast) (name : List �
   best_total_of Max r a named made = greatest m r steps a mdp named made
   best_total_of Min r a named made = least m r steps a mdp named made
 
-  printed_by : (dir : Dir) (place : Option ℕ) → place_of name m.names ≡ place → name_at place >>= said_of_name dir name steps m ≡ Ok text → IsTotalPrinted dir name steps m text
-  printed_by dir None e due = cc due
-  printed_by dir (Some r) e due =
-      let c = text_within steps m (total_text dir name m) (written_total dir m r steps) text due in
-      record { place = r; place_is = e; answer = c.0; spelled = c.2; computed = c.1; best = best_total_of dir r c.0 (below_names name m.names r e) c.1 }
-
   pub printed_of_total_due : (dir : Dir) → IsTotalDue dir name steps m (Ok text) → IsTotalPrinted dir name steps m text
-  printed_of_total_due dir due = printed_by dir (place_of name m.names) refl (sym due)
-
--- ---- what is shown of the model's bytes
-
-pub shown_of : (IsPrinted : Mdp → List ℕ → Type 0) (rule : RowRule) (m : Mdp) (said : Said) → IfOk said (IsPrinted m) → (bytes : List ℕ) → model_due rule bytes ≡ Ok m
-    → IfOk said (IsShownOf IsPrinted rule bytes)
-shown_of IsPrinted rule m (Ok text) printed bytes is = let read = read_of_due rule bytes m is in record { short = read.0; model = m; reads = read.1; printed = printed }
-shown_of IsPrinted rule m (Err r) printed bytes is = tt
-
-pub shown : (rule : RowRule) (dir : Dir) (stay : Option (List ℕ)) (label : List ℕ) (steps : ℕ) (m : Mdp) (said : Said) → IfOk said (IsHorizonPrinted dir stay label steps m) → (bytes : List ℕ)
-    → model_due rule bytes ≡ Ok m → IfOk said (IsHorizonShown rule dir stay label steps bytes)
-shown rule dir stay label steps = shown_of (IsHorizonPrinted dir stay label steps) rule
-
-pub total_shown : (rule : RowRule) (dir : Dir) (name : List ℕ) (steps : ℕ) (m : Mdp) (said : Said) → IfOk said (IsTotalPrinted dir name steps m) → (bytes : List ℕ)
-    → model_due rule bytes ≡ Ok m → IfOk said (IsTotalShown rule dir name steps bytes)
-total_shown rule dir name steps = shown_of (IsTotalPrinted dir name steps) rule
+  printed_of_total_due dir due =
+      let r = place_part (place_of name m.names) (said_of_name dir name steps m) text (sym due) in
+      let c = text_within steps m (total_text dir name m) (written_total dir m r.0 steps) text r.2 in
+      record { place = r.0; place_is = r.1; answer = c.0; spelled = c.2; computed = c.1; best = best_total_of dir r.0 c.0 (below_names name m.names r.0 r.1) c.1 }

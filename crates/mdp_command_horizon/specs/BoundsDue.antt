@@ -18,19 +18,13 @@ said_of_bounds dir asked o steps digits m =
     else Ok (bounds_text dir asked m (bounds_of dir (pos (unit_of m o digits steps)) m o steps))
 
 -- the labels first, then the number of steps
-abbrev pub until_bounds_due : Dir → Option (List ℕ) → List ℕ → ℕ → ℕ → Mdp → Said
-until_bounds_due dir stay label steps digits m =
-    states_that_stay m stay
+abbrev pub IsUntilBoundsDue : Dir → Option (List ℕ) → List ℕ → ℕ → ℕ → Mdp → Said → Type 0
+IsUntilBoundsDue dir stay label steps digits m said =
+    said ≡ states_that_stay m stay
     >>= (λ stays. states_with m label
     >>= (λ goals. said_of_bounds dir (until_claim (stay_word stay) label) (until_objective stays goals) steps digits m))
 
-abbrev pub IsUntilBoundsDue : Dir → Option (List ℕ) → List ℕ → ℕ → ℕ → Mdp → Said → Type 0
-IsUntilBoundsDue dir stay label steps digits m said = said ≡ until_bounds_due dir stay label steps digits m
-
 -- the name first, then the number of steps
-abbrev pub total_bounds_due : Dir → List ℕ → ℕ → ℕ → Mdp → Said
-total_bounds_due dir name steps digits m =
-    name_at (place_of name m.names) >>= (λ r. said_of_bounds dir (total_claim name) (total_objective r) steps digits m)
-
 abbrev pub IsTotalBoundsDue : Dir → List ℕ → ℕ → ℕ → Mdp → Said → Type 0
-IsTotalBoundsDue dir name steps digits m said = said ≡ total_bounds_due dir name steps digits m
+IsTotalBoundsDue dir name steps digits m said =
+    said ≡ name_at (place_of name m.names) >>= (λ r. said_of_bounds dir (total_claim name) (total_objective r) steps digits m)

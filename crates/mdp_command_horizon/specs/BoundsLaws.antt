@@ -2,7 +2,7 @@
 use Rattle.std.specs.Prelude.{ℕ, ◌≤◌, List, Option, Ok}
 use Rattle.mdp_spec.specs.{Mdp.{Mdp}, Row.{IsMdp}}
 use Rattle.mdp_rows.specs.declared.dir.Dir.{Dir}
-use Rattle.mdp_command_horizon.specs.{BoundsDue.{IsUntilBoundsDue, IsTotalBoundsDue}, BoundsShown.{AreUntilBoundsPrinted, AreTotalBoundsPrinted}}
+use Rattle.mdp_command_horizon.specs.{BoundsDue.{IsUntilBoundsDue, IsTotalBoundsDue}, BoundsPrinted.{AreUntilBoundsPrinted, AreTotalBoundsPrinted}}
 
 -- a text that is due is that of bounds
 abbrev pub UntilTextIsBetween : Type 0

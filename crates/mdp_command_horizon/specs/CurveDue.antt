@@ -15,19 +15,13 @@ said_of_curve dir asked o steps digits m None = Err query_init
 said_of_curve dir asked o steps digits m (Some s) = Ok (curve_text dir asked s (curve_of dir (pos (unit_of m o digits steps)) m o s steps))
 
 -- the labels first, then the initial state
-abbrev pub until_curve_due : Dir → Option (List ℕ) → List ℕ → ℕ → ℕ → Mdp → Said
-until_curve_due dir stay label steps digits m =
-    states_that_stay m stay
+abbrev pub IsUntilCurveDue : Dir → Option (List ℕ) → List ℕ → ℕ → ℕ → Mdp → Said → Type 0
+IsUntilCurveDue dir stay label steps digits m said =
+    said ≡ states_that_stay m stay
     >>= (λ stays. states_with m label
     >>= (λ goals. said_of_curve dir (until_claim (stay_word stay) label) (until_objective stays goals) steps digits m (initial_of m)))
 
-abbrev pub IsUntilCurveDue : Dir → Option (List ℕ) → List ℕ → ℕ → ℕ → Mdp → Said → Type 0
-IsUntilCurveDue dir stay label steps digits m said = said ≡ until_curve_due dir stay label steps digits m
-
 -- the name first, then the initial state
-abbrev pub total_curve_due : Dir → List ℕ → ℕ → ℕ → Mdp → Said
-total_curve_due dir name steps digits m =
-    name_at (place_of name m.names) >>= (λ r. said_of_curve dir (total_claim name) (total_objective r) steps digits m (initial_of m))
-
 abbrev pub IsTotalCurveDue : Dir → List ℕ → ℕ → ℕ → Mdp → Said → Type 0
-IsTotalCurveDue dir name steps digits m said = said ≡ total_curve_due dir name steps digits m
+IsTotalCurveDue dir name steps digits m said =
+    said ≡ name_at (place_of name m.names) >>= (λ r. said_of_curve dir (total_claim name) (total_objective r) steps digits m (initial_of m))

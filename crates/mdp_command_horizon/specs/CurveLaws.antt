@@ -2,7 +2,7 @@
 use Rattle.std.specs.Prelude.{ℕ, ◌≤◌, List, Option, Ok}
 use Rattle.mdp_spec.specs.{Mdp.{Mdp}, Row.{IsMdp}}
 use Rattle.mdp_rows.specs.declared.dir.Dir.{Dir}
-use Rattle.mdp_command_horizon.specs.{CurveDue.{IsUntilCurveDue, IsTotalCurveDue}, CurveShown.{IsUntilCurvePrinted, IsTotalCurvePrinted}}
+use Rattle.mdp_command_horizon.specs.{CurveDue.{IsUntilCurveDue, IsTotalCurveDue}, CurvePrinted.{IsUntilCurvePrinted, IsTotalCurvePrinted}}
 
 -- a text that is due is that of a curve
 abbrev pub UntilTextIsCurve : Type 0

@@ -48,11 +48,9 @@ abbrev pub said_of_marks : Dir → Option (List ℕ) → List ℕ → ℕ → Md
 said_of_marks dir stay label steps m stays goals = said_within steps m (until_text dir (stay_word stay) label m) (written_until dir m stays goals steps)
 
 -- the labels first, then the number of steps
-abbrev pub horizon_due : Dir → Option (List ℕ) → List ℕ → ℕ → Mdp → Said
-horizon_due dir stay label steps m = states_that_stay m stay >>= (λ stays. states_with m label >>= (λ goals. said_of_marks dir stay label steps m stays goals))
-
 abbrev pub IsHorizonDue : Dir → Option (List ℕ) → List ℕ → ℕ → Mdp → Said → Type 0
-IsHorizonDue dir stay label steps m said = said ≡ horizon_due dir stay label steps m
+IsHorizonDue dir stay label steps m said =
+    said ≡ states_that_stay m stay >>= (λ stays. states_with m label >>= (λ goals. said_of_marks dir stay label steps m stays goals))
 
 -- ---- the total reward of a name
 
@@ -66,8 +64,5 @@ abbrev pub said_of_name : Dir → List ℕ → ℕ → Mdp → ℕ → Said
 said_of_name dir name steps m r = said_within steps m (total_text dir name m) (written_total dir m r steps)
 
 -- the name first, then the number of steps
-abbrev pub total_due : Dir → List ℕ → ℕ → Mdp → Said
-total_due dir name steps m = name_at (place_of name m.names) >>= said_of_name dir name steps m
-
 abbrev pub IsTotalDue : Dir → List ℕ → ℕ → Mdp → Said → Type 0
-IsTotalDue dir name steps m said = said ≡ total_due dir name steps m
+IsTotalDue dir name steps m said = said ≡ name_at (place_of name m.names) >>= said_of_name dir name steps m

@@ -2,7 +2,7 @@
 use Rattle.std.specs.Prelude.{ℕ, List, Option, Ok}
 use Rattle.mdp_spec.specs.{Mdp.{Mdp}, Row.{IsMdp}}
 use Rattle.mdp_rows.specs.declared.dir.Dir.{Dir}
-use Rattle.mdp_command_horizon.specs.{Due.{IsHorizonDue, IsTotalDue}, Shown.{IsHorizonPrinted, IsTotalPrinted}}
+use Rattle.mdp_command_horizon.specs.{Due.{IsHorizonDue, IsTotalDue}, Printed.{IsHorizonPrinted, IsTotalPrinted}}
 
 -- a text that is due is that of best values and a best table
 abbrev pub TextIsAnswer : Type 0

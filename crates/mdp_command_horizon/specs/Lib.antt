@@ -1,10 +1,10 @@
 pub mod Due
-pub mod Shown
+pub mod Printed
 pub mod Laws
 pub mod Code
 pub mod BoundsDue
-pub mod BoundsShown
+pub mod BoundsPrinted
 pub mod BoundsLaws
 pub mod CurveDue
-pub mod CurveShown
+pub mod CurvePrinted
 pub mod CurveLaws

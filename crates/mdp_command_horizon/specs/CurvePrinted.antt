@@ -1,12 +1,11 @@
 -- What is shown of the text that answers `curve` of a bounded until, or of a total reward.
 use Rattle.std.specs.Prelude.{◌≡◌, ℕ, ◌+◌, ◌*◌, ◌≤◌, ◌^◌, List, Bool, length, Option, Some, Ok, pos}
 use Rattle.mdp_spec.specs.{Labels.{place_of, initial_of}, Mdp.{Mdp}}
-use Rattle.mdp_rows.specs.{declared.dir.Dir.{Dir}, declared.dir.Dir.TheVariants.{Max, Min}, declared.rule.RowRule.{RowRule}}
+use Rattle.mdp_rows.specs.{declared.dir.Dir.{Dir}, declared.dir.Dir.TheVariants.{Max, Min}}
 use Rattle.mdp_horizon.specs.{declared.point.Point.{Point}, Objective.{Objective}, Objective.Objective.{until as until_objective, total as total_objective}}
 use Rattle.mdp_horizon.specs.{Gap.{NoneIsWide}, Finer.{unit_of}, Curve.{IsMaxCurve, IsMinCurve, IsFiniteCurve, IsNearCurve, IsCurveOfBounds}}
 use Rattle.mdp_horizon.specs.{CurveSpelling.{curve_text}, BoundsSpelling.{PlainClaim}, BoundsSpelling.PlainClaim.{until as until_claim, total as total_claim}}
-use Rattle.mdp_command.specs.{Read.{IsWorkOnModel}, Said.{Said}, Streams.{Input}}
-use Rattle.mdp_command_horizon.specs.{CurveDue.{IsUntilCurveDue, IsTotalCurveDue}, Due.{states_with, states_that_stay, stay_word}, Shown.{IsShownOf}}
+use Rattle.mdp_command_horizon.specs.Due.{states_with, states_that_stay, stay_word}
 
 -- the greatest, or the least, value at a state within each number of steps lies between the lower and the upper one
 abbrev pub IsCurveBetween : Dir → Mdp → Objective → ℕ → ℕ → List Point → Type 0
@@ -39,18 +38,3 @@ pub record IsTotalCurvePrinted (dir : Dir) (name : List ℕ) (steps digits : ℕ
   pub place : ℕ
   pub place_is : place_of name m.names ≡ Some place
   pub printed : IsCurvePrinted dir (total_claim name) (total_objective place) steps digits m text
-
--- the same of the model that the bytes read as
-abbrev pub IsUntilCurveShown : RowRule → Dir → Option (List ℕ) → List ℕ → ℕ → ℕ → List ℕ → List ℕ → Type 0
-IsUntilCurveShown rule dir stay label steps digits = IsShownOf (IsUntilCurvePrinted dir stay label steps digits) rule
-
-abbrev pub IsTotalCurveShown : RowRule → Dir → List ℕ → ℕ → ℕ → List ℕ → List ℕ → Type 0
-IsTotalCurveShown rule dir name steps digits = IsShownOf (IsTotalCurvePrinted dir name steps digits) rule
-
--- a curve of the model of a source: what is due to the bytes that it had, and what is shown of a text; or a fault, or want of memory
-abbrev pub IsUntilCurveRead : RowRule → Dir → Option (List ℕ) → List ℕ → ℕ → ℕ → Input → Said → Type 0
-IsUntilCurveRead rule dir stay label steps digits =
-    IsWorkOnModel rule (IsUntilCurveDue dir stay label steps digits) (IsUntilCurveShown rule dir stay label steps digits)
-
-abbrev pub IsTotalCurveRead : RowRule → Dir → List ℕ → ℕ → ℕ → Input → Said → Type 0
-IsTotalCurveRead rule dir name steps digits = IsWorkOnModel rule (IsTotalCurveDue dir name steps digits) (IsTotalCurveShown rule dir name steps digits)

@@ -1,12 +1,11 @@
 -- What is shown of the text that answers `bounds` of a bounded until, or of a total reward.
 use Rattle.std.specs.Prelude.{◌≡◌, ℕ, ◌*◌, ◌≤◌, ◌^◌, List, Bool, Option, Some, Ok, pos}
 use Rattle.mdp_spec.specs.{Labels.{place_of}, Mdp.{Mdp, states_of}}
-use Rattle.mdp_rows.specs.{declared.dir.Dir.{Dir}, declared.dir.Dir.TheVariants.{Max, Min}, declared.rule.RowRule.{RowRule}}
+use Rattle.mdp_rows.specs.{declared.dir.Dir.{Dir}, declared.dir.Dir.TheVariants.{Max, Min}}
 use Rattle.mdp_horizon.specs.{Between.{MaxBetween, MinBetween}, Objective.{Objective}, Objective.Objective.{until as until_objective, total as total_objective}}
 use Rattle.mdp_horizon.specs.{Columns.{Bounds}, Gap.{NoneIsWide, AreNearBounds}, Finer.{unit_of}, Finite.{AreProbabilities}}
 use Rattle.mdp_horizon.specs.{BoundsSpelling.{PlainClaim, bounds_text}, BoundsSpelling.PlainClaim.{until as until_claim, total as total_claim}}
-use Rattle.mdp_command.specs.{Read.{IsWorkOnModel}, Said.{Said}, Streams.{Input}}
-use Rattle.mdp_command_horizon.specs.{BoundsDue.{IsUntilBoundsDue, IsTotalBoundsDue}, Due.{states_with, states_that_stay, stay_word}, Shown.{IsShownOf}}
+use Rattle.mdp_command_horizon.specs.Due.{states_with, states_that_stay, stay_word}
 
 -- the greatest, or the least, values within so many steps lie between the lower and the upper ones, and what the table comes to does
 abbrev pub AreBetween : Dir → Mdp → Objective → ℕ → Bounds → Type 0
@@ -35,18 +34,3 @@ pub record AreTotalBoundsPrinted (dir : Dir) (name : List ℕ) (steps digits : �
   pub place : ℕ
   pub place_is : place_of name m.names ≡ Some place
   pub printed : AreBoundsPrinted dir (total_claim name) (total_objective place) steps digits m text
-
--- the same of the model that the bytes read as
-abbrev pub AreUntilBoundsShown : RowRule → Dir → Option (List ℕ) → List ℕ → ℕ → ℕ → List ℕ → List ℕ → Type 0
-AreUntilBoundsShown rule dir stay label steps digits = IsShownOf (AreUntilBoundsPrinted dir stay label steps digits) rule
-
-abbrev pub AreTotalBoundsShown : RowRule → Dir → List ℕ → ℕ → ℕ → List ℕ → List ℕ → Type 0
-AreTotalBoundsShown rule dir name steps digits = IsShownOf (AreTotalBoundsPrinted dir name steps digits) rule
-
--- bounds of the model of a source: what is due to the bytes that it had, and what is shown of a text; or a fault, or want of memory
-abbrev pub AreUntilBoundsRead : RowRule → Dir → Option (List ℕ) → List ℕ → ℕ → ℕ → Input → Said → Type 0
-AreUntilBoundsRead rule dir stay label steps digits =
-    IsWorkOnModel rule (IsUntilBoundsDue dir stay label steps digits) (AreUntilBoundsShown rule dir stay label steps digits)
-
-abbrev pub AreTotalBoundsRead : RowRule → Dir → List ℕ → ℕ → ℕ → Input → Said → Type 0
-AreTotalBoundsRead rule dir name steps digits = IsWorkOnModel rule (IsTotalBoundsDue dir name steps digits) (AreTotalBoundsShown rule dir name steps digits)
