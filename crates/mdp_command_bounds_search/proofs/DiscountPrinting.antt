@@ -7,7 +7,7 @@ use Rattle.mdp_rows.specs.declared.dir.Dir.{Dir}
 use Rattle.mdp_claims.specs.declared.verdict.Verdict.TheVariants.{Yes}
 use Rattle.mdp_discount_bounds.specs.{Cert.{Certificate, Fits}, Check.{same_value, is_value, init_check, IsAccepted}, Laws.{AcceptedIsBound}}
 use Rattle.mdp_discount_text.specs.{BoundsLaws.{IsReadBack}, Reading.{outcome}, BoundsSpelling.{text_of}}
-use Rattle.mdp_job.specs.Refusal.{no_memory, query_reward}
+use Rattle.mdp_job.specs.Refusal.{no_memory}
 use Rattle.mdp_command.specs.{Files.{most_bytes}, Said.{Said}}
 use Rattle.mdp_command_bounds_search.specs.{DiscountDue.{ClaimsSo, IsNamedDue, IsDiscountBoundsDue}, DiscountShown.{IsDiscountBoundsPrinted}, Near.{IsDiscountNearOrWide}}
 use Rattle.mdp_command_bounds_search.proofs.{DiscountLength.{text_short}, Printing.{right_line}}
@@ -58,6 +58,3 @@ module _ (dir : Dir) (name : List ℕ) (f : ℚ) (m : Mdp) (a : Certificate) (cl
   text_due r found said (inl memory) = inl memory
   text_due r found said (inr e) =
       inr (subst (λ (o : Option ℕ). IsNamedDue dir name f m o said) (sym found) (record { cert = a; claim = claim; fits = fits; accepted = accepted; spelled = e }))
-
-pub unknown_due : (dir : Dir) (name : List ℕ) (f : ℚ) (m : Mdp) → place_of name m.names ≡ None → IsDiscountBoundsDue dir name f m (Err query_reward)
-unknown_due dir name f m e = subst (λ (o : Option ℕ). IsNamedDue dir name f m o (Err query_reward)) (sym e) refl

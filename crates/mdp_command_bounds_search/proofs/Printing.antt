@@ -228,10 +228,3 @@ module _ (dir : Dir) (query : PlainQuery) (m : Mdp) where
   text_due body bounds fitting c said is fits (inl memory) = inl memory
   text_due body bounds fitting c said is fits (inr e) =
       inr (subst (λ (o : Option PlainRefusal). IsDueBy (claim_of dir query) m o said) (sym fitting) (accepted_text (claim_of dir query) m body bounds c said is fits e))
-
-  refusal_due : (r : PlainRefusal) (said : Said) → said ≡ Err r → fault_of query m ≡ Some r → IsBoundsDue dir query m said
-  refusal_due r said is fault = subst (λ (o : Option PlainRefusal). IsDueBy (claim_of dir query) m o said) (sym fault) is
-
-  pub refused_due : (r : PlainRefusal) → (r ≡ no_memory) ⊎ (fault_of query m ≡ Some r) → (let said : Said = Err r in (said ≡ Err no_memory) ⊎ IsBoundsDue dir query m said)
-  refused_due r (inl memory) = inl (ap (λ (x : PlainRefusal). let said : Said = Err x in said) memory)
-  refused_due r (inr fault) = inr (refusal_due r (Err r) refl fault)

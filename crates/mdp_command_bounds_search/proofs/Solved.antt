@@ -1,26 +1,27 @@
--- What is due to `bounds` where the query fits is a text, the best values lie between its values, and what is shown of it.
-use Rattle.std.proofs.Common.{◌≡◌, ℕ, Bool, List, Option, Some, None, Ok, Err, IfOk, IsOk, refl, sym, ap, ap₂, subst, ◌∙◌}
+-- Where a text is due to `bounds`, nothing else is, the best values lie between its values, and `bounds-check` accepts it.
+use Rattle.std.proofs.Common.{◌≡◌, ℕ, Bool, List, Option, Some, None, Ok, IsOk, refl, sym, ap, ap₂, subst, ◌∙◌}
 use Rattle.mdp_spec.specs.{Between.{ReachMaxBetween, ReachMinBetween, RewardMaxBetween, RewardMinBetween}, Labels.{place_of, marks_of}, Mdp.{Mdp, states_of}}
 use Rattle.mdp_spec.specs.{Row.{IsMdp}, Until.{UntilMaxBetween, UntilMinBetween}}
-use Rattle.mdp_rows.specs.{declared.dir.Dir.{Dir}, declared.dir.Dir.TheVariants.{Max, Min}, declared.rule.RowRule.{RowRule}}
+use Rattle.mdp_rows.specs.{declared.dir.Dir.{Dir}, declared.dir.Dir.TheVariants.{Max, Min}}
 use Rattle.mdp_cert.specs.{Cert.{PlainClaim}, BoundsCert.{PlainBounds, probabilities, rewards, gains, Certificate}, BoundsSpelling.{text_of}}
 use Rattle.mdp_check.specs.{Bounds.{between_by, IsBoundsTrue}, BoundsLaws.{AcceptedBoundsAreTrue}, Check.{reward_place, goal_marks, labelled_marks, marks_on_way, stays_at}}
 use Rattle.mdp_job.specs.{Job.{PlainQuery, reach, until, reward, mean}, Refusal.{PlainRefusal}}
-use Rattle.mdp_command.specs.{Kinds.{between}, Files.{model_due}, Said.{Said}}
-use Rattle.mdp_command.proofs.TrueClaims.{true_claim_of}
-use Rattle.mdp_command_bounds_search.specs.{Due.{claim_of, fault_of, IsDueBy, IsAcceptedText, IsBoundsDue}, Laws.{LieBetween, IsAnswerTo, TextLiesBetween}}
-use Rattle.mdp_command_bounds_search.specs.Shown.{IsBoundsPrinted, IsBoundsSolved}
+use Rattle.mdp_command.specs.Said.{Said}
+use Rattle.mdp_command_bounds_search.specs.Due.{claim_of, fault_of, IsDueBy, IsAcceptedText}
+use Rattle.mdp_command_bounds_search.specs.Laws.{LieBetween, IsAnswerTo, TextLiesBetween, OnlyTextsAreDue, TextIsAccepted}
 use Rattle.mdp_command_bounds_search.proofs.Printing.{marked_at}
 
--- ---- a text, and never a term that is too wide
+-- ---- a text, and never a refusal
 
 pub text_is_ok : (said : Said) (text : List ℕ) → said ≡ Ok text → IsOk said
 text_is_ok said text e = subst (λ (s : Said). IsOk s) (sym e) refl
 
-pub never_too_wide : (dir : Dir) (query : PlainQuery) (m : Mdp) (said : Said) → fault_of query m ≡ None → IsBoundsDue dir query m said → IsOk said
-never_too_wide dir query m said fitting due =
-    let a : IsAcceptedText (claim_of dir query) m said = subst (λ (o : Option PlainRefusal). IsDueBy (claim_of dir query) m o said) fitting due in
-    text_is_ok said (text_of a.cert) a.spelled
+pub only_texts_are_due : OnlyTextsAreDue
+only_texts_are_due dir query m text said due other = by (fault_of query m) due other
+  where
+    by : (fault : Option PlainRefusal) → IsDueBy (claim_of dir query) m fault (Ok text) → IsDueBy (claim_of dir query) m fault said → IsOk said
+    by None d o = text_is_ok said (text_of o.cert) o.spelled
+    by (Some r) d o = absurd cc
 
 -- ---- the best values lie between the values
 
@@ -91,19 +92,12 @@ module _ (true_of : AcceptedBoundsAreTrue) (dir : Dir) (query : PlainQuery) (m :
 pub text_lies_between : AcceptedBoundsAreTrue → TextLiesBetween
 text_lies_between true_of dir query m text mdp due = by_fault true_of dir query m text mdp (fault_of query m) due
 
--- ---- what is shown of a text
+-- ---- the checker
 
-printed_solved : (rule : RowRule) (dir : Dir) (query : PlainQuery) (digits : ℕ) (m : Mdp) (bytes text : List ℕ) → model_due rule bytes ≡ Ok m
-    → IsBoundsPrinted dir query digits m text → IsBoundsSolved rule dir query digits bytes text
-printed_solved rule dir query digits m bytes text is printed =
+pub text_is_accepted : TextIsAccepted
+text_is_accepted rule dir query digits model text shown =
+    let p = shown.printed in
     record {
-      true_claim = true_claim_of between rule m bytes text printed.cert is printed.short printed.reads printed.holds printed.bound;
-      claim = printed.claim;
-      spelled = printed.spelled;
-      near = printed.near;
+      accepted = record { short_model = shown.short; short_cert = p.short; model = shown.model; reads = shown.reads; cert = p.cert; text = p.reads; holds = p.holds };
+      bound = p.bound;
     }
-
-pub shown : (rule : RowRule) (dir : Dir) (query : PlainQuery) (digits : ℕ) (m : Mdp) (said : Said) → IfOk said (IsBoundsPrinted dir query digits m) → (bytes : List ℕ)
-    → model_due rule bytes ≡ Ok m → IfOk said (IsBoundsSolved rule dir query digits bytes)
-shown rule dir query digits m (Ok text) printed bytes is = printed_solved rule dir query digits m bytes text is printed
-shown rule dir query digits m (Err r) printed bytes is = tt

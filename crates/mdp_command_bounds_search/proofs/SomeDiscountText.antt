@@ -16,7 +16,7 @@ use Rattle.mdp_discount_bounds.specs.{Cert.{Certificate, IsValueNarrow, is_init,
 use Rattle.mdp_discount_bounds.specs.declared.init.InitialBounds.{InitialBounds}
 use Rattle.mdp_discount_text.specs.{BoundsLaws.{IsReadBack}, BoundsSpelling.{text_of}}
 use Rattle.mdp_command.specs.Said.{Said}
-use Rattle.mdp_command_bounds_search.specs.{DiscountDue.{ClaimsSo}, DiscountLaws.{HasAText}}
+use Rattle.mdp_command_bounds_search.specs.{DiscountDue.{ClaimsSo}, DiscountLaws.{HasADiscountText}}
 use Rattle.mdp_command_bounds_search.proofs.{DiscountPrinting.{init_right, text_due, printed}, SomeDiscount.{SomeDiscount, some_discount}}
 
 -- ---- the line `init`
@@ -96,7 +96,7 @@ module _ (dir : Dir) (name : List ℕ) (f : ℚ) (digits : ℕ) (m : Mdp) (r : �
   claim : ClaimsSo dir name f own
   claim = record { direction = refl; named = refl; discounted = refl }
 
-pub has_a_text : IsReadBack → AcceptedIsBound → HasAnEnd → AnswersMeetRules → HasAText
+pub has_a_text : IsReadBack → AcceptedIsBound → HasAnEnd → AnswersMeetRules → HasADiscountText
 has_a_text back true_of ends rules dir name f digits m r model factor narrow found =
     let ask : CanAsk m r f = record { model = model.mdp; named = below_names name m.names r found; discount = factor } in
     let x = some_discount digits dir m model r f ask ends rules in

@@ -1,24 +1,23 @@
--- What is shown of a subsystem that was found: its certificate is accepted for the model, it has a text, and its marks are true.
-use Rattle.std.proofs.Common.{◌≡◌, ◌⊎◌, ℕ, inl, inr, Bool, true, ◌&&◌, List, length, Option, Some, None, Ok, Err, IfOk, refl, ap, ap₂, subst, ◌∙◌}
+-- What is due for a subsystem that was found: its certificate is accepted for the model, it has a text, and its marks are true.
+use Rattle.std.proofs.Common.{◌≡◌, ◌⊎◌, ℕ, inl, inr, Bool, true, ◌&&◌, List, length, Option, Some, None, Ok, Err, refl, ap, ap₂, subst, ◌∙◌}
 use Rattle.std.specs.Prelude.{All}
 use Rattle.mdp_math.specs.Rational.{ℚ, ◌≤ℚ◌}
-use Rattle.mdp_spec.specs.{Labels.{place_of, initial_of}, Mdp.{Mdp, states_of, value_at}, Row.{IsMdp}, Sub.{sub_of}}
+use Rattle.mdp_spec.specs.{Labels.{place_of, initial_of}, Mdp.{Mdp, states_of, value_at}, Sub.{sub_of}}
 use Rattle.mdp_rows.proofs.FoundNames.{found_among}
 use Rattle.mdp_rows.specs.{Name.{IsName}, declared.dir.Dir.{Dir}}
 use Rattle.mdp_bounds.specs.Reach.{IsReachBounds}
 use Rattle.mdp_cert.specs.Cert.{witness, are_names}
 use Rattle.mdp_check.specs.Check.{marks_by, way_by}
 use Rattle.mdp_check.proofs.Ways.{way_by_states}
-use Rattle.mdp_subsystem_bounds.specs.{Cert.{SubsystemClaim, Certificate, Fits}, Check.{IsAccepted}, Laws.{AcceptedIsBound, IsReadBack}}
-use Rattle.mdp_subsystem_bounds.specs.{Spelling.{text_of}}
+use Rattle.mdp_subsystem_bounds.specs.{Cert.{SubsystemClaim, Certificate, Fits}, Check.{IsAccepted}, Spelling.{text_of}}
 use Rattle.mdp_subsystem_search.specs.{Code.{IfBelow, IfUndecided}, Shown.{ones, AreNeeded, IsBelow, IsUndecided}, declared.subsystem.Subsystem.{Subsystem}}
 use Rattle.mdp_subsystem_search.specs.declared.subsystem.Unshown.{Unshown}
 use Rattle.mdp_subsystem_search.specs.declared.subsystem.Unshown.TheVariants as unshown
 use Rattle.mdp_job.specs.Refusal.{PlainRefusal, below, undecided, no_memory}
 use Rattle.mdp_command.specs.Said.{Said}
 use Rattle.mdp_command_bounds_search.specs.WitnessDue.{refusal_of, MarksAreTrue, IsEndDue}
-use Rattle.mdp_command_bounds_search.specs.{WitnessMarks.{IsSized, lists_of, certificate_of}, WitnessShown.{IsBoundsWitnessPrinted}}
-use Rattle.mdp_command_bounds_search.proofs.{Printing.{marked_at}, Solved.{stays_there}, WitnessMarks.{kept-back, needed-marks}, WitnessSolved.{printed_text}}
+use Rattle.mdp_command_bounds_search.specs.WitnessMarks.{IsSized, lists_of, certificate_of}
+use Rattle.mdp_command_bounds_search.proofs.{Printing.{marked_at}, Solved.{stays_there}, WitnessMarks.{kept-back, needed-marks}}
 
 -- labels that were found are names
 pub names_there : (dir : Dir) (m : Mdp) (stay : Option (List ℕ)) (label : List ℕ) (t : ℚ) (goals : List Bool) → All IsName m.labels → marks_by m stay label ≡ Some goals
@@ -60,21 +59,10 @@ module _ (claim : SubsystemClaim) (m : Mdp) (goals : List Bool) (start : ℕ) (f
     marks : MarksAreTrue m goals own
     marks = needed-marks (states_of m) found.kept found.needed claim.dir way goals start claim.threshold sized.kept (way_by_states m goals claim.stay) shown.needed
 
-    -- what is said: the text, or that memory is wanting
-    abbrev IsTextOf : Certificate → Said → Type 0
-    IsTextOf c said = (said ≡ Err no_memory) ⊎ (said ≡ Ok (text_of c))
-
-    pub text_due : (c : Certificate) (said : Said) → c ≡ own → Fits c → IsTextOf c said → (said ≡ Err no_memory) ⊎ IsEndDue claim m goals start said
+    pub text_due : (c : Certificate) (said : Said) → c ≡ own → Fits c → (said ≡ Err no_memory) ⊎ (said ≡ Ok (text_of c)) → (said ≡ Err no_memory) ⊎ IsEndDue claim m goals start said
     text_due c said is fits (inl memory) = inl memory
     text_due c said is fits (inr e) =
         inr (inl (record { cert = own; claimed = refl; fits = subst Fits is fits; accepted = accepted; marks = marks; spelled = e ∙ ap (λ (k : Certificate). let s : Said = Ok (text_of k) in s) is }))
-
-    pub printed : IsMdp m → IsReadBack → AcceptedIsBound → (c : Certificate) (said : Said) → c ≡ own → Fits c → IsTextOf c said → IfOk said (IsBoundsWitnessPrinted claim m)
-    printed mdp back true_of c (Ok text) is fits (inl memory) = cc memory
-    printed mdp back true_of c (Ok text) is fits (inr e) =
-        let spelled : text ≡ text_of c = cc e in
-        printed_text back true_of claim m mdp goals own refl (subst Fits is fits) accepted shown.marked marks text (spelled ∙ ap text_of is)
-    printed mdp back true_of c (Err r) is fits e = tt
 
 -- ---- what is found on what is left for the way
 

@@ -1,11 +1,12 @@
 -- Laws of what is due to `bounds`, over the definitions alone.
-use Rattle.std.specs.Prelude.{◌≡◌, ℕ, List, Some, None, Ok}
+use Rattle.std.specs.Prelude.{◌≡◌, ℕ, List, Some, None, Ok, IsOk}
 use Rattle.mdp_spec.specs.Between.{ReachMaxBetween, ReachMinBetween, RewardMaxBetween, RewardMinBetween, MeanMaxBetween, MeanMinBetween}
 use Rattle.mdp_spec.specs.Until.{UntilMaxBetween, UntilMinBetween}
 use Rattle.mdp_spec.specs.{Labels.{place_of, marks_of}, Mdp.{Mdp, states_of}, Row.{IsMdp}}
-use Rattle.mdp_rows.specs.{Limits.{IsModel}, declared.dir.Dir.{Dir}, declared.dir.Dir.TheVariants.{Max, Min}}
+use Rattle.mdp_rows.specs.{Limits.{IsModel}, declared.dir.Dir.{Dir}, declared.dir.Dir.TheVariants.{Max, Min}, declared.rule.RowRule.{RowRule}}
 use Rattle.mdp_cert.specs.{BoundsCert.{PlainBounds, probabilities, rewards, gains}, BoundsSpelling.{text_of}, declared.init.BoundsInit.{BoundsInit}}
 use Rattle.mdp_job.specs.Job.{PlainQuery, reach, until, reward, mean}
+use Rattle.mdp_command.specs.{Accepted.{IsTrueClaimBy}, Kinds.{between}, Said.{Said}, Shown.{IsShownOf}}
 use Rattle.mdp_command_bounds_search.specs.{Due.{claim_of, fault_of, IsBoundsDue}, Shown.{IsBoundsPrinted}}
 
 -- some text is due to each query that fits its model, with any digits, and all that is shown of what `bounds` prints is shown of it: it reads as its
@@ -44,3 +45,14 @@ pub record IsAnswerTo (dir : Dir) (query : PlainQuery) (m : Mdp) (text : List �
 -- a text that is due is such a text
 abbrev pub TextLiesBetween : Type 0
 TextLiesBetween = (dir : Dir) (query : PlainQuery) (m : Mdp) (text : List ℕ) → IsMdp m → IsBoundsDue dir query m (Ok text) → IsAnswerTo dir query m text
+
+-- where a text is due, only texts are
+abbrev pub OnlyTextsAreDue : Type 0
+OnlyTextsAreDue = (dir : Dir) (query : PlainQuery) (m : Mdp) (text : List ℕ) (said : Said) → IsBoundsDue dir query m (Ok text) → IsBoundsDue dir query m said → IsOk said
+
+-- `bounds-check` accepts a text of which this is shown, with the bytes of the model, and its claim is true: the best values lie between its lower and its
+-- upper values
+abbrev pub TextIsAccepted : Type 0
+TextIsAccepted =
+    (rule : RowRule) (dir : Dir) (query : PlainQuery) (digits : ℕ) (model text : List ℕ) → IsShownOf (IsBoundsPrinted dir query digits) rule model text
+    → IsTrueClaimBy between rule model text

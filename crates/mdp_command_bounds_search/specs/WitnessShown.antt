@@ -1,11 +1,10 @@
 -- What is shown of the text that `bounds` of a witness prints.
 use Rattle.std.specs.Prelude.{◌≡◌, ℕ, ◌≤◌, Bool, List, length, Some, Ok}
 use Rattle.mdp_spec.specs.Mdp.{Mdp}
-use Rattle.mdp_rows.specs.{declared.rule.RowRule.{RowRule}}
 use Rattle.mdp_check.specs.Check.{goal_marks}
 use Rattle.mdp_subsystem_bounds.specs.{Cert.{SubsystemClaim, Certificate, plain_claim}, Check.{IsAccepted, IsBound}, Reading.{outcome}, Spelling.{text_of}}
-use Rattle.mdp_command.specs.{Accepted.{IsTrueClaimBy}, Files.{most_bytes}, Read.{IsWorkOnModel}, Said.{Said}, Streams.{Input}, Kinds.{subsystem_between}}
-use Rattle.mdp_command_bounds_search.specs.WitnessDue.{MarksAreTrue, IsBoundsWitnessDue}
+use Rattle.mdp_command.specs.Files.{most_bytes}
+use Rattle.mdp_command_bounds_search.specs.WitnessDue.{MarksAreTrue}
 
 -- each state that is marked as needed is, for the goals that the claim names
 pub record HasTrueMarks (m : Mdp) (c : Certificate) : Type 0 where
@@ -23,15 +22,3 @@ pub record IsBoundsWitnessPrinted (claim : SubsystemClaim) (m : Mdp) (text : Lis
   pub holds : IsAccepted m cert
   pub bound : IsBound m cert
   pub marks : HasTrueMarks m cert
-
--- `bounds-check` accepts the text with the model's bytes, and its claim, which is this one, is true: on the kept states alone some policy, or each, comes to
--- the threshold; and without a state that is marked as needed the best probability is below it
-pub record IsBoundsWitnessShown (rule : RowRule) (claim : SubsystemClaim) (model_bytes text : List ℕ) : Type 0 where
-  pub true_claim : IsTrueClaimBy subsystem_between rule model_bytes text
-  pub claimed : true_claim.accepted.cert.claim ≡ claim
-  pub spelled : text ≡ text_of true_claim.accepted.cert
-  pub needed : HasTrueMarks true_claim.accepted.model true_claim.accepted.cert
-
--- bounds of a witness in the model of a source: what is due to the bytes that it had, and what is shown of a text; or a fault, or want of memory
-abbrev pub IsBoundsWitnessRead : RowRule → SubsystemClaim → Input → Said → Type 0
-IsBoundsWitnessRead rule claim = IsWorkOnModel rule (IsBoundsWitnessDue claim) (IsBoundsWitnessShown rule claim)

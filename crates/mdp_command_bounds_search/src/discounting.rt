@@ -1,18 +1,16 @@
 ghost use Rattle.std.specs.Prelude.{◌≡◌, ◌⊎◌, Ok, Err, IfOk};
-ghost use Rattle.mdp_command.specs.Prelude.{IsModelReadToEnd, no_memory, said, input};
+ghost use Rattle.mdp_command.specs.Prelude.{no_memory, said};
 ghost use Rattle.mdp_discount_rules.specs.Rules.{IsFactor};
 ghost use Rattle.mdp_discount_bounds.specs.Plain.{plain};
 ghost use Rattle.mdp_discount_text.specs.BoundsSpelling.{text_of};
-ghost use Rattle.mdp_command_bounds_search.specs.{DiscountDue.{IsDiscountBoundsDue}, DiscountShown.{IsDiscountBoundsPrinted, IsDiscountBoundsRead}};
+ghost use Rattle.mdp_command_bounds_search.specs.{DiscountDue.{IsDiscountBoundsDue}, DiscountShown.{IsDiscountBoundsPrinted}};
 
 use crate::discount_certificate::certificate_of;
-use mdp_command::read_model;
 use mdp_discount_bounds::{DiscountBoundsCert, discount_bounds_law};
 use mdp_discount_text::{discount_bounds_text_law, write_discount_bounds};
-use mdp_edge::Source;
 use mdp_job::Refusal;
 use mdp_num::Frac;
-use mdp_rows::{Dir, Model, RowRule};
+use mdp_rows::{Dir, Model};
 use mdp_search_bounds::bounds_discount;
 use std::alloc::Global;
 
@@ -21,14 +19,15 @@ fn certificate_text(alloc: Global, cert: &DiscountBoundsCert) -> Result<Vec<u8>,
     ensures { (said result ≡ Err no_memory) ⊎ (said result ≡ Ok (text_of (plain cert.now))) }
 {
     let mut text = Vec::new(alloc);
-    match write_discount_bounds(cert, &mut text) {
-        Ok(()) => Ok(text),
-        Err(_) => Err(Refusal::Memory),
-    }
+    write_discount_bounds(cert, &mut text)?;
+    Ok(text)
 }
 
-/// The text of a certificate of bounds of the discounted rewards of a name, or the refusal of a name that isn't there.
-fn bounds_named(
+/// Looks for lower and upper values between which the greatest, or the least, rewards of this name lie, where a step later counts `factor` times as much.
+/// Gives the text of their certificate, or the refusal of a name that isn't there. There are such bounds for every model that has the name, as
+/// `bounds_discount_search_law` says, though values may be missing. None is, and they are as near as the digits say, unless the exact query, or a check of its
+/// answer as bounds, is too wide. The factor is at least 0 and below 1.
+pub fn bounds_discount_query(
     alloc: Global,
     model: &Model,
     dir: Dir,
@@ -46,34 +45,7 @@ fn bounds_named(
     let Some(place) = model.reward_named(name) else {
         return Err(Refusal::QueryReward);
     };
-    let Ok(bounds) = bounds_discount(alloc, model, place, dir, &factor, digits) else {
-        return Err(Refusal::Memory);
-    };
-    let Ok(cert) = certificate_of(alloc, model, place, dir, name, factor, bounds) else {
-        return Err(Refusal::Memory);
-    };
+    let bounds = bounds_discount(alloc, model, place, dir, &factor, digits)?;
+    let cert = certificate_of(alloc, model, place, dir, name, factor, bounds)?;
     certificate_text(alloc, &cert)
-}
-
-/// Reads the model to its end and judges its text, then looks for lower and upper values between which the greatest, or the least, rewards of this name
-/// lie, where a step later counts `factor` times as much. There are such bounds for every model that has the name, as `bounds_discount_search_law` says,
-/// though values may be missing. None is, and they are as near as the digits say, unless the exact query, or a check of its answer as bounds, is too wide.
-/// The factor is at least 0 and below 1.
-pub fn bounds_discount_file<S: Source>(
-    alloc: Global,
-    rule: RowRule,
-    dir: Dir,
-    name: &[u8],
-    factor: Frac,
-    digits: u32,
-    model: &mut S,
-) -> Result<Vec<u8>, Refusal>
-    requires { IsFactor factor }
-    ensures read { IsDiscountBoundsRead rule dir name.now factor digits (input S.left S.faults model.old model.new) (said result) }
-    ensures end { IsModelReadToEnd (input S.left S.faults model.old model.new) (said result) }
-{
-    match read_model(alloc, model, rule) {
-        Ok(model) => bounds_named(alloc, &model, dir, name, factor, digits),
-        Err(refusal) => Err(refusal),
-    }
 }

@@ -1,16 +1,14 @@
 ghost use Rattle.std.specs.Prelude.{◌≡◌, ◌⊎◌, Ok, Err, IfOk};
-ghost use Rattle.mdp_command.specs.Prelude.{IsModelReadToEnd, plain_query, no_memory, said, input};
+ghost use Rattle.mdp_command.specs.Prelude.{plain_query, no_memory, said};
 ghost use Rattle.mdp_cert.specs.{BoundsPlain.{plain}, BoundsSpelling.{text_of}};
-ghost use Rattle.mdp_command_bounds_search.specs.{Due.{IsBoundsDue}, Shown.{IsBoundsPrinted, IsBoundsRead}};
+ghost use Rattle.mdp_command_bounds_search.specs.{Due.{IsBoundsDue}, Shown.{IsBoundsPrinted}};
 
 use crate::bounding::bounds_of_query;
 use crate::certificate::{certificate_of, claim_of};
 use mdp_cert::{BoundsCert, bounds_text_law, write_bounds};
 use mdp_check::bounds_checking_law;
-use mdp_command::read_model;
-use mdp_edge::Source;
 use mdp_job::{Query, Refusal};
-use mdp_rows::{Dir, Model, RowRule};
+use mdp_rows::{Dir, Model};
 use std::alloc::Global;
 
 /// The text of a certificate.
@@ -18,14 +16,14 @@ fn certificate_text(alloc: Global, cert: &BoundsCert) -> Result<Vec<u8>, Refusal
     ensures { (said result ≡ Err no_memory) ⊎ (said result ≡ Ok (text_of (plain cert.now))) }
 {
     let mut text = Vec::new(alloc);
-    match write_bounds(cert, &mut text) {
-        Ok(()) => Ok(text),
-        Err(_) => Err(Refusal::Memory),
-    }
+    write_bounds(cert, &mut text)?;
+    Ok(text)
 }
 
-/// The text of a certificate of bounds of a query, or the refusal of a query that doesn't fit the model.
-fn bounds_text(
+/// Looks for lower and upper values between which the greatest, or the least, values of the query lie: probabilities, rewards until a label, or mean payoffs.
+/// Gives the text of their certificate, or the refusal of a query that doesn't fit the model. There are such bounds for every model that the query fits, as
+/// `bounds_search_law` says. They are as near as the digits say, unless the exact query is too wide.
+pub fn bounds_query(
     alloc: Global,
     model: &Model,
     dir: Dir,
@@ -38,33 +36,8 @@ fn bounds_text(
     model.known();
     bounds_checking_law();
     bounds_text_law();
-    let body = match bounds_of_query(alloc, model, dir, query, digits) {
-        Ok(body) => body,
-        Err(refusal) => return Err(refusal),
-    };
-    let Ok(claim) = claim_of(alloc, dir, query) else {
-        return Err(Refusal::Memory);
-    };
+    let body = bounds_of_query(alloc, model, dir, query, digits)?;
+    let claim = claim_of(alloc, dir, query)?;
     let cert = certificate_of(model, claim, body);
     certificate_text(alloc, &cert)
-}
-
-/// Reads the model to its end and judges its text, then looks for lower and upper values between which the greatest, or the least, values of the query
-/// lie: probabilities, rewards until a label, or mean payoffs. There are such bounds for every model that the query fits, as `bounds_search_law` says. They
-/// are as near as the digits say, unless the exact query is too wide.
-pub fn bounds_file<S: Source>(
-    alloc: Global,
-    rule: RowRule,
-    dir: Dir,
-    query: Query<'_>,
-    digits: u32,
-    model: &mut S,
-) -> Result<Vec<u8>, Refusal>
-    ensures read { IsBoundsRead rule dir (plain_query query.entry) digits (input S.left S.faults model.old model.new) (said result) }
-    ensures end { IsModelReadToEnd (input S.left S.faults model.old model.new) (said result) }
-{
-    match read_model(alloc, model, rule) {
-        Ok(model) => bounds_text(alloc, &model, dir, query, digits),
-        Err(refusal) => Err(refusal),
-    }
 }

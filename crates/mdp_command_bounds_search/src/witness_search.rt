@@ -5,18 +5,16 @@ ghost use Rattle.mdp_rows.specs.declared.dir.Dir.TheVariants.{Min};
 ghost use Rattle.mdp_cert.specs.Cert.{are_names};
 ghost use Rattle.mdp_check.specs.Check.{marks_by, way_by};
 ghost use Rattle.mdp_subsystem_bounds.specs.{Cert.{plain_claim, Fits}, Plain.{plain}, Spelling.{text_of}};
-ghost use Rattle.mdp_command.specs.Prelude.{IsModelReadToEnd, no_memory, plain_refusal, said, input};
+ghost use Rattle.mdp_command.specs.Prelude.{no_memory, plain_refusal, said};
 ghost use Rattle.mdp_command_bounds_search.specs.{WitnessDue.{name_of, owned_name, claim_by, refusal_of, IsEndDue, IsBoundsWitnessDue}, WitnessMarks.{IsSized, lists_of, certificate_of}};
-ghost use Rattle.mdp_command_bounds_search.specs.WitnessShown.{IsBoundsWitnessPrinted, IsBoundsWitnessRead};
+ghost use Rattle.mdp_command_bounds_search.specs.WitnessShown.{IsBoundsWitnessPrinted};
 
 use crate::witness_certificate::certificate_of;
 use crate::witness_marks::marks_of;
 use mdp_check::{goals_on_way, way_by};
-use mdp_command::read_model;
-use mdp_edge::Source;
 use mdp_job::Refusal;
 use mdp_num::Frac;
-use mdp_rows::{Dir, Marks, Model, RowRule};
+use mdp_rows::{Dir, Marks, Model};
 use mdp_subsystem_bounds::{
     SubsystemBounds, SubsystemBoundsCert, subsystem_bounds_law, subsystem_bounds_text_law,
     write_subsystem_bounds,
@@ -40,10 +38,8 @@ fn certificate_text(alloc: Global, cert: &SubsystemBoundsCert) -> Result<Vec<u8>
     ensures { (said result ≡ Err no_memory) ⊎ (said result ≡ Ok (text_of (plain cert.now))) }
 {
     let mut text = Vec::new(alloc);
-    match write_subsystem_bounds(cert, &mut text) {
-        Ok(()) => Ok(text),
-        Err(_) => Err(Refusal::Memory),
-    }
+    write_subsystem_bounds(cert, &mut text)?;
+    Ok(text)
 }
 
 /// What the words of the command ask for, beside the model.
@@ -117,56 +113,40 @@ impl Asked<'_> {
             Ok(found) => found,
             Err(error) => return Err(refusal_of(error)),
         };
-        let Ok(cert) = self.certificate(alloc, model, start, found) else {
-            return Err(Refusal::Memory);
-        };
+        let cert = self.certificate(alloc, model, start, found)?;
         certificate_text(alloc, &cert)
-    }
-
-    /// The text for a model, or its refusal: the labels are looked up first, then the one initial state.
-    fn of_model(&self, alloc: Global, model: &Model) -> Result<Vec<u8>, Refusal>
-        requires { of_int (pos 0) ≤ℚ self.now.threshold }
-        ensures due { (said result ≡ Err no_memory) ⊎
-            IsBoundsWitnessDue (claim_by self.now.dir (name_of self.now.stay) self.now.label.now self.now.threshold) model.now (said result) }
-        ensures printed { IfOk (said result) (IsBoundsWitnessPrinted (claim_by self.now.dir (name_of self.now.stay) self.now.label.now self.now.threshold) model.now) }
-    {
-        let Some(goals) = goals_on_way(alloc, model, self.stay, self.label)? else {
-            return Err(Refusal::QueryLabel);
-        };
-        let Some(start) = model.initial() else {
-            return Err(Refusal::QueryInit);
-        };
-        match way_by(alloc, model, &goals, self.stay)? {
-            Some(way) => self.on_way(alloc, model, &way, &goals, start),
-            None => self.on_way(alloc, model, model, &goals, start),
-        }
     }
 }
 
-/// Reads the model to its end and judges its text, then searches a subsystem on which the best probability, in the direction, of reaching a state with the
-/// label from the one initial state, by way of states with the label `stay` alone where there is one, is still at least the threshold, and writes a
-/// certificate that shows it by lower values.
-pub fn bounds_witness_file<S: Source>(
+/// Searches a subsystem on which the best probability, in the direction, of reaching a state with the label from the one initial state, by way of states with
+/// the label `stay` alone where there is one, is still at least the threshold. Gives the text of a certificate that shows it by lower values, or the first
+/// refusal: the labels are looked up first, then the one initial state.
+pub fn bounds_witness_query(
     alloc: Global,
-    rule: RowRule,
+    model: &Model,
     dir: Dir,
     stay: Option<&[u8]>,
     label: &[u8],
     threshold: Frac,
-    model: &mut S,
 ) -> Result<Vec<u8>, Refusal>
     requires { of_int (pos 0) ≤ℚ threshold }
-    ensures read { IsBoundsWitnessRead rule (claim_by dir (name_of stay.entry) label.now threshold) (input S.left S.faults model.old model.new) (said result) }
-    ensures end { IsModelReadToEnd (input S.left S.faults model.old model.new) (said result) }
+    ensures due { (said result ≡ Err no_memory) ⊎ IsBoundsWitnessDue (claim_by dir (name_of stay.entry) label.now threshold) model.now (said result) }
+    ensures printed { IfOk (said result) (IsBoundsWitnessPrinted (claim_by dir (name_of stay.entry) label.now threshold) model.now) }
 {
+    let Some(goals) = goals_on_way(alloc, model, stay, label)? else {
+        return Err(Refusal::QueryLabel);
+    };
+    let Some(start) = model.initial() else {
+        return Err(Refusal::QueryInit);
+    };
     let asked = Asked {
         dir,
         stay,
         label,
         threshold,
     };
-    match read_model(alloc, model, rule) {
-        Ok(model) => asked.of_model(alloc, &model),
-        Err(refusal) => Err(refusal),
+    match way_by(alloc, model, &goals, stay)? {
+        Some(way) => asked.on_way(alloc, model, &way, &goals, start),
+        None => asked.on_way(alloc, model, model, &goals, start),
     }
 }

@@ -6,7 +6,7 @@ use Rattle.mdp_check.proofs.{Accepting.{goals_count}, Ways.{way_by_states}}
 use Rattle.mdp_subsystem_bounds.specs.Plain.{plain}
 use Rattle.mdp_command.specs.Said.{said}
 use Rattle.mdp_command_bounds_search.specs.WitnessDue.{name_of, claim_by}
-use Rattle.mdp_command_bounds_search.proofs.WitnessPrinting.{names_there, sized_on, IsShown, text_due, printed, refused_due}
+use Rattle.mdp_command_bounds_search.proofs.{WitnessPrinting.{names_there, sized_on, IsShown, text_due, refused_due}, WitnessSolved.{printed}}
 use Rattle.mdp_command_bounds_search.proofs.witness_search.Asked.on_way.Goals as goal
 
 pub search_subsystem-requires-clause-goals : goal.search_subsystem-requires-clause-goals
@@ -55,24 +55,11 @@ returns-clause-due c =
       reached = e.reached;
       needed = rw (← c.requires.way) e.needed;
     } in
-    text_due claim m c.args.goals.now c.args.start c.in-Ok.found sized shown (plain c.in-Ok-certificate.cert) (said c.certificate_text.result) c.in-Ok-certificate.ensures.certificate
-    c.in-Ok-certificate.ensures.fits c.certificate_text.ensures
+    text_due claim m c.args.goals.now c.args.start c.in-Ok.found sized shown (plain c.in_ok-cert.cert) (said c.certificate_text.result) c.in_ok-cert.ensures.certificate
+    c.in_ok-cert.ensures.fits c.certificate_text.ensures
 
 pub returns-clause-printed : goal.returns-clause-printed
 returns-clause-printed c =
     let asked = c.args.self.now in
-    let e = c.in-Ok.ensures in
-    let m = c.args.model.now in
-    let same : states_of c.args.way.now ≡ states_of m = ap states_of c.requires.way ∙ way_by_states m c.args.goals.now (name_of asked.stay) in
-    let claim = claim_by asked.dir (name_of asked.stay) asked.label.now asked.threshold in
-    let sized = sized_on m c.args.way.now c.in-Ok.found same e.lower e.ones e.choices e.ranks e.kept e.need_each in
-    let shown : IsShown claim m c.args.goals.now c.args.start c.in-Ok.found sized =
-    record {
-      marked = c.requires.goals;
-      initial = c.requires.initial;
-      rules = rw (← c.requires.way) e.rules;
-      reached = e.reached;
-      needed = rw (← c.requires.way) e.needed;
-    } in
-    printed claim m c.args.goals.now c.args.start c.in-Ok.found sized shown c.known.ensures.mdp c.subsystem_bounds_text_law.ensures.back c.subsystem_bounds_law.ensures.bound
-    (plain c.in-Ok-certificate.cert) (said c.certificate_text.result) c.in-Ok-certificate.ensures.certificate c.in-Ok-certificate.ensures.fits c.certificate_text.ensures
+    printed c.subsystem_bounds_text_law.ensures.back c.subsystem_bounds_law.ensures.bound (claim_by asked.dir (name_of asked.stay) asked.label.now asked.threshold) c.args.model.now
+    c.known.ensures.mdp c.args.goals.now c.args.start (said c.certificate_text.result) c.requires.goals (returns-clause-due c)
