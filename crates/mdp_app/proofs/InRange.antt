@@ -1,6 +1,6 @@
 -- What words that ask for a drill say of its numbers, those that ask for discounted rewards of their factor, those that ask for a witness of their
 -- threshold, and those that ask for bounds or a curve of their digits.
-use Rattle.std.proofs.Common.{◌≡◌, ℕ, zero, suc, ◌*◌, ◌-◌, ◌^◌, ◌≤◌, Bool, true, false, ◌&&◌, cond, not, nat_lt, List, [], ◌∷◌, length, map, Option, Some, None, Result, Ok, Err}
+use Rattle.std.proofs.Common.{◌≡◌, ℕ, zero, suc, ◌*◌, ◌-◌, ◌^◌, ◌≤◌, Bool, true, false, ◌&&◌, cond, not, nat_lt, List, [], ◌∷◌, length, map, Option, Some, None, Result, Ok, Err, IfOk}
 use Rattle.std.proofs.{Common.{refl, subst, T, sym, ltb→lt, arith, pos}, lemmas.Bool.{and_parts, ltb-false}}
 use Rattle.std.specs.{Prelude.{◌==◌, codes}, Global.{Global}, Str.{bytes_eq}, String.{string_bytes}, declared.string.String.{String}}
 use Rattle.mdp_math.specs.{Rational.{ℚ, ratio, lt_ℚ, ◌≤ℚ◌}, Result.{◌>>=◌}}
@@ -8,13 +8,12 @@ use Rattle.mdp_math.proofs.{Extremes.{lt_of_test}, Order.{0ℚ, 1ℚ, ≤ℚ_ref
 use Rattle.mdp_num.specs.{Numeral.{parts_of, terms_of, value_of, numeral_of}, declared.errors.NumeralError.{NumeralError}}
 use Rattle.mdp_discount_rules.specs.Rules.{IsFactor}
 use Rattle.mdp_rows.specs.{declared.dir.Dir.{Dir}, declared.rule.RowRule.{RowRule}}
-use Rattle.mdp_app.specs.InRange.{IsInRange, asked_for}
-use Rattle.mdp_job.specs.Job.{PlainJob, drill, policy, Asked}
-use Rattle.mdp_job.specs.Words.{rows_of, word_at, rule_of, dir_of, check_of, query_of, solve_of, whole_word, can_draw, drill_by, drill_with, drill_of}
-use Rattle.mdp_job.specs.Words.{threshold_by, threshold_of, witness_reach_of, witness_until_of, witness_of, steps_of, horizon_of, total_of, policy_reach_of, policy_until_of, policy_of, chain_of}
-use Rattle.mdp_job.specs.Words.{below_one, factor_of, discount_of, discount_check_of, begins_with_zero, few_digits, digits_of, bounds_query_of, bounds_digits_of, bounds_best_of, bounds_until_of}
-use Rattle.mdp_job.specs.Words.{bounds_witness_reach_of, bounds_witness_until_of, bounds_witness_of}
-use Rattle.mdp_job.specs.Words.{bounds_total_of, bounds_discount_of, bounds_by, bounds_of, bounds_check_of, curve_until_of, curve_total_of, curve_by, curve_of, direct_of, other_of, job_of_texts, job_of}
+use Rattle.mdp_app.specs.InRange.{IsTaskInRange, IsInRange, asked_for}
+use Rattle.mdp_job.specs.Job.{PlainTask, bounds_until, bounds_total, curve_until, curve_total, PlainPairTask, check, policy, chain, discount_check, bounds_check, PlainJob, on_model, on_pair, drill, Asked}
+use Rattle.mdp_job.specs.Words.{rows_of, word_at, rule_of, head_of, on_model_of, pair_of, query_of, solve_of, whole_word, can_draw, drill_by, drill_with, drill_of}
+use Rattle.mdp_job.specs.Words.{threshold_by, threshold_of, witness_reach_of, witness_until_of, witness_of, steps_of, horizon_of, total_of, policy_reach_of, policy_until_of, policy_of}
+use Rattle.mdp_job.specs.Words.{below_one, factor_of, discount_of, begins_with_zero, few_digits, digits_of, until_within, total_within, bounds_query_of, bounds_digits_of, bounds_best_of}
+use Rattle.mdp_job.specs.Words.{bounds_discount_of, bounds_witness_reach_of, bounds_witness_until_of, bounds_witness_of, bounds_by, bounds_of, curve_by, curve_of, on_model_by, job_of_texts, job_of}
 use Rattle.mdp_job.specs.declared.words_error.WordsError.{WordsError}
 use Rattle.mdp_job.specs.declared.words_error.WordsError.TheVariants.{Command, Number, Objective, Drill, Factor, Digits}
 
@@ -72,17 +71,41 @@ few_are word n e = by (begins_with_zero word) e
 
 -- ---- words
 
+-- what words ask of a model, if they do
+abbrev IsTaskOk : Result PlainTask WordsError → Type 0
+IsTaskOk asked = IfOk asked IsTaskInRange
+
 either : (b : Bool) (x y : Asked) → IsInRange x → IsInRange y → IsInRange (cond b x y)
 either true x y p q = p
 either false x y p q = q
 
-bind : {A : Type 0} (r : Result A WordsError) (f : A → Asked) → ((x : A) → IsInRange (f x)) → IsInRange (r >>= f)
-bind (Ok x) f h = h x
-bind (Err e) f h = tt
+either_task : (b : Bool) (x y : Result PlainTask WordsError) → IsTaskOk x → IsTaskOk y → IsTaskOk (cond b x y)
+either_task true x y p q = p
+either_task false x y p q = q
 
-bind_to : {A : Type 0} (r : Result A WordsError) (f : A → Asked) → ((x : A) → r ≡ Ok x → IsInRange (f x)) → IsInRange (r >>= f)
-bind_to (Ok x) f h = h x refl
-bind_to (Err e) f h = tt
+bind_task : {A : Type 0} (r : Result A WordsError) (f : A → Result PlainTask WordsError) → ((x : A) → r ≡ Ok x → IsTaskOk (f x)) → IsTaskOk (r >>= f)
+bind_task (Ok x) f h = h x refl
+bind_task (Err e) f h = tt
+
+task_of : (rule : RowRule) (asked : Result PlainTask WordsError) → IsTaskOk asked → IsInRange (asked >>= (λ task. Ok (on_model rule task)))
+task_of rule (Ok task) ok = ok
+task_of rule (Err e) ok = tt
+
+head_by : (head : Result (RowRule × Dir) WordsError) (f : Dir → Result PlainTask WordsError) → ((dir : Dir) → IsTaskOk (f dir))
+    → IsInRange (head >>= (λ h. f h.1 >>= (λ task. Ok (on_model h.0 task))))
+head_by (Ok h) f ok = task_of h.0 (f h.1) (ok h.1)
+head_by (Err e) f ok = tt
+
+-- words that ask for a task whose numbers are in range
+model_in_range : (words : List (List ℕ)) (f : Dir → Result PlainTask WordsError) → ((dir : Dir) → IsTaskOk (f dir)) → IsInRange (on_model_of words f)
+model_in_range words f ok = head_by (head_of (word_at words 1) (word_at words 2)) f ok
+
+bind_pair : (r : Result RowRule WordsError) (f : RowRule → Asked) → ((x : RowRule) → IsInRange (f x)) → IsInRange (r >>= f)
+bind_pair (Ok x) f h = h x
+bind_pair (Err e) f h = tt
+
+pair_in_range : (task : PlainPairTask) (words : List (List ℕ)) → IsInRange (pair_of task words)
+pair_in_range task words = bind_pair (rows_of words) _ (λ rule. tt)
 
 drill_by_in_range : (number layers width : ℕ) → IsInRange (drill_by number layers width)
 drill_by_in_range number layers width = by (can_draw number layers width) refl
@@ -102,138 +125,112 @@ drill_in_range words = either (length words == 3) (drill_with (whole_word 20 (wo
     (drill_with_in_range (whole_word 20 (word_at words 0)) (whole_word 7 (word_at words 1)) (whole_word 7 (word_at words 2))) tt
 
 solve_in_range : (words : List (List ℕ)) → IsInRange (solve_of words)
-solve_in_range words =
-    either (nat_lt (length words) 4) (Err Number) _ tt
-    (bind (rule_of (word_at words 1)) _ (λ rule. bind (dir_of (word_at words 2)) _ (λ dir. bind (query_of words) _ (λ query. tt))))
+solve_in_range words = either (nat_lt (length words) 4) (Err Number) _ tt (model_in_range words _ (λ dir. bind_task (query_of words) _ (λ query is. tt)))
 
+-- behind other words, a threshold is that of a witness
 witness_reach_in_range : (words : List (List ℕ)) → IsInRange (witness_reach_of words)
 witness_reach_in_range words =
-    either (length words == 5) _ (Err Number)
-    (bind (rule_of (word_at words 1)) _ (λ rule. bind (dir_of (word_at words 2)) _ (λ dir. bind_to (threshold_of (word_at words 4)) _ (λ threshold is. threshold_is (word_at words 4) threshold is)))) tt
+    either (length words == 5) _ (Err Number) (model_in_range words _ (λ dir. bind_task (threshold_of (word_at words 4)) _ (λ threshold is. threshold_is (word_at words 4) threshold is))) tt
 
 witness_until_in_range : (words : List (List ℕ)) → IsInRange (witness_until_of words)
 witness_until_in_range words =
-    either (length words == 7) _ (Err Number)
-    (bind (rule_of (word_at words 1)) _ (λ rule. bind (dir_of (word_at words 2)) _ (λ dir. bind_to (threshold_of (word_at words 6)) _ (λ threshold is. threshold_is (word_at words 6) threshold is)))) tt
+    either (length words == 7) _ (Err Number) (model_in_range words _ (λ dir. bind_task (threshold_of (word_at words 6)) _ (λ threshold is. threshold_is (word_at words 6) threshold is))) tt
 
 witness_in_range : (words : List (List ℕ)) → IsInRange (witness_of words)
 witness_in_range words =
     either ((length words == 7) && bytes_eq (word_at words 3) (codes "until")) (witness_until_of words) (witness_reach_of words) (witness_until_in_range words) (witness_reach_in_range words)
 
-check_in_range : (words : List (List ℕ)) → IsInRange (check_of words)
-check_in_range words = bind (rows_of words) _ (λ rule. tt)
-
 horizon_in_range : (words : List (List ℕ)) → IsInRange (horizon_of words)
-horizon_in_range words =
-    either (length words == 6) _ (Err Number)
-    (bind (rule_of (word_at words 1)) _ (λ rule. bind (dir_of (word_at words 2)) _ (λ dir. bind (steps_of (word_at words 5)) _ (λ steps. tt)))) tt
+horizon_in_range words = either (length words == 6) _ (Err Number) (model_in_range words _ (λ dir. bind_task (steps_of (word_at words 5)) _ (λ steps is. tt))) tt
 
 total_in_range : (words : List (List ℕ)) → IsInRange (total_of words)
-total_in_range words =
-    either (length words == 5) _ (Err Number)
-    (bind (rule_of (word_at words 1)) _ (λ rule. bind (dir_of (word_at words 2)) _ (λ dir. bind (steps_of (word_at words 4)) _ (λ steps. tt)))) tt
+total_in_range words = either (length words == 5) _ (Err Number) (model_in_range words _ (λ dir. bind_task (steps_of (word_at words 4)) _ (λ steps is. tt))) tt
 
 policy_reach_in_range : (words : List (List ℕ)) → IsInRange (policy_reach_of words)
 policy_reach_in_range words =
     either (length words == 5) _ (Err Number)
-    (bind (rule_of (word_at words 1)) _ (λ rule. either (bytes_eq (word_at words 3) (codes "reach")) (Ok (policy rule None (word_at words 4))) (Err Objective) tt tt)) tt
+    (bind_pair (rule_of (word_at words 1)) _ (λ rule. either (bytes_eq (word_at words 3) (codes "reach")) (Ok (on_pair rule (policy None (word_at words 4)))) (Err Objective) tt tt)) tt
 
 policy_until_in_range : (words : List (List ℕ)) → IsInRange (policy_until_of words)
-policy_until_in_range words = either (length words == 6) _ (Err Number) (bind (rule_of (word_at words 1)) _ (λ rule. tt)) tt
+policy_until_in_range words = either (length words == 6) _ (Err Number) (bind_pair (rule_of (word_at words 1)) _ (λ rule. tt)) tt
 
 policy_in_range : (words : List (List ℕ)) → IsInRange (policy_of words)
 policy_in_range words =
     either ((length words == 6) && bytes_eq (word_at words 3) (codes "until")) (policy_until_of words) (policy_reach_of words) (policy_until_in_range words) (policy_reach_in_range words)
 
-chain_in_range : (words : List (List ℕ)) → IsInRange (chain_of words)
-chain_in_range words = bind (rows_of words) _ (λ rule. tt)
-
 discount_in_range : (words : List (List ℕ)) → IsInRange (discount_of words)
 discount_in_range words =
-    either (length words == 5) _ (Err Number)
-    (bind (rule_of (word_at words 1)) _ (λ rule. bind (dir_of (word_at words 2)) _ (λ dir. bind_to (factor_of (word_at words 4)) _ (λ factor is. factor_is (word_at words 4) factor is)))) tt
+    either (length words == 5) _ (Err Number) (model_in_range words _ (λ dir. bind_task (factor_of (word_at words 4)) _ (λ factor is. factor_is (word_at words 4) factor is))) tt
 
-discount_check_in_range : (words : List (List ℕ)) → IsInRange (discount_check_of words)
-discount_check_in_range words = bind (rows_of words) _ (λ rule. tt)
+bounds_best_in_range : (dir : Dir) (words : List (List ℕ)) → IsTaskOk (bounds_best_of dir words)
+bounds_best_in_range dir words = bind_task (bounds_query_of words) _ (λ query is. bind_task (bounds_digits_of words) _ (λ digits are. tt))
 
-bounds_best_in_range : (rule : RowRule) (dir : Dir) (words : List (List ℕ)) → IsInRange (bounds_best_of rule dir words)
-bounds_best_in_range rule dir words = bind (bounds_query_of words) _ (λ query. bind (bounds_digits_of words) _ (λ digits. tt))
+-- steps, then digits
+until_in_range : (words : List (List ℕ)) (task : Option (List ℕ) → List ℕ → ℕ → ℕ → PlainTask)
+    → ((stay : Option (List ℕ)) (label : List ℕ) (steps digits : ℕ) → digits ≤ 30 → IsTaskInRange (task stay label steps digits)) → IsTaskOk (until_within words task)
+until_in_range words task ok =
+    either_task (length words == 8) _ (Err Number)
+    (bind_task (steps_of (word_at words 6)) _ (λ steps are. bind_task (digits_of (word_at words 7)) _ (λ digits is. ok _ _ steps digits (few_are (word_at words 7) digits is)))) tt
 
-bounds_until_in_range : (rule : RowRule) (dir : Dir) (words : List (List ℕ)) → IsInRange (bounds_until_of rule dir words)
-bounds_until_in_range rule dir words =
-    either (length words == 8) _ (Err Number) (bind (steps_of (word_at words 6)) _ (λ steps. bind_to (digits_of (word_at words 7)) _ (λ digits is. few_are (word_at words 7) digits is))) tt
+total_within_range : (words : List (List ℕ)) (task : List ℕ → ℕ → ℕ → PlainTask)
+    → ((name : List ℕ) (steps digits : ℕ) → digits ≤ 30 → IsTaskInRange (task name steps digits)) → IsTaskOk (total_within words task)
+total_within_range words task ok =
+    either_task (length words == 7) _ (Err Number)
+    (bind_task (steps_of (word_at words 5)) _ (λ steps are. bind_task (digits_of (word_at words 6)) _ (λ digits is. ok _ steps digits (few_are (word_at words 6) digits is)))) tt
 
-bounds_total_in_range : (rule : RowRule) (dir : Dir) (words : List (List ℕ)) → IsInRange (bounds_total_of rule dir words)
-bounds_total_in_range rule dir words =
-    either (length words == 7) _ (Err Number) (bind (steps_of (word_at words 5)) _ (λ steps. bind_to (digits_of (word_at words 6)) _ (λ digits is. few_are (word_at words 6) digits is))) tt
+bounds_discount_in_range : (dir : Dir) (words : List (List ℕ)) → IsTaskOk (bounds_discount_of dir words)
+bounds_discount_in_range dir words =
+    either_task (length words == 7) _ (Err Number)
+    (bind_task (factor_of (word_at words 5)) _ (λ factor is. bind_task (digits_of (word_at words 6)) _ (λ digits are. factor_is (word_at words 5) factor is))) tt
 
-bounds_discount_in_range : (rule : RowRule) (dir : Dir) (words : List (List ℕ)) → IsInRange (bounds_discount_of rule dir words)
-bounds_discount_in_range rule dir words =
-    either (length words == 7) _ (Err Number)
-    (bind_to (factor_of (word_at words 5)) _ (λ factor is. bind (digits_of (word_at words 6)) _ (λ digits. factor_is (word_at words 5) factor is))) tt
+bounds_witness_in_range : (dir : Dir) (words : List (List ℕ)) → IsTaskOk (bounds_witness_of dir words)
+bounds_witness_in_range dir words =
+    either_task ((length words == 8) && bytes_eq (word_at words 4) (codes "until")) (bounds_witness_until_of dir words) (bounds_witness_reach_of dir words)
+    (either_task (length words == 8) _ (Err Number) (bind_task (threshold_of (word_at words 7)) _ (λ threshold is. threshold_is (word_at words 7) threshold is)) tt)
+    (either_task (length words == 6) _ (Err Number) (bind_task (threshold_of (word_at words 5)) _ (λ threshold is. threshold_is (word_at words 5) threshold is)) tt)
 
-bounds_witness_in_range : (rule : RowRule) (dir : Dir) (words : List (List ℕ)) → IsInRange (bounds_witness_of rule dir words)
-bounds_witness_in_range rule dir words =
-    either ((length words == 8) && bytes_eq (word_at words 4) (codes "until")) (bounds_witness_until_of rule dir words) (bounds_witness_reach_of rule dir words)
-    (either (length words == 8) _ (Err Number) (bind_to (threshold_of (word_at words 7)) _ (λ threshold is. threshold_is (word_at words 7) threshold is)) tt)
-    (either (length words == 6) _ (Err Number) (bind_to (threshold_of (word_at words 5)) _ (λ threshold is. threshold_is (word_at words 5) threshold is)) tt)
-
-bounds_by_in_range : (rule : RowRule) (dir : Dir) (words : List (List ℕ)) → IsInRange (bounds_by rule dir words)
-bounds_by_in_range rule dir words =
-    either (bytes_eq (word_at words 3) (codes "until") && (length words == 8)) (bounds_until_of rule dir words) _ (bounds_until_in_range rule dir words) (
-    either (bytes_eq (word_at words 3) (codes "total")) (bounds_total_of rule dir words) _ (bounds_total_in_range rule dir words) (
-    either (bytes_eq (word_at words 3) (codes "discount")) (bounds_discount_of rule dir words) _ (bounds_discount_in_range rule dir words) (
-    either (bytes_eq (word_at words 3) (codes "witness")) (bounds_witness_of rule dir words) (bounds_best_of rule dir words)
-    (bounds_witness_in_range rule dir words) (bounds_best_in_range rule dir words))))
+bounds_by_in_range : (dir : Dir) (words : List (List ℕ)) → IsTaskOk (bounds_by dir words)
+bounds_by_in_range dir words =
+    either_task (bytes_eq (word_at words 3) (codes "until") && (length words == 8)) (until_within words (bounds_until dir)) _
+    (until_in_range words (bounds_until dir) (λ stay label steps digits few. few)) (
+    either_task (bytes_eq (word_at words 3) (codes "total")) (total_within words (bounds_total dir)) _
+    (total_within_range words (bounds_total dir) (λ name steps digits few. few)) (
+    either_task (bytes_eq (word_at words 3) (codes "discount")) (bounds_discount_of dir words) _ (bounds_discount_in_range dir words) (
+    either_task (bytes_eq (word_at words 3) (codes "witness")) (bounds_witness_of dir words) (bounds_best_of dir words)
+    (bounds_witness_in_range dir words) (bounds_best_in_range dir words))))
 
 bounds_in_range : (words : List (List ℕ)) → IsInRange (bounds_of words)
-bounds_in_range words =
-    either (nat_lt (length words) 6) (Err Number) _ tt
-    (bind (rule_of (word_at words 1)) _ (λ rule. bind (dir_of (word_at words 2)) _ (λ dir. bounds_by_in_range rule dir words)))
+bounds_in_range words = either (nat_lt (length words) 6) (Err Number) _ tt (model_in_range words _ (λ dir. bounds_by_in_range dir words))
 
-bounds_check_in_range : (words : List (List ℕ)) → IsInRange (bounds_check_of words)
-bounds_check_in_range words = bind (rows_of words) _ (λ rule. tt)
-
-curve_until_in_range : (rule : RowRule) (dir : Dir) (words : List (List ℕ)) → IsInRange (curve_until_of rule dir words)
-curve_until_in_range rule dir words =
-    either (length words == 8) _ (Err Number) (bind (steps_of (word_at words 6)) _ (λ steps. bind_to (digits_of (word_at words 7)) _ (λ digits is. few_are (word_at words 7) digits is))) tt
-
-curve_total_in_range : (rule : RowRule) (dir : Dir) (words : List (List ℕ)) → IsInRange (curve_total_of rule dir words)
-curve_total_in_range rule dir words =
-    either (length words == 7) _ (Err Number) (bind (steps_of (word_at words 5)) _ (λ steps. bind_to (digits_of (word_at words 6)) _ (λ digits is. few_are (word_at words 6) digits is))) tt
-
-curve_by_in_range : (rule : RowRule) (dir : Dir) (words : List (List ℕ)) → IsInRange (curve_by rule dir words)
-curve_by_in_range rule dir words =
-    either (bytes_eq (word_at words 3) (codes "until")) (curve_until_of rule dir words) _ (curve_until_in_range rule dir words)
-    (either (bytes_eq (word_at words 3) (codes "total")) (curve_total_of rule dir words) (Err Objective) (curve_total_in_range rule dir words) tt)
+curve_by_in_range : (dir : Dir) (words : List (List ℕ)) → IsTaskOk (curve_by dir words)
+curve_by_in_range dir words =
+    either_task (bytes_eq (word_at words 3) (codes "until")) (until_within words (curve_until dir)) _
+    (until_in_range words (curve_until dir) (λ stay label steps digits few. few))
+    (either_task (bytes_eq (word_at words 3) (codes "total")) (total_within words (curve_total dir)) (Err Objective)
+    (total_within_range words (curve_total dir) (λ name steps digits few. few)) tt)
 
 curve_in_range : (words : List (List ℕ)) → IsInRange (curve_of words)
-curve_in_range words =
-    either (nat_lt (length words) 4) (Err Number) _ tt
-    (bind (rule_of (word_at words 1)) _ (λ rule. bind (dir_of (word_at words 2)) _ (λ dir. curve_by_in_range rule dir words)))
+curve_in_range words = either (nat_lt (length words) 4) (Err Number) _ tt (model_in_range words _ (λ dir. curve_by_in_range dir words))
 
-direct_in_range : (command : List ℕ) (words : List (List ℕ)) → IsInRange (direct_of command words)
-direct_in_range command words =
+on_model_in_range : (command : List ℕ) (words : List (List ℕ)) → IsInRange (on_model_by command words)
+on_model_in_range command words =
+    either (bytes_eq command (codes "solve")) (solve_of words) _ (solve_in_range words) (
+    either (bytes_eq command (codes "witness")) (witness_of words) _ (witness_in_range words) (
     either (bytes_eq command (codes "horizon")) (horizon_of words) _ (horizon_in_range words) (
     either (bytes_eq command (codes "total")) (total_of words) _ (total_in_range words) (
-    either (bytes_eq command (codes "curve")) (curve_of words) _ (curve_in_range words) (
-    either (bytes_eq command (codes "policy")) (policy_of words) _ (policy_in_range words) (
-    either (bytes_eq command (codes "chain")) (chain_of words) (Err Command) (chain_in_range words) tt))))
-
-other_in_range : (command : List ℕ) (words : List (List ℕ)) → IsInRange (other_of command words)
-other_in_range command words =
     either (bytes_eq command (codes "discount")) (discount_of words) _ (discount_in_range words) (
-    either (bytes_eq command (codes "discount-check")) (discount_check_of words) _ (discount_check_in_range words) (
     either (bytes_eq command (codes "bounds")) (bounds_of words) _ (bounds_in_range words) (
-    either (bytes_eq command (codes "bounds-check")) (bounds_check_of words) (direct_of command words) (bounds_check_in_range words) (direct_in_range command words))))
+    either (bytes_eq command (codes "curve")) (curve_of words) (Err Command) (curve_in_range words) tt))))))
 
 texts_in_range : (words : List (List ℕ)) → IsInRange (job_of_texts words)
 texts_in_range [] = tt
 texts_in_range (command ∷ words) =
-    either (bytes_eq command (codes "solve")) (solve_of words) _ (solve_in_range words) (
-    either (bytes_eq command (codes "witness")) (witness_of words) _ (witness_in_range words) (
-    either (bytes_eq command (codes "check")) (check_of words) _ (check_in_range words) (
-    either (bytes_eq command (codes "drill")) (drill_of words) (other_of command words) (drill_in_range words) (other_in_range command words))))
+    either (bytes_eq command (codes "check")) (pair_of check words) _ (pair_in_range check words) (
+    either (bytes_eq command (codes "discount-check")) (pair_of discount_check words) _ (pair_in_range discount_check words) (
+    either (bytes_eq command (codes "bounds-check")) (pair_of bounds_check words) _ (pair_in_range bounds_check words) (
+    either (bytes_eq command (codes "chain")) (pair_of chain words) _ (pair_in_range chain words) (
+    either (bytes_eq command (codes "policy")) (policy_of words) _ (policy_in_range words) (
+    either (bytes_eq command (codes "drill")) (drill_of words) (on_model_by command words) (drill_in_range words) (on_model_in_range command words))))))
 
 -- a job that words ask for
 pub in_range_of : (words : List (String Global)) (job : PlainJob) → asked_for job ≡ job_of words → IsInRange (asked_for job)

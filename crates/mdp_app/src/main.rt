@@ -17,7 +17,7 @@ mod tests;
 use crate::run::run_on_files;
 use mdp_command::{exit_of, words_given, written};
 use mdp_edge::{StdSink, StdSource};
-use mdp_job::files_of;
+use mdp_job::{files_of, job_of};
 use std::fs::File;
 use std::process::ExitCode;
 
@@ -38,7 +38,7 @@ fn main(rt: HostRuntime) -> ExitCode {
     let mut out = StdSink::new(rt.stdout());
     let status = match words_given(&rt) {
         Ok(words) => {
-            let files = files_of(&words);
+            let files = files_of(&job_of(&words));
             let open_model = |path: &str| opened(&rt, path, files.model);
             let open_second = |path: &str| opened(&rt, path, files.second);
             run_on_files(alloc, &words, open_model, open_second, &mut out)

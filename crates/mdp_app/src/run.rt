@@ -5,8 +5,11 @@ ghost use Rattle.mdp_app.specs.{Run.{IsAnswered, IsWorkDone, IsComplete, HasRun}
 
 use crate::tasks::{on_model, on_pair};
 use mdp_command::written;
-use mdp_command_bounds_search::bounds_witness_law;
-use mdp_command_solve::{drill, solve_law, witness_step_law};
+use mdp_command_bounds_search::{
+    bounds_discount_search_law, bounds_search_law, bounds_witness_law,
+};
+use mdp_command_solve::{discount_step_law, drill, drill_law, solve_law, witness_step_law};
+use mdp_drn::model_law;
 use mdp_edge::{Sink, Source};
 use mdp_job::{Job, Refusal, Status, job_of, paths_of};
 use std::alloc::Global;
@@ -57,8 +60,13 @@ pub fn run<S: Source, C: Source, K: Sink>(
     ensures complete { IsComplete (job_of words.now) (input S.left S.faults model.old model.new) (input C.left C.faults second.old second.new)
         (output K.taken K.settled K.faults out.old out.new) result }
 {
+    model_law();
     solve_law();
     witness_step_law();
+    discount_step_law();
+    drill_law();
+    bounds_search_law();
+    bounds_discount_search_law();
     bounds_witness_law();
     let answer = decided(alloc, words, model, second);
     written(alloc, answer, out)
@@ -74,10 +82,10 @@ pub fn run_on_files<F: Source + Drop, M: FnOnce(&str) -> F, O: FnOnce(&str) -> F
 ) -> Status
     requires model { M.IsAlwaysCallable open_model }
     requires second { O.IsAlwaysCallable open_second }
-    ensures { OnFiles (FnOnceReturnsAt M.FnOnce open_model) (FnOnceReturnsAt O.FnOnce open_second) F.left F.faults (model_path words.now) (second_path words.now)
+    ensures { OnFiles (FnOnceReturnsAt M.FnOnce open_model) (FnOnceReturnsAt O.FnOnce open_second) F.left F.faults (model_path (job_of words.now) words.now) (second_path (job_of words.now) words.now)
         (λ model second. HasRun (job_of words.now) model second (output K.taken K.settled K.faults out.old out.new) result) }
 {
-    let paths = paths_of(words);
+    let paths = paths_of(words, &job_of(words));
     let mut model = open_model(paths.model);
     let mut second = open_second(paths.second);
     run(alloc, words, &mut model, &mut second, out)

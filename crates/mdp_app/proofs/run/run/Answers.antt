@@ -8,4 +8,13 @@ pub returns-clause-done : goal.returns-clause-done
 returns-clause-done g c is = work_done _ _ _ _ _ _ c.decided-answer.ensures.done c.written.ensures is
 
 pub returns-clause-complete : goal.returns-clause-complete
-returns-clause-complete g c = complete _ _ _ _ _ c.solve_law.ensures.once c.witness_step_law.ensures.once c.bounds_witness_law.ensures.refusals (returns-clause-answer g c)
+returns-clause-complete g c = complete _ _ _ _ _ (record {
+  models = c.model_law.ensures;
+  solve_once = c.solve_law.ensures.once;
+  witness_once = c.witness_step_law.ensures.once;
+  discount_once = c.discount_step_law.ensures.once;
+  drill_once = c.drill_law.ensures.once;
+  bounds_text = c.bounds_search_law.ensures.refusals;
+  bounds_discount_text = c.bounds_discount_search_law.ensures.refusals;
+  bounds_witness_text = c.bounds_witness_law.ensures.refusals;
+}) (returns-clause-answer g c)
