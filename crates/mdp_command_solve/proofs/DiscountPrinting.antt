@@ -7,19 +7,17 @@ use Rattle.mdp_math.specs.Rational.{ℚ}
 use Rattle.mdp_num.specs.OrderView.{equal_decides}
 use Rattle.mdp_spec.specs.{Labels.{place_of, initial_of}, Mdp.{Mdp, states_of, value_at}}
 use Rattle.mdp_rows.specs.declared.dir.Dir.{Dir}
-use Rattle.mdp_wide.specs.declared.unfinished.Unfinished.TheVariants as error
-use Rattle.mdp_wide.specs.{declared.too_wide.TooWide.{TooWide}, Term.{shown}}
-use Rattle.mdp_policy_iteration.specs.{Path.{Found, Refusal}, Queries.{Solves}}
+use Rattle.mdp_policy_iteration.specs.Path.{Found, Refusal}
 use Rattle.mdp_farkas.specs.{Verdict.{verdict_of}, Initial.{init_fault}}
 use Rattle.mdp_claims.specs.declared.verdict.Verdict.{Verdict}
 use Rattle.mdp_claims.specs.declared.verdict.Verdict.TheVariants as verdict
 use Rattle.mdp_discount_rules.specs.{Bounds.{DiscountBound}, Cert.{Certificate, Fits}, Check.{init_check, IsAccepted, IsBound}}
-use Rattle.mdp_discount_rules.specs.{Checks.{written_greatest, discount_checks, IsDiscount}, Plain.{plain}}
+use Rattle.mdp_discount_rules.specs.Checks.{written_greatest, discount_checks, IsDiscount}
 use Rattle.mdp_text.specs.Heads.{init_by}
 use Rattle.mdp_discount.specs.Query.{cut_found, answer_of, Held, AfterRemainder, AfterPath, EndsSo}
 use Rattle.mdp_text.proofs.InitialState.{initial_below}
 use Rattle.mdp_discount_text.specs.{Laws.{IsReadBack}, Spelling.{text_of}, Text.{outcome}}
-use Rattle.mdp_job.specs.Refusal.{no_memory, query_reward, too_wide}
+use Rattle.mdp_job.specs.Refusal.{no_memory}
 use Rattle.mdp_command.specs.{Files.{most_bytes}, Said.{Said}}
 use Rattle.mdp_command_solve.specs.{DiscountDue.{IsNamedDue, IsDiscountDue}, DiscountShown.{ClaimsSo, IsDiscountPrinted}}
 use Rattle.mdp_command_solve.proofs.DiscountLength.{text_short}
@@ -112,16 +110,7 @@ module _ (dir : Dir) (name : List ℕ) (f : ℚ) (m : Mdp) (r : ℕ) (found : pl
 
 -- ---- what is due
 
-pub unknown_due : (dir : Dir) (name : List ℕ) (f : ℚ) (m : Mdp) → place_of name m.names ≡ None → IsDiscountDue dir name f m (Err query_reward)
-unknown_due dir name f m e = subst (λ (o : Option ℕ). IsNamedDue dir name f m o (Err query_reward)) (sym e) refl
-
-module _ (dir : Dir) (name : List ℕ) (f : ℚ) (m : Mdp) (r : ℕ) (found : place_of name m.names ≡ Some r) where
-  due_at : (said : Said) → IsNamedDue dir name f m (Some r) said → IsDiscountDue dir name f m said
-  due_at said d = subst (λ (o : Option ℕ). IsNamedDue dir name f m o said) (sym found) d
-
-  pub text_due : (a : Certificate) (said : Said) → EndsSo dir m r name f (Ok a) → (said ≡ Err no_memory) ⊎ (said ≡ Ok (text_of a)) → (said ≡ Err no_memory) ⊎ IsDiscountDue dir name f m said
-  text_due a said end (inl memory) = inl memory
-  text_due a said end (inr e) = inr (due_at said (Ok a, end, e))
-
-  pub wide_due : (w : TooWide) → Solves plain (EndsSo dir m r name f) (Err (error.TooWide w)) → IsDiscountDue dir name f m (Err (too_wide (shown w w.round)))
-  wide_due w h = due_at (Err (too_wide (shown w w.round))) (Err (shown w h.0), h.2, ap (λ (n : ℕ). let said : Said = Err (too_wide (shown w n)) in said) h.1)
+pub text_due : (dir : Dir) (name : List ℕ) (f : ℚ) (m : Mdp) (r : ℕ) → place_of name m.names ≡ Some r → (a : Certificate) (said : Said) → EndsSo dir m r name f (Ok a)
+    → (said ≡ Err no_memory) ⊎ (said ≡ Ok (text_of a)) → (said ≡ Err no_memory) ⊎ IsDiscountDue dir name f m said
+text_due dir name f m r found a said end (inl memory) = inl memory
+text_due dir name f m r found a said end (inr e) = inr (subst (λ (o : Option ℕ). IsNamedDue dir name f m o said) (sym found) (Ok a, end, e))

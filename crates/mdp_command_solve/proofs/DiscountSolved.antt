@@ -1,16 +1,14 @@
--- One thing is due to `discount`, a text that is due is an answer, and what is shown of it.
-use Rattle.std.proofs.{Common.{◌≡◌, ℕ, List, [], Option, Some, None, Result, Ok, Err, IfOk, refl, sym, ap, ◌∙◌}, lemmas.List.Quantifiers.{position-Some}}
+-- One thing is due to `discount`, a text that is due is an answer, and one that is printed is accepted.
+use Rattle.std.proofs.{Common.{◌≡◌, ℕ, List, [], Option, Some, None, Result, Ok, Err, refl, sym, ap, ◌∙◌}, lemmas.List.Quantifiers.{position-Some}}
 use Rattle.std.specs.Str.{bytes_eq}
 use Rattle.mdp_math.specs.Rational.{ℚ}
 use Rattle.mdp_spec.specs.{Labels.{place_of}, Mdp.{Mdp}, Row.{IsMdp}}
-use Rattle.mdp_rows.specs.{declared.dir.Dir.{Dir}, declared.rule.RowRule.{RowRule}}
+use Rattle.mdp_rows.specs.declared.dir.Dir.{Dir}
 use Rattle.mdp_wide.specs.Term.{WideTerm}
 use Rattle.mdp_discount_rules.specs.{Cert.{Certificate}, Rules.{IsFactor}}
 use Rattle.mdp_discount.specs.{Laws.{HasOneEnd, CanAsk, AnswersMeetRules, AnswersAreBest}, Query.{EndsSo}}
-use Rattle.mdp_command.specs.{Kinds.{discounted}, Files.{model_due}, Said.{Said}}
-use Rattle.mdp_command.proofs.TrueClaims.{true_claim_of}
-use Rattle.mdp_command_solve.specs.{DiscountDue.{said_of_end, IsNamedDue}, DiscountLaws.{IsDueOnce, IsAnswerTo, TextIsAnswer}}
-use Rattle.mdp_command_solve.specs.DiscountShown.{IsDiscountPrinted, IsDiscountSolved}
+use Rattle.mdp_command.specs.Said.{Said}
+use Rattle.mdp_command_solve.specs.{DiscountDue.{said_of_end, IsNamedDue}, DiscountLaws.{IsDueOnce, TextIsAccepted, IsAnswerTo, TextIsAnswer}}
 use Rattle.mdp_command_solve.proofs.DiscountPrinting.{answer_of_query}
 
 -- ---- one thing is due
@@ -47,19 +45,20 @@ module _ (rules : AnswersMeetRules) (best : AnswersAreBest) (dir : Dir) (name : 
 pub text_is_answer : AnswersMeetRules → AnswersAreBest → TextIsAnswer
 text_is_answer rules best dir name f m text mdp factor d = at_name rules best dir name f m mdp factor text (place_of name m.names) refl d
 
--- ---- what is shown of a text
+-- ---- a text that is printed is accepted
 
-printed_solved : (rule : RowRule) (dir : Dir) (name : List ℕ) (f : ℚ) (m : Mdp) (bytes text : List ℕ) → model_due rule bytes ≡ Ok m → IsDiscountPrinted dir name f m text
-    → IsDiscountSolved rule dir name f bytes text
-printed_solved rule dir name f m bytes text is printed =
+pub text_is_accepted : TextIsAccepted
+text_is_accepted rule dir name f model text shown =
+    let printed = shown.printed in
     record {
-      true_claim = true_claim_of discounted rule m bytes text printed.cert is printed.short printed.reads printed.holds printed.bound;
-      computed = printed.computed;
-      claim = printed.claim;
-      spelled = printed.spelled;
+      accepted = record {
+        short_model = shown.short;
+        short_cert = printed.short;
+        model = shown.model;
+        reads = shown.reads;
+        cert = printed.cert;
+        text = printed.reads;
+        holds = printed.holds;
+      };
+      bound = printed.bound;
     }
-
-pub shown : (rule : RowRule) (dir : Dir) (name : List ℕ) (f : ℚ) (m : Mdp) (said : Said) → IfOk said (IsDiscountPrinted dir name f m) → (bytes : List ℕ) → model_due rule bytes ≡ Ok m
-    → IfOk said (IsDiscountSolved rule dir name f bytes)
-shown rule dir name f m (Ok text) printed bytes is = printed_solved rule dir name f m bytes text is printed
-shown rule dir name f m (Err r) printed bytes is = tt

@@ -90,22 +90,7 @@ module _ (reads : TextReads) (short : TextIsShort) (rows : HasRows) (states : Ha
       let p = printed_by m cert refl (rows number layers width shape) back (accepted Max None goal m (goals m) a refl f.rules each) f.fits (text_of cert) refl in
       record {
         given = record { answer = a; spelled = e ∙ line-is states choices number layers width shape a; ends = f.ends; labelled = refl; greatest = f.greatest };
-        solved = record {
-          true_claim = record {
-            accepted = record {
-              short_model = short number layers width shape;
-              short_cert = p.short;
-              model = m;
-              reads = reads number layers width shape;
-              cert = p.cert;
-              text = p.reads;
-              holds = p.holds;
-            };
-            bound = p.bound;
-          };
-          claim = p.claim;
-          spelled = p.spelled;
-        };
+        solved = record { short = short number layers width shape; model = m; reads = reads number layers width shape; printed = p };
       }
 
   pub drilled : (m : Mdp) (text : List ℕ) → m ≡ layered_model number layers width → IsLineOfFound number layers width m text → IsDrilled number layers width text

@@ -1,5 +1,5 @@
--- One thing is due to a query; and what is made of it, from what was read of the model's source.
-use Rattle.std.proofs.Common.{◌≡◌, ℕ, Bool, true, false, List, [], Option, Some, None, Result, Ok, Err, IfOk, refl, sym, ap, subst, ◌∙◌}
+-- One thing is due to a query, a text that is due is an answer, and one that is printed is accepted.
+use Rattle.std.proofs.Common.{◌≡◌, ℕ, Bool, true, false, List, [], Option, Some, None, Result, Ok, Err, refl, sym, ap, ◌∙◌}
 use Rattle.std.proofs.lemmas.List.Quantifiers.{position-Some}
 use Rattle.std.specs.Str.{bytes_eq}
 use Rattle.mdp_math.specs.Rational.{ℚ}
@@ -7,7 +7,6 @@ use Rattle.mdp_spec.specs.{Labels.{place_of, marks_of}, Mdp.{Mdp}, Row.{IsMdp}}
 use Rattle.mdp_spec.proofs.Until.{until_max_exact, until_min_exact}
 use Rattle.mdp_rows.specs.{Limits.{IsModel}, Negative.{has_negative}, declared.dir.Dir.{Dir}, declared.dir.Dir.TheVariants.{Max, Min}}
 use Rattle.mdp_rows.specs.declared.rule.RowRule.{RowRule}
-use Rattle.mdp_drn.specs.Laws.{ReadsAsModel}
 use Rattle.mdp_wide.specs.Term.{WideTerm}
 use Rattle.mdp_reach.specs.{Query.{Answer, EndsSo}, Laws.{AnswersMeetRules, AnswersAreGreatest, AnswersAreLeast}}
 use Rattle.mdp_reach.proofs.OneEnd.{one_query_end}
@@ -19,24 +18,13 @@ use Rattle.mdp_mean.specs.Query as averaged
 use Rattle.mdp_cert.specs.Cert as certificate
 use Rattle.mdp_cert.specs.Cert.{PlainClaim}
 use Rattle.mdp_check.specs.Check.{stay_marks, way_by}
-use Rattle.mdp_job.specs.{Job.{PlainQuery, reach, until, reward, mean}, Refusal.{PlainRefusal}}
-use Rattle.mdp_command.proofs.{Working.{read_of_due}, TrueClaims.{true_claim_of}}
-use Rattle.mdp_command.specs.{Accepted.{exact}, Files.{model_due}, Said.{Said}}
+use Rattle.mdp_job.specs.Job.{reach, until, reward, mean}
+use Rattle.mdp_command.specs.{Accepted.{IsTrueClaim}, Said.{Said}, Shown.{IsShownOf}}
 use Rattle.mdp_command_solve.specs.Ways.{place_on_way}
-use Rattle.mdp_command_solve.specs.Due.{said_of_end, said_of_reward_end, said_of_mean_end, IsReachDue, IsRewardEnd, IsRewardDue, IsMeanDue, IsQueryDue, IsSolveDue}
-use Rattle.mdp_command_solve.specs.Laws.{IsBest, IsAnswerTo, IsBestReward, IsRewardAnswerTo, IsBestMean, IsMeanAnswerTo}
-use Rattle.mdp_command_solve.specs.Solved.{IsClaimPrinted, IsPrinted, IsClaimSolved, IsSolved}
+use Rattle.mdp_command_solve.specs.Due.{said_of_end, said_of_reward_end, said_of_mean_end, IsReachDue, IsRewardEnd, IsRewardDue, IsMeanDue}
+use Rattle.mdp_command_solve.specs.Laws.{IsDueOnce, TextIsAccepted, TextIsAnswer, UntilTextIsAnswer, RewardTextIsAnswer, MeanTextIsAnswer, IsBest, IsAnswerTo, IsBestReward, IsRewardAnswerTo, IsBestMean, IsMeanAnswerTo}
+use Rattle.mdp_command_solve.specs.Solved.{IsClaimPrinted}
 use Rattle.mdp_command_solve.proofs.OnWay.{way_is_mdp}
-
--- ---- what is read is a model
-
-module _ (kept : ReadsAsModel) (rule : RowRule) (bytes : List ℕ) where
-  pub model_of : (m : Mdp) → model_due rule bytes ≡ Ok m → IsModel m
-  model_of m is = kept bytes rule m (read_of_due rule bytes m is).1
-
-  pub read_model : (read : Result Mdp PlainRefusal) → model_due rule bytes ≡ read → IfOk read IsModel
-  read_model (Ok m) is = model_of m is
-  read_model (Err r) is = tt
 
 -- ---- one thing is due
 
@@ -66,17 +54,11 @@ mean_once : mean_law.HasOneEnd → (dir : Dir) (name : List ℕ) (m : Mdp) → I
 mean_once one_end dir name m model None is said again d e = d ∙ sym e
 mean_once one_end dir name m model (Some r) is said again d e = d.2 ∙ ap (said_of_mean_end dir name m) (one_end dir m r e.0 d.0 (has_reward name m r model is) e.1 d.1) ∙ sym e.2
 
-query_once : mean_law.HasOneEnd → (dir : Dir) (query : PlainQuery) (m : Mdp) → IsModel m → (said again : Said) → IsQueryDue dir query m said → IsQueryDue dir query m again → said ≡ again
-query_once one_end dir (reach label) m model said again d e = reach_once dir None label m (place_on_way m None label) said again d e
-query_once one_end dir (until stay label) m model said again d e = reach_once dir (Some stay) label m (place_on_way m (Some stay) label) said again d e
-query_once one_end dir (reward name label) m model said again d e = reward_once dir name label m (place_of name m.names) (place_of label m.labels) said again d e
-query_once one_end dir (mean name) m model said again d e = mean_once one_end dir name m model (place_of name m.names) refl said again d e
-
--- where what is read is a model
-pub solve_once : mean_law.HasOneEnd → (dir : Dir) (query : PlainQuery) (read : Result Mdp PlainRefusal) → IfOk read IsModel → (said again : Said) → IsSolveDue dir query read said
-    → IsSolveDue dir query read again → said ≡ again
-solve_once one_end dir query (Ok m) model said again d e = query_once one_end dir query m model said again d e
-solve_once one_end dir query (Err r) model said again d e = d ∙ sym e
+pub query_once : mean_law.HasOneEnd → IsDueOnce
+query_once one_end dir (reach label) m said again model d e = reach_once dir None label m (place_on_way m None label) said again d e
+query_once one_end dir (until stay label) m said again model d e = reach_once dir (Some stay) label m (place_on_way m (Some stay) label) said again d e
+query_once one_end dir (reward name label) m said again model d e = reward_once dir name label m (place_of name m.names) (place_of label m.labels) said again d e
+query_once one_end dir (mean name) m said again model d e = mean_once one_end dir name m model (place_of name m.names) refl said again d e
 
 -- ---- a text that is due is an answer
 
@@ -111,14 +93,11 @@ module _ (rules : AnswersMeetRules) (greatest : AnswersAreGreatest) (least : Ans
     answer_at None found d = cc d
     answer_at (Some l) found d = answer_of_end l found d.0 d.1 d.2
 
-  pub text_is_answer : (dir : Dir) (text : List ℕ) (read : Result Mdp PlainRefusal) → read ≡ Ok m → IsSolveDue dir (reach label) read (Ok text) → IsAnswerTo dir None label m text
-  text_is_answer dir text read is d =
-      answer_at dir None text (place_on_way m None label) refl (subst (λ (r : Result Mdp PlainRefusal). IsSolveDue dir (reach label) r (Ok text)) is d)
+pub text_is_answer : AnswersMeetRules → AnswersAreGreatest → AnswersAreLeast → TextIsAnswer
+text_is_answer rules greatest least dir label m text mdp d = answer_at rules greatest least label m mdp dir None text (place_on_way m None label) refl d
 
-  pub until_text_is_answer : (dir : Dir) (stay text : List ℕ) (read : Result Mdp PlainRefusal) → read ≡ Ok m → IsSolveDue dir (until stay label) read (Ok text)
-      → IsAnswerTo dir (Some stay) label m text
-  until_text_is_answer dir stay text read is d =
-      answer_at dir (Some stay) text (place_on_way m (Some stay) label) refl (subst (λ (r : Result Mdp PlainRefusal). IsSolveDue dir (until stay label) r (Ok text)) is d)
+pub until_text_is_answer : AnswersMeetRules → AnswersAreGreatest → AnswersAreLeast → UntilTextIsAnswer
+until_text_is_answer rules greatest least dir stay label m text mdp d = answer_at rules greatest least label m mdp dir (Some stay) text (place_on_way m (Some stay) label) refl d
 
 -- ---- and so of rewards
 
@@ -156,9 +135,9 @@ module _ (rules : reward_law.AnswersMeetRules) (greatest : reward_law.AnswersAre
   reward_at dir text (Some r) None named_is found_is d = cc d
   reward_at dir text (Some r) (Some l) named_is found_is d = reward_by dir text r l named_is found_is (has_negative m r) refl d
 
-  pub reward_text_is_answer : (dir : Dir) (text : List ℕ) (read : Result Mdp PlainRefusal) → read ≡ Ok m → IsSolveDue dir (reward name label) read (Ok text) → IsRewardAnswerTo dir name label m text
-  reward_text_is_answer dir text read is d =
-      reward_at dir text (place_of name m.names) (place_of label m.labels) refl refl (subst (λ (r : Result Mdp PlainRefusal). IsSolveDue dir (reward name label) r (Ok text)) is d)
+pub reward_text_is_answer : reward_law.AnswersMeetRules → reward_law.AnswersAreGreatest → reward_law.AnswersAreLeast → RewardTextIsAnswer
+reward_text_is_answer rules greatest least dir name label m text mdp d =
+    reward_at rules greatest least name label m mdp dir text (place_of name m.names) (place_of label m.labels) refl refl d
 
 -- ---- and of mean payoffs
 
@@ -183,24 +162,29 @@ module _ (rules : mean_law.AnswersMeetRules) (greatest : mean_law.AnswersAreGrea
   mean_at dir text None is d = cc d
   mean_at dir text (Some r) is d = mean_of_end dir text r is d.0 d.1 d.2
 
-  pub mean_text_is_answer : (dir : Dir) (text : List ℕ) (read : Result Mdp PlainRefusal) → read ≡ Ok m → IsSolveDue dir (mean name) read (Ok text) → IsMeanAnswerTo dir name m text
-  mean_text_is_answer dir text read is d =
-      mean_at dir text (place_of name m.names) refl (subst (λ (r : Result Mdp PlainRefusal). IsSolveDue dir (mean name) r (Ok text)) is d)
+pub mean_text_is_answer : mean_law.AnswersMeetRules → mean_law.AnswersAreGreatest → mean_law.AnswersAreLeast → MeanTextIsAnswer
+mean_text_is_answer rules greatest least dir name m text model d = mean_at rules greatest least name m model dir text (place_of name m.names) refl d
 
--- ---- what is shown of a text
+-- ---- a text that is printed is accepted
 
-pub printed_solved : (rule : RowRule) (claimed : PlainClaim) (m : Mdp) (bytes text : List ℕ) → model_due rule bytes ≡ Ok m → IsClaimPrinted claimed m text → IsClaimSolved rule claimed bytes text
-printed_solved rule claimed m bytes text is printed =
+claim_is_accepted : (rule : RowRule) (claimed : PlainClaim) (model text : List ℕ) → IsShownOf (IsClaimPrinted claimed) rule model text → IsTrueClaim rule model text
+claim_is_accepted rule claimed model text shown =
+    let printed = shown.printed in
     record {
-      true_claim = true_claim_of exact rule m bytes text printed.cert is printed.short printed.reads printed.holds printed.bound;
-      claim = printed.claim;
-      spelled = printed.spelled;
+      accepted = record {
+        short_model = shown.short;
+        short_cert = printed.short;
+        model = shown.model;
+        reads = shown.reads;
+        cert = printed.cert;
+        text = printed.reads;
+        holds = printed.holds;
+      };
+      bound = printed.bound;
     }
 
-pub shown : (rule : RowRule) (dir : Dir) (query : PlainQuery) (m : Mdp) (said : Said) → IfOk said (IsPrinted dir query m) → (bytes : List ℕ) → model_due rule bytes ≡ Ok m
-    → IfOk said (IsSolved rule dir query bytes)
-shown rule dir (reach label) m (Ok text) printed bytes is = printed_solved rule (certificate.reach dir label) m bytes text is printed
-shown rule dir (until stay label) m (Ok text) printed bytes is = printed_solved rule (certificate.until dir stay label) m bytes text is printed
-shown rule dir (reward name label) m (Ok text) printed bytes is = printed_solved rule (certificate.reward dir name label) m bytes text is printed
-shown rule dir (mean name) m (Ok text) printed bytes is = printed_solved rule (certificate.mean dir name) m bytes text is printed
-shown rule dir query m (Err r) printed bytes is = tt
+pub text_is_accepted : TextIsAccepted
+text_is_accepted rule dir (reach label) model text shown = claim_is_accepted rule (certificate.reach dir label) model text shown
+text_is_accepted rule dir (until stay label) model text shown = claim_is_accepted rule (certificate.until dir stay label) model text shown
+text_is_accepted rule dir (reward name label) model text shown = claim_is_accepted rule (certificate.reward dir name label) model text shown
+text_is_accepted rule dir (mean name) model text shown = claim_is_accepted rule (certificate.mean dir name) model text shown

@@ -7,12 +7,11 @@ use Rattle.mdp_rows.specs.{declared.dir.Dir.{Dir}, declared.dir.Dir.TheVariants.
 use Rattle.mdp_cert.specs.Spelling.{text_of}
 use Rattle.mdp_check.specs.Check.{way_by}
 use Rattle.mdp_job.specs.Refusal as job
-use Rattle.mdp_job.specs.Refusal.{PlainRefusal}
 use Rattle.mdp_command.specs.Said.{Said}
 use Rattle.mdp_witness.specs.Query.{PlainSubsystem, Refusal, below, too_wide, EndsSo}
 use Rattle.mdp_witness.specs.Laws as query
 use Rattle.mdp_witness.specs.Shown as shown
-use Rattle.mdp_command_solve.specs.{Ways.{place_on_way, goals_by}, Laws.{IsBest}, WitnessCertificate.{certificate_of}, WitnessDue.{said_of_end, IsDueAt, IsStepDue}, WitnessLaws.{IsBelow}}
+use Rattle.mdp_command_solve.specs.{Ways.{place_on_way, goals_by}, Laws.{IsBest}, WitnessCertificate.{certificate_of}, WitnessDue.{said_of_end, IsDueAt, IsWitnessDue}, WitnessLaws.{IsDueOnce, IsBelow}}
 use Rattle.mdp_command_solve.specs.WitnessShown.{IsWitnessOf}
 use Rattle.mdp_text.proofs.InitialState.{initial_below}
 use Rattle.mdp_command_solve.proofs.{OnWay.{marks_each, way_states, way_is_mdp}, Solved.{best_on_way}, WitnessPrinting.{is_witness, witness_of}}
@@ -30,10 +29,6 @@ module _ (dir : Dir) (stay : Option (List ℕ)) (label : List ℕ) (threshold : 
   once_at one m (Some l) None said again a b = a ∙ sym b
   once_at one m (Some l) (Some start) said again a b =
       a.2 ∙ ap (said_of_end dir stay label threshold start m) (sym (one dir (way_by m (marks_of m l) stay) (marks_of m l) start threshold a.0 b.0 a.1 b.1)) ∙ sym b.2
-
-  pub due_once : query.HasOneEnd → (r : Result Mdp PlainRefusal) (said again : Said) → IsStepDue dir stay label threshold r said → IsStepDue dir stay label threshold r again → said ≡ again
-  due_once one (Ok m) said again a b = once_at one m (place_on_way m stay label) (initial_of m) said again a b
-  due_once one (Err refusal) said again a b = a ∙ sym b
 
   -- ---- a text, or a value
 
@@ -71,9 +66,8 @@ module _ (dir : Dir) (stay : Option (List ℕ)) (label : List ℕ) (threshold : 
           (needed_max dir way goals start threshold found.0 known each inside end) (needed_min dir way goals start threshold found.0 known each inside end)
           (wide_max dir way goals start threshold found.0 known each inside end) (wide_min dir way goals start threshold found.0 known each inside end)) text found.2
 
-      pub text_is_witness : (r : Result Mdp PlainRefusal) → r ≡ Ok m → IsStepDue dir stay label threshold r (Ok text) → IsWitnessOf dir stay label threshold m text
-      text_is_witness r e due =
-          text_at (place_on_way m stay label) (initial_of m) refl refl (subst (λ (x : Result Mdp PlainRefusal). IsStepDue dir stay label threshold x (Ok text)) e due)
+      pub text_is_witness : IsWitnessDue dir stay label threshold m (Ok text) → IsWitnessOf dir stay label threshold m text
+      text_is_witness due = text_at (place_on_way m stay label) (initial_of m) refl refl due
 
     module _ (best : query.BelowIsBest) (v : ℚ) where
       below_at : (l start : Option ℕ) → place_on_way m stay label ≡ l → initial_of m ≡ start → IsDueAt dir stay label threshold m l start (Err (job.below v)) → IsBelow dir stay label threshold m v
@@ -95,6 +89,8 @@ module _ (dir : Dir) (stay : Option (List ℕ)) (label : List ℕ) (threshold : 
             less = b.less;
           }
 
-      pub below_is_best : (r : Result Mdp PlainRefusal) → r ≡ Ok m → IsStepDue dir stay label threshold r (Err (job.below v)) → IsBelow dir stay label threshold m v
-      below_is_best r e due =
-          below_at (place_on_way m stay label) (initial_of m) refl refl (subst (λ (x : Result Mdp PlainRefusal). IsStepDue dir stay label threshold x (Err (job.below v))) e due)
+      pub below_is_best : IsWitnessDue dir stay label threshold m (Err (job.below v)) → IsBelow dir stay label threshold m v
+      below_is_best due = below_at (place_on_way m stay label) (initial_of m) refl refl due
+
+pub due_once : query.HasOneEnd → IsDueOnce
+due_once one dir stay label threshold m said again a b = once_at dir stay label threshold one m (place_on_way m stay label) (initial_of m) said again a b

@@ -14,7 +14,7 @@ use Rattle.mdp_cert.specs.Spelling.{text_in, text_of, listed_lines}
 use Rattle.mdp_job.specs.Refusal as job
 use Rattle.mdp_job.specs.Refusal.{query_label, query_init}
 use Rattle.mdp_witness.specs.Query.{PlainSubsystem, flow, floor, below, too_wide}
-use Rattle.mdp_command_solve.specs.{WitnessCertificate.{dir_of, certificate_of}, WitnessDue.{said_of_end, IsWitnessDue, IsStepDue}}
+use Rattle.mdp_command_solve.specs.{WitnessCertificate.{dir_of, certificate_of}, WitnessDue.{said_of_end, IsWitnessDue}}
 
 abbrev to : ℕ → Choice
 to t = record { row = record { target = t; prob = of_int (pos 1) } ∷ []; rewards = [] }
@@ -105,7 +105,3 @@ two-starts = refl
 
 no-start : IsWitnessDue Max None (codes "goal") half no_start (Err query_init)
 no-start = refl
-
--- a model that was refused comes first
-refused-model : IsStepDue Max None (codes "none") half (Err job.long_model) (Err job.long_model)
-refused-model = refl

@@ -3,7 +3,7 @@ use Rattle.std.proofs.Common.{◌≡◌, ℕ, ◌<◌, ◌≤◌, ◌⊎◌, inl
 use Rattle.std.specs.List.{All}
 use Rattle.mdp_math.specs.Rational.{ℚ}
 use Rattle.mdp_spec.specs.{Bounds.{SubMax, SubMin}, Labels.{initial_of}, Mdp.{Mdp}, Row.{IsMdp}}
-use Rattle.mdp_rows.specs.{declared.dir.Dir.{Dir}, declared.dir.Dir.TheVariants.{Max, Min}, declared.rule.RowRule.{RowRule}}
+use Rattle.mdp_rows.specs.{declared.dir.Dir.{Dir}, declared.dir.Dir.TheVariants.{Max, Min}}
 use Rattle.mdp_cert.specs.{Cert.{Certificate, Fits}, Laws.{IsReadBack}, Reading.{outcome}, Spelling.{text_of}}
 use Rattle.mdp_claims.specs.declared.subsystem.Flow.{Flow}
 use Rattle.mdp_subsystem_rules.specs.Kept.{kept_marks}
@@ -11,12 +11,11 @@ use Rattle.mdp_subsystem_rules.proofs.Untils.{sub_until_max, sub_until_min}
 use Rattle.mdp_check.specs.Check.{stay_marks, way_by, IsAccepted}
 use Rattle.mdp_check.proofs.Accepting.{accepted_is_bound}
 use Rattle.mdp_job.specs.Refusal.{no_memory}
-use Rattle.mdp_command.specs.{Files.{most_bytes, model_due}, Said.{Said}, Accepted.{exact}}
-use Rattle.mdp_command.proofs.TrueClaims.{true_claim_of}
+use Rattle.mdp_command.specs.{Files.{most_bytes}, Said.{Said}}
 use Rattle.mdp_witness.specs.Query.{PlainSubsystem, flow, floor, EndsSo}
 use Rattle.mdp_witness.specs.Shown.{kept_of, kept_in, HasShape, Holds, PolicyReaches, IsNeededMax, IsNeededMin, AreNeeded, MarksAreExactMax, MarksAreExactMin}
 use Rattle.mdp_command_solve.specs.{Ways.{goals_by}, WitnessCertificate.{dir_of, certificate_of}, WitnessDue.{IsEndDue}}
-use Rattle.mdp_command_solve.specs.WitnessShown.{Reaches, IsWitness, IsWitnessOf, IsWitnessPrinted, IsWitnessShown}
+use Rattle.mdp_command_solve.specs.{WitnessShown.{Reaches, IsWitness, IsWitnessOf, IsWitnessPrinted}, WitnessLaws.{TextIsAccepted}}
 use Rattle.mdp_text.proofs.InitialState.{initial_below}
 use Rattle.mdp_command_solve.proofs.{OnWay.{placed, way_states}, WitnessAccepting.{witness_accepted}, WitnessFew.{HasFewFlows, few_flows}, WitnessLength.{witness_text_short}}
 
@@ -158,14 +157,20 @@ pub text_due : (dir : Dir) (stay : Option (List ℕ)) (label : List ℕ) (thresh
 text_due dir stay label threshold m goals start found c said end is (inl memory) = inl memory
 text_due dir stay label threshold m goals start found c said end is (inr e) = inr (Ok found, end, e ∙ ap (λ (x : Certificate). let r : Said = Ok (text_of x) in r) is)
 
--- ---- what is shown of the model's bytes
+-- ---- a text that is printed is accepted
 
-pub shown : (rule : RowRule) (dir : Dir) (stay : Option (List ℕ)) (label : List ℕ) (threshold : ℚ) (m : Mdp) (said : Said) → IfOk said (IsWitnessPrinted dir stay label threshold m) → (bytes : List ℕ)
-    → model_due rule bytes ≡ Ok m → IfOk said (IsWitnessShown rule dir stay label threshold bytes)
-shown rule dir stay label threshold m (Ok text) printed bytes is =
+pub text_is_accepted : TextIsAccepted
+text_is_accepted rule dir stay label threshold model text shown =
+    let printed = shown.printed in
     record {
-      true_claim = true_claim_of exact rule m bytes text (certificate_of dir stay label threshold printed.spells.start m printed.spells.found) is printed.short printed.reads printed.holds printed.bound;
-      spells = printed.spells;
-      cert = refl;
+      accepted = record {
+        short_model = shown.short;
+        short_cert = printed.short;
+        model = shown.model;
+        reads = shown.reads;
+        cert = certificate_of dir stay label threshold printed.spells.start shown.model printed.spells.found;
+        text = printed.reads;
+        holds = printed.holds;
+      };
+      bound = printed.bound;
     }
-shown rule dir stay label threshold m (Err r) printed bytes is = tt

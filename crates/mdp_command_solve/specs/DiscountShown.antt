@@ -2,12 +2,11 @@
 use Rattle.std.specs.Prelude.{◌≡◌, ℕ, ◌≤◌, List, length, Some, Ok}
 use Rattle.mdp_math.specs.Rational.{ℚ}
 use Rattle.mdp_spec.specs.{Labels.{place_of}, Mdp.{Mdp}}
-use Rattle.mdp_rows.specs.{declared.dir.Dir.{Dir}, declared.rule.RowRule.{RowRule}}
+use Rattle.mdp_rows.specs.declared.dir.Dir.{Dir}
 use Rattle.mdp_discount.specs.Query.{EndsSo}
 use Rattle.mdp_discount_rules.specs.{Cert.{Certificate}, Check.{IsAccepted, IsBound}}
 use Rattle.mdp_discount_text.specs.{Spelling.{text_of}, Text.{outcome}}
-use Rattle.mdp_command.specs.{Accepted.{IsTrueClaimBy}, Files.{most_bytes}, Read.{IsWorkOnModel}, Said.{Said}, Streams.{Input}, Kinds.{discounted}}
-use Rattle.mdp_command_solve.specs.DiscountDue.{IsDiscountDue}
+use Rattle.mdp_command.specs.Files.{most_bytes}
 
 -- the claim is that of this direction, this name and this factor
 pub record ClaimsSo (dir : Dir) (name : List ℕ) (f : ℚ) (c : Certificate) : Type 0 where
@@ -21,7 +20,8 @@ pub record IsComputed (dir : Dir) (name : List ℕ) (f : ℚ) (m : Mdp) (c : Cer
   pub named : place_of name m.names ≡ Some place
   pub ends : EndsSo dir m place name f (Ok c)
 
--- the text of the computed certificate, of this claim for the model, which reads as it; all rules hold, and the claim is true
+-- the text of the computed certificate, of this claim for the model, which reads as it; all rules hold, and the claim is true: the values are the best
+-- ones, and the policy comes close to them
 pub record IsDiscountPrinted (dir : Dir) (name : List ℕ) (f : ℚ) (m : Mdp) (text : List ℕ) : Type 0 where
   pub cert : Certificate
   pub computed : IsComputed dir name f m cert
@@ -31,15 +31,3 @@ pub record IsDiscountPrinted (dir : Dir) (name : List ℕ) (f : ℚ) (m : Mdp) (
   pub reads : outcome text ≡ Ok cert
   pub holds : IsAccepted m cert
   pub bound : IsBound m cert
-
--- `discount-check` accepts the text of the computed certificate with the model's bytes, and its claim, which is this one, is true: the values are the
--- best ones, and the policy comes close to them
-pub record IsDiscountSolved (rule : RowRule) (dir : Dir) (name : List ℕ) (f : ℚ) (model_bytes text : List ℕ) : Type 0 where
-  pub true_claim : IsTrueClaimBy discounted rule model_bytes text
-  pub computed : IsComputed dir name f true_claim.accepted.model true_claim.accepted.cert
-  pub claim : ClaimsSo dir name f true_claim.accepted.cert
-  pub spelled : text ≡ text_of true_claim.accepted.cert
-
--- discounted rewards of the model of a source: what is due to the bytes that it had, and what is shown of a text; or a fault, or want of memory
-abbrev pub IsDiscountRead : RowRule → Dir → List ℕ → ℚ → Input → Said → Type 0
-IsDiscountRead rule dir name f = IsWorkOnModel rule (IsDiscountDue dir name f) (IsDiscountSolved rule dir name f)

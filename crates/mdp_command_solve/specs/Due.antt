@@ -12,8 +12,8 @@ use Rattle.mdp_cert.specs.Cert as certificate
 use Rattle.mdp_cert.specs.{Cert.{PlainClaim, PlainBody, Certificate}, Spelling.{text_of}}
 use Rattle.mdp_check.specs.Check.{way_by}
 use Rattle.mdp_text.specs.Heads.{init_by}
-use Rattle.mdp_job.specs.{Job.{PlainQuery, reach, until, reward, mean}, Refusal.{PlainRefusal, query_reward, query_label, query_negative, too_wide}}
-use Rattle.mdp_command.specs.{Files.{IsDueToModel}, Said.{Said}}
+use Rattle.mdp_job.specs.{Job.{PlainQuery, reach, until, reward, mean}, Refusal.{query_reward, query_label, query_negative, too_wide}}
+use Rattle.mdp_command.specs.Said.{Said}
 use Rattle.mdp_command_solve.specs.Ways.{place_on_way}
 
 -- ---- the certificate of an answer
@@ -85,7 +85,3 @@ IsQueryDue dir (reach label) m said = IsReachDue dir None label m (place_on_way 
 IsQueryDue dir (until stay label) m said = IsReachDue dir (Some stay) label m (place_on_way m (Some stay) label) said
 IsQueryDue dir (reward name label) m said = IsRewardDue dir name label m (place_of name m.names) (place_of label m.labels) said
 IsQueryDue dir (mean name) m said = IsMeanDue dir name m (place_of name m.names) said
-
--- the model is judged first, then the query
-abbrev pub IsSolveDue : Dir → PlainQuery → Result Mdp PlainRefusal → Said → Type 0
-IsSolveDue dir query = IsDueToModel (IsQueryDue dir query)

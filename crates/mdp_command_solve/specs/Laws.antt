@@ -1,8 +1,8 @@
 -- Laws of what is due to a query, over the definitions alone.
 use Rattle.std.specs.Prelude.{◌≡◌, ℕ, Bool, false, List, Option, Some, None, Ok}
 use Rattle.mdp_math.specs.Rational.{ℚ}
-use Rattle.mdp_spec.specs.{Labels.{place_of, marks_of}, Mdp.{Mdp}, Bounds.{ReachMax, ReachMin, RewardMax, RewardMin, MeanMax, MeanMin}, Until.{UntilMax, UntilMin}}
-use Rattle.mdp_rows.specs.{Negative.{has_negative}, declared.dir.Dir.{Dir}, declared.dir.Dir.TheVariants.{Max, Min}, declared.rule.RowRule.{RowRule}}
+use Rattle.mdp_spec.specs.{Labels.{place_of, marks_of}, Mdp.{Mdp}, Row.{IsMdp}, Bounds.{ReachMax, ReachMin, RewardMax, RewardMin, MeanMax, MeanMin}, Until.{UntilMax, UntilMin}}
+use Rattle.mdp_rows.specs.{Limits.{IsModel}, Negative.{has_negative}, declared.dir.Dir.{Dir}, declared.dir.Dir.TheVariants.{Max, Min}, declared.rule.RowRule.{RowRule}}
 use Rattle.mdp_farkas.specs.{Reach.{IsReach}, Reward.{IsReward}, Mean.{IsMean}}
 use Rattle.mdp_reach.specs.Query.{Answer}
 use Rattle.mdp_reward.specs.Query as rewarded
@@ -10,14 +10,16 @@ use Rattle.mdp_mean.specs.Query as averaged
 use Rattle.mdp_cert.specs.Spelling.{text_of}
 use Rattle.mdp_check.specs.Check.{stay_marks, way_by}
 use Rattle.mdp_job.specs.Job.{PlainQuery, reach, until, reward, mean}
-use Rattle.mdp_command.specs.{Files.{model_due}, Said.{Said}}
-use Rattle.mdp_command_solve.specs.{Ways.{place_on_way}, Due.{certificate_of, reward_certificate_of, mean_certificate_of, IsSolveDue}}
+use Rattle.mdp_command.specs.{Accepted.{IsTrueClaim}, Said.{Said}, Shown.{IsShownOf}}
+use Rattle.mdp_command_solve.specs.{Ways.{place_on_way}, Due.{certificate_of, reward_certificate_of, mean_certificate_of, IsQueryDue}, Solved.{IsPrinted}}
 
--- what is due to a query and to the model's bytes is one thing
+-- what is due to a query and to the model is one thing
 abbrev pub IsDueOnce : Type 0
-IsDueOnce =
-    (rule : RowRule) (dir : Dir) (query : PlainQuery) (model : List ℕ) (said again : Said) → IsSolveDue dir query (model_due rule model) said
-    → IsSolveDue dir query (model_due rule model) again → said ≡ again
+IsDueOnce = (dir : Dir) (query : PlainQuery) (m : Mdp) (said again : Said) → IsModel m → IsQueryDue dir query m said → IsQueryDue dir query m again → said ≡ again
+
+-- where what `solve` prints is shown of a text and of the model's bytes, `check` accepts the text with them, and its claim is true
+abbrev pub TextIsAccepted : Type 0
+TextIsAccepted = (rule : RowRule) (dir : Dir) (query : PlainQuery) (model text : List ℕ) → IsShownOf (IsPrinted dir query) rule model text → IsTrueClaim rule model text
 
 -- ---- reaching a label
 
@@ -39,14 +41,10 @@ pub record IsAnswerTo (dir : Dir) (stay : Option (List ℕ)) (label : List ℕ) 
 
 -- where a text is due to a query, it is such a text
 abbrev pub TextIsAnswer : Type 0
-TextIsAnswer =
-    (rule : RowRule) (dir : Dir) (label model text : List ℕ) (m : Mdp) → model_due rule model ≡ Ok m → IsSolveDue dir (reach label) (model_due rule model) (Ok text)
-    → IsAnswerTo dir None label m text
+TextIsAnswer = (dir : Dir) (label : List ℕ) (m : Mdp) (text : List ℕ) → IsMdp m → IsQueryDue dir (reach label) m (Ok text) → IsAnswerTo dir None label m text
 
 abbrev pub UntilTextIsAnswer : Type 0
-UntilTextIsAnswer =
-    (rule : RowRule) (dir : Dir) (stay label model text : List ℕ) (m : Mdp) → model_due rule model ≡ Ok m → IsSolveDue dir (until stay label) (model_due rule model) (Ok text)
-    → IsAnswerTo dir (Some stay) label m text
+UntilTextIsAnswer = (dir : Dir) (stay label : List ℕ) (m : Mdp) (text : List ℕ) → IsMdp m → IsQueryDue dir (until stay label) m (Ok text) → IsAnswerTo dir (Some stay) label m text
 
 -- ---- the reward of a name until a label
 
@@ -67,9 +65,7 @@ pub record IsRewardAnswerTo (dir : Dir) (name label : List ℕ) (m : Mdp) (text 
   pub best : IsBestReward dir m named (marks_of m place) answer
 
 abbrev pub RewardTextIsAnswer : Type 0
-RewardTextIsAnswer =
-    (rule : RowRule) (dir : Dir) (name label model text : List ℕ) (m : Mdp) → model_due rule model ≡ Ok m → IsSolveDue dir (reward name label) (model_due rule model) (Ok text)
-    → IsRewardAnswerTo dir name label m text
+RewardTextIsAnswer = (dir : Dir) (name label : List ℕ) (m : Mdp) (text : List ℕ) → IsMdp m → IsQueryDue dir (reward name label) m (Ok text) → IsRewardAnswerTo dir name label m text
 
 -- ---- the mean payoff of a name
 
@@ -87,5 +83,4 @@ pub record IsMeanAnswerTo (dir : Dir) (name : List ℕ) (m : Mdp) (text : List �
   pub best : IsBestMean dir m named answer
 
 abbrev pub MeanTextIsAnswer : Type 0
-MeanTextIsAnswer =
-    (rule : RowRule) (dir : Dir) (name model text : List ℕ) (m : Mdp) → model_due rule model ≡ Ok m → IsSolveDue dir (mean name) (model_due rule model) (Ok text) → IsMeanAnswerTo dir name m text
+MeanTextIsAnswer = (dir : Dir) (name : List ℕ) (m : Mdp) (text : List ℕ) → IsModel m → IsQueryDue dir (mean name) m (Ok text) → IsMeanAnswerTo dir name m text

@@ -7,8 +7,8 @@ use Rattle.mdp_policy_iteration.specs.Ends.{capped}
 use Rattle.mdp_cert.specs.Spelling.{text_of}
 use Rattle.mdp_check.specs.Check.{way_by}
 use Rattle.mdp_job.specs.Refusal as job
-use Rattle.mdp_job.specs.Refusal.{PlainRefusal, query_label, query_init}
-use Rattle.mdp_command.specs.{Files.{IsDueToModel}, Said.{Said}}
+use Rattle.mdp_job.specs.Refusal.{query_label, query_init}
+use Rattle.mdp_command.specs.Said.{Said}
 use Rattle.mdp_witness.specs.Query.{PlainSubsystem, Refusal, below, too_wide, EndsSo}
 use Rattle.mdp_command_solve.specs.{Ways.{place_on_way}, WitnessCertificate.{certificate_of}}
 
@@ -33,7 +33,3 @@ IsDueAt dir stay label threshold m (Some l) (Some start) said = IsEndDue dir sta
 
 abbrev pub IsWitnessDue : Dir → Option (List ℕ) → List ℕ → ℚ → Mdp → Said → Type 0
 IsWitnessDue dir stay label threshold m said = IsDueAt dir stay label threshold m (place_on_way m stay label) (initial_of m) said
-
--- the model is judged first
-abbrev pub IsStepDue : Dir → Option (List ℕ) → List ℕ → ℚ → Result Mdp PlainRefusal → Said → Type 0
-IsStepDue dir stay label threshold = IsDueToModel (IsWitnessDue dir stay label threshold)

@@ -2,14 +2,14 @@
 use Rattle.std.specs.Prelude.{◌≡◌, ◌≤◌, ℕ, Bool, List, length, Option, Some, None, Ok}
 use Rattle.mdp_math.specs.Rational.{ℚ}
 use Rattle.mdp_spec.specs.{Bounds.{SubMax, SubMin}, Labels.{marks_of, initial_of}, Mdp.{Mdp}}
-use Rattle.mdp_rows.specs.{declared.dir.Dir.{Dir}, declared.dir.Dir.TheVariants.{Max, Min}, declared.rule.RowRule.{RowRule}}
+use Rattle.mdp_rows.specs.{declared.dir.Dir.{Dir}, declared.dir.Dir.TheVariants.{Max, Min}}
 use Rattle.mdp_cert.specs.{Reading.{outcome}, Spelling.{text_of}}
 use Rattle.mdp_subsystem_rules.specs.Until.{SubUntilMax, SubUntilMin}
 use Rattle.mdp_check.specs.Check.{stay_marks, way_by, IsAccepted, IsBound}
-use Rattle.mdp_command.specs.{Accepted.{IsTrueClaim}, Files.{most_bytes}, Read.{IsWorkOnModel}, Said.{Said}, Streams.{Input}}
+use Rattle.mdp_command.specs.Files.{most_bytes}
 use Rattle.mdp_witness.specs.Query.{PlainSubsystem, EndsSo}
 use Rattle.mdp_witness.specs.Shown.{kept_in, Holds, PolicyReaches, IsNeededMax, IsNeededMin, AreNeeded, MarksAreExactMax, MarksAreExactMin}
-use Rattle.mdp_command_solve.specs.{Ways.{place_on_way}, WitnessCertificate.{certificate_of}, WitnessDue.{IsWitnessDue}}
+use Rattle.mdp_command_solve.specs.{Ways.{place_on_way}, WitnessCertificate.{certificate_of}}
 
 -- on the kept states some policy, or each, reaches a goal with the threshold at least, by way of states with the label `stay` alone where there is one
 abbrev pub Reaches : Dir → Option (List ℕ) → Mdp → List Bool → List Bool → ℕ → ℚ → Type 0
@@ -60,13 +60,3 @@ pub record IsWitnessPrinted (dir : Dir) (stay : Option (List ℕ)) (label : List
   pub reads : outcome text ≡ Ok (certificate_of dir stay label threshold spells.start m spells.found)
   pub holds : IsAccepted m (certificate_of dir stay label threshold spells.start m spells.found)
   pub bound : IsBound m (certificate_of dir stay label threshold spells.start m spells.found)
-
--- `check` accepts the text with the model's bytes, its claim is true, and it is the certificate of such a subsystem of the model that the bytes read as
-pub record IsWitnessShown (rule : RowRule) (dir : Dir) (stay : Option (List ℕ)) (label : List ℕ) (threshold : ℚ) (model_bytes text : List ℕ) : Type 0 where
-  pub true_claim : IsTrueClaim rule model_bytes text
-  pub spells : IsWitnessOf dir stay label threshold true_claim.accepted.model text
-  pub cert : true_claim.accepted.cert ≡ certificate_of dir stay label threshold spells.start true_claim.accepted.model spells.found
-
--- a witness in the model of a source: what is due to the bytes that it had, and what is shown of a text; or a fault, or want of memory
-abbrev pub IsWitnessRead : RowRule → Dir → Option (List ℕ) → List ℕ → ℚ → Input → Said → Type 0
-IsWitnessRead rule dir stay label threshold = IsWorkOnModel rule (IsWitnessDue dir stay label threshold) (IsWitnessShown rule dir stay label threshold)

@@ -1,17 +1,15 @@
 ghost use Rattle.std.specs.Prelude.{◌≡◌, ◌⊎◌, ◌<◌, Err, IfOk};
-ghost use Rattle.mdp_command.specs.Prelude.{IsModelReadToEnd, no_memory, said, input};
+ghost use Rattle.mdp_command.specs.Prelude.{no_memory, said};
 ghost use Rattle.mdp_discount_rules.specs.{Cert.{IsInitNarrow, Fits}, Plain.{plain}, Rules.{IsFactor}};
 ghost use Rattle.mdp_discount_text.specs.Spelling.{text_of};
-ghost use Rattle.mdp_command_solve.specs.{DiscountDue.{IsDiscountDue}, DiscountShown.{IsDiscountPrinted, IsDiscountRead}};
+ghost use Rattle.mdp_command_solve.specs.{DiscountDue.{IsDiscountDue}, DiscountShown.{IsDiscountPrinted}};
 
-use mdp_command::read_model;
 use mdp_discount::{discount_law, solve_discount};
 use mdp_discount_rules::{DiscountCert, Init};
 use mdp_discount_text::{discount_text_law, write_discount};
-use mdp_edge::Source;
 use mdp_job::Refusal;
 use mdp_num::Frac;
-use mdp_rows::{Dir, Model, RowRule};
+use mdp_rows::{Dir, Model};
 use mdp_text::{all_narrow, all_short};
 use mdp_wide::SolveError;
 use std::alloc::Global;
@@ -47,8 +45,9 @@ fn certificate_text(alloc: Global, cert: &DiscountCert) -> Result<Vec<u8>, Refus
     }
 }
 
-/// The text of the certificate of the best discounted rewards, or its refusal: the name is looked up first.
-fn solve_named(
+/// The text of the certificate of the greatest or the least rewards of this name, where a step later counts `factor` times as much, or its refusal: the
+/// name is looked up first. The factor is at least 0 and below 1.
+pub fn discount_query(
     alloc: Global,
     model: &Model,
     dir: Dir,
@@ -72,24 +71,4 @@ fn solve_named(
     };
     fits(&cert);
     certificate_text(alloc, &cert)
-}
-
-/// Reads the model to its end and judges its text, then solves for the greatest or the least rewards of this name, where a step later counts `factor`
-/// times as much. The factor is at least 0 and below 1.
-pub fn discount_file<S: Source>(
-    alloc: Global,
-    rule: RowRule,
-    dir: Dir,
-    name: &[u8],
-    factor: Frac,
-    model: &mut S,
-) -> Result<Vec<u8>, Refusal>
-    requires { IsFactor factor }
-    ensures read { IsDiscountRead rule dir name.now factor (input S.left S.faults model.old model.new) (said result) }
-    ensures end { IsModelReadToEnd (input S.left S.faults model.old model.new) (said result) }
-{
-    match read_model(alloc, model, rule) {
-        Ok(model) => solve_named(alloc, &model, dir, name, factor),
-        Err(refusal) => Err(refusal),
-    }
 }

@@ -1,6 +1,6 @@
 //! The commands that search and certify what they find: `solve`, the best values of a model, with a policy and a certificate; `discount`, the same
 //! of discounted rewards; `witness`, a subsystem on which the best probability of reaching a label is still at least a threshold; and `drill`: a
-//! generated model, read and solved, and a line of its numbers.
+//! generated model, read and solved, and a line of its numbers. Each but `drill` is asked of a model that was read.
 //!
 //! A query of `solve` is a case of `solve_query`: what it asks for is looked up in the model, its solver answers, and the answer's certificate is
 //! written by `certificate_text`. To add one, give its certificate in `certificate`, its steps in a module beside `reaching`, and its cases in
@@ -25,10 +25,10 @@ mod witness_search;
 
 pub use certificate::{certificate_of, mean_certificate_of, reward_certificate_of};
 pub use discount_laws::discount_step_law;
-pub use discounting::discount_file;
+pub use discounting::discount_query;
 pub use drill_laws::drill_law;
 pub use drilling::drill;
 pub use laws::solve_law;
-pub use solving::solve_file;
+pub use solving::solve_query;
 pub use witness_laws::witness_step_law;
-pub use witness_search::witness_file;
+pub use witness_search::witness_query;

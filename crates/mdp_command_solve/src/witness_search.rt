@@ -1,19 +1,18 @@
 ghost use Rattle.std.specs.Prelude.{◌≡◌, ◌⊎◌, Some, Err, IfOk, pos};
-ghost use Rattle.mdp_command.specs.Prelude.{IsModelReadToEnd, no_memory, plain_refusal, said, input};
+ghost use Rattle.mdp_command.specs.Prelude.{no_memory, plain_refusal, said};
 ghost use Rattle.mdp_math.specs.Rational.{◌≤ℚ◌, of_int};
 ghost use Rattle.mdp_spec.specs.Labels.{marks_of, initial_of};
 ghost use Rattle.mdp_check.specs.Check.{way_by};
 ghost use Rattle.mdp_command_solve.specs.{Ways.{name_of, place_on_way, goals_by}, WitnessCode.{refusal_of}};
-ghost use Rattle.mdp_command_solve.specs.{WitnessDue.{IsEndDue, IsWitnessDue}, WitnessShown.{IsWitnessPrinted, IsWitnessRead}};
+ghost use Rattle.mdp_command_solve.specs.{WitnessDue.{IsEndDue, IsWitnessDue}, WitnessShown.{IsWitnessPrinted}};
 
 use crate::ways::{cut_of, owned, place_on_way, way_in};
 use crate::witness_certificate::certificate_of;
 use mdp_cert::text_law;
-use mdp_command::{certificate_text, read_model};
-use mdp_edge::Source;
+use mdp_command::certificate_text;
 use mdp_job::Refusal;
 use mdp_num::Frac;
-use mdp_rows::{Dir, Marks, Model, RowRule};
+use mdp_rows::{Dir, Marks, Model};
 use mdp_witness::{WitnessError, witness};
 use std::alloc::Global;
 
@@ -96,39 +95,22 @@ impl Asked<'_> {
         };
         self.on_way(alloc, model, way_in(model, &cut), &goals, start)
     }
-
-    /// The text for a model, or its refusal: the label is looked up first, and that of the states on the way, then the one initial state.
-    fn of_model(&self, alloc: Global, model: &Model) -> Result<Vec<u8>, Refusal>
-        requires { of_int (pos 0) ≤ℚ self.now.threshold }
-        ensures due { (said result ≡ Err no_memory) ⊎
-            IsWitnessDue self.now.dir (name_of self.now.stay) self.now.label.now self.now.threshold model.now (said result) }
-        ensures printed { IfOk (said result) (IsWitnessPrinted self.now.dir (name_of self.now.stay) self.now.label.now self.now.threshold model.now) }
-    {
-        let Some(place) = place_on_way(model, self.stay, self.label) else {
-            return Err(Refusal::QueryLabel);
-        };
-        let Some(start) = model.initial() else {
-            return Err(Refusal::QueryInit);
-        };
-        self.from_start(alloc, model, place, start)
-    }
 }
 
-/// Reads the model to its end and judges its text, then searches a subsystem on which the best probability, in the direction, of reaching a state
-/// with the label from the one initial state, by way of states with the label `stay` alone where there is one, is still at least the threshold, and
-/// writes its certificate.
-pub fn witness_file<S: Source>(
+/// The text of the certificate of a subsystem on which the best probability, in the direction, of reaching a state with the label from the one initial
+/// state, by way of states with the label `stay` alone where there is one, is still at least the threshold; or its refusal: the label is looked up
+/// first, and that of the states on the way, then the one initial state.
+pub fn witness_query(
     alloc: Global,
-    rule: RowRule,
+    model: &Model,
     dir: Dir,
     stay: Option<&[u8]>,
     label: &[u8],
     threshold: Frac,
-    model: &mut S,
 ) -> Result<Vec<u8>, Refusal>
     requires { of_int (pos 0) ≤ℚ threshold }
-    ensures read { IsWitnessRead rule dir (name_of stay.entry) label.now threshold (input S.left S.faults model.old model.new) (said result) }
-    ensures end { IsModelReadToEnd (input S.left S.faults model.old model.new) (said result) }
+    ensures due { (said result ≡ Err no_memory) ⊎ IsWitnessDue dir (name_of stay.entry) label.now threshold model.now (said result) }
+    ensures printed { IfOk (said result) (IsWitnessPrinted dir (name_of stay.entry) label.now threshold model.now) }
 {
     let asked = Asked {
         dir,
@@ -136,8 +118,11 @@ pub fn witness_file<S: Source>(
         label,
         threshold,
     };
-    match read_model(alloc, model, rule) {
-        Ok(model) => asked.of_model(alloc, &model),
-        Err(refusal) => Err(refusal),
-    }
+    let Some(place) = place_on_way(model, stay, label) else {
+        return Err(Refusal::QueryLabel);
+    };
+    let Some(start) = model.initial() else {
+        return Err(Refusal::QueryInit);
+    };
+    asked.from_start(alloc, model, place, start)
 }

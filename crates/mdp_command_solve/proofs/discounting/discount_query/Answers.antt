@@ -1,7 +1,7 @@
 use Rattle.std.proofs.Common.{sym}
 use Rattle.mdp_discount_rules.specs.Plain.{plain}
 use Rattle.mdp_command_solve.proofs.DiscountPrinting.{name_at, answer_of_query, printed, text_due}
-use Rattle.mdp_command_solve.proofs.discounting.solve_named.Goals as goal
+use Rattle.mdp_command_solve.proofs.discounting.discount_query.Goals as goal
 
 pub returns-clause-due : goal.returns-clause-due
 returns-clause-due c =

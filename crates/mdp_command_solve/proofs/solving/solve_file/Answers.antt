@@ -1,9 +1,0 @@
-use Rattle.mdp_command.proofs.Working.{model_refused, model_worked}
-use Rattle.mdp_command_solve.proofs.Solved.{shown}
-use Rattle.mdp_command_solve.proofs.solving.solve_file.Goals as goal
-
-pub returns-in-Err-clause-read : goal.returns-in-Err-clause-read
-returns-in-Err-clause-read g c = model_refused _ _ _ _ _ c.in-Err.ensures.read
-
-pub returns-in-Ok-clause-read : goal.returns-in-Ok-clause-read
-returns-in-Ok-clause-read g c = model_worked _ _ _ _ _ _ c.in-Ok.ensures.read c.solve_query.ensures.due (shown _ _ _ _ _ c.solve_query.ensures.printed)
