@@ -6,11 +6,11 @@ use Rattle.mdp_spec.proofs.Subsystem.{sub_is_mdp}
 use Rattle.mdp_text.proofs.InitialState.{initial_below}
 use Rattle.mdp_check.specs.Check.{goal_marks, stay_marks, way_by}
 use Rattle.mdp_check.proofs.Ways.{way_by_states}
-use Rattle.mdp_subsystem_bounds.specs.{Cert.{SubsystemClaim, Certificate, plain_claim, kept_states, Fits}, Check.{IsAccepted}, Laws.{RulesReach, AcceptedIsBound, IsReadBack}}
+use Rattle.mdp_subsystem_bounds.specs.{Cert.{SubsystemClaim, plain_claim, kept_states}, Laws.{RulesReach, AcceptedIsBound, IsReadBack}}
 use Rattle.mdp_subsystem_bounds.specs.{Reading.{outcome}, Spelling.{text_of}}
 use Rattle.mdp_job.specs.Refusal.{no_memory}
 use Rattle.mdp_command.specs.{Files.{most_bytes}, Said.{Said}}
-use Rattle.mdp_command_bounds_search.specs.WitnessDue.{MarksAreTrue, IsAcceptedText, IsBelowSaid, IsEndDue, IsDueAt}
+use Rattle.mdp_command_bounds_search.specs.WitnessDue.{IsAcceptedText, IsBelowSaid, IsEndDue, IsDueAt}
 use Rattle.mdp_command_bounds_search.specs.WitnessLaws.{IsUndecidedAnswer, IsTextAnswer, TextExcludesRefusals, TextIsShown, WitnessTextIsAccepted}
 use Rattle.mdp_command_bounds_search.specs.WitnessShown.{IsBoundsWitnessPrinted}
 use Rattle.mdp_command_bounds_search.proofs.{WitnessBelow.{none_below}, WitnessLength.{text_short}}
