@@ -1,5 +1,5 @@
 -- A text that is due to `bounds` within a number of steps is that of bounds.
-use Rattle.std.proofs.Common.{◌≡◌, ℕ, ◌*◌, ◌≤◌, nat_lt, List, Option, Some, None, Ok, pos, refl, sym}
+use Rattle.std.proofs.Common.{◌≡◌, ℕ, ◌*◌, ◌≤◌, nat_lt, List, Option, Ok, pos, refl, sym}
 use Rattle.mdp_math.specs.Result.{◌>>=◌}
 use Rattle.mdp_spec.specs.{Labels.{place_of}, Mdp.{Mdp, states_of}, Row.{IsMdp}}
 use Rattle.mdp_rows.specs.{declared.dir.Dir.{Dir}, declared.dir.Dir.TheVariants.{Max, Min}}

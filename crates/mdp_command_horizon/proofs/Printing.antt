@@ -1,30 +1,16 @@
--- A text that is due is that of best values; and the states that it speaks of.
-use Rattle.std.proofs.Common.{◌≡◌, ℕ, ◌*◌, ◌<◌, Bool, true, false, if◌then◌else◌, nat_lt, List, length, Option, Some, None, Result, Ok, Err, replicate, refl, sym, ap, ◌∙◌}
-use Rattle.std.proofs.lemmas.List.{length-map, length-replicate}
+-- A text that is due is that of best values.
+use Rattle.std.proofs.Common.{◌≡◌, ℕ, ◌*◌, ◌<◌, Bool, true, false, if◌then◌else◌, nat_lt, List, length, Option, Some, None, Result, Ok, Err, refl, sym}
 use Rattle.mdp_math.specs.Result.{◌>>=◌}
-use Rattle.mdp_spec.specs.{Labels.{place_of, marks_of}, Mdp.{Mdp, states_of}, Row.{IsMdp}}
+use Rattle.mdp_spec.specs.{Labels.{place_of}, Mdp.{Mdp, states_of}, Row.{IsMdp}}
 use Rattle.mdp_rows.specs.{declared.dir.Dir.{Dir}, declared.dir.Dir.TheVariants.{Max, Min}}
 use Rattle.mdp_check.proofs.Accepting.{below_names}
 use Rattle.mdp_horizon.specs.{Laws.{AnswersAreGreatest, AnswersAreLeast, TotalsAreGreatest, TotalsAreLeast}, Spelling.{until_text, total_text}}
 use Rattle.mdp_horizon.specs.Written.{Place, Answer, written_until, written_total}
-use Rattle.mdp_horizon.proofs.Turns.{ok_same, ok_part}
+use Rattle.mdp_horizon.proofs.Turns.{ok_part}
 use Rattle.mdp_job.specs.Refusal.{query_steps}
 use Rattle.mdp_command.specs.Said.{Said}
-use Rattle.mdp_command_horizon.specs.Due.{most_choices, said_of_end, said_within, marks_at, states_with, states_that_stay, stay_word, said_of_marks, IsHorizonDue, name_at, said_of_name, IsTotalDue}
+use Rattle.mdp_command_horizon.specs.Due.{most_choices, said_of_end, said_within, states_with, states_that_stay, stay_word, said_of_marks, IsHorizonDue, name_at, said_of_name, IsTotalDue}
 use Rattle.mdp_command_horizon.specs.Printed.{IsBest, IsHorizonPrinted, IsBestTotal, IsTotalPrinted}
-
--- ---- one mark for each state
-
-marks-each : (m : Mdp) (place : Option ℕ) (marks : List Bool) → marks_at m place ≡ Ok marks → length marks ≡ states_of m
-marks-each m None marks e = cc e
-marks-each m (Some l) marks e = ap length (sym (ok_same (marks_of m l) marks e)) ∙ length-map m.states _
-
-pub with-each : (m : Mdp) (label : List ℕ) (marks : List Bool) → states_with m label ≡ Ok marks → length marks ≡ states_of m
-with-each m label marks e = marks-each m (place_of label m.labels) marks e
-
-pub stay-each : (m : Mdp) (stay : Option (List ℕ)) (marks : List Bool) → states_that_stay m stay ≡ Ok marks → length marks ≡ states_of m
-stay-each m None marks e = ap length (sym (ok_same (replicate (states_of m) true) marks e)) ∙ length-replicate (states_of m) true
-stay-each m (Some label) marks e = with-each m label marks e
 
 -- ---- what is due
 

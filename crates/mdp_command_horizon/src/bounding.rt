@@ -1,33 +1,14 @@
-ghost use Rattle.std.specs.Prelude.{◌≡◌, ◌⊎◌, ◌≤◌, length, option_copied, Ok, Err, IfOk};
+ghost use Rattle.std.specs.Prelude.{◌≡◌, ◌⊎◌, ◌≤◌, option_copied, Err, IfOk};
 ghost use Rattle.mdp_command.specs.Prelude.{no_memory, said};
-ghost use Rattle.mdp_spec.specs.Mdp.{states_of};
-ghost use Rattle.mdp_horizon.specs.{BoundsAnswer.{plain}, BoundsSpelling.{plain_claim, bounds_text}};
 ghost use Rattle.mdp_command_horizon.specs.{BoundsDue.{IsUntilBoundsDue, IsTotalBoundsDue}, BoundsPrinted.{AreUntilBoundsPrinted, AreTotalBoundsPrinted}};
 
 use crate::answering::{states_that_stay, states_with, stay_word};
 use crate::laws::horizon_bounds_law;
 use crate::tables::is_too_long;
-use mdp_horizon::{Claim, HorizonBounds, total_bounds, until_bounds, write_horizon_bounds};
+use mdp_horizon::{Claim, total_bounds, until_bounds, write_horizon_bounds};
 use mdp_job::Refusal;
 use mdp_rows::{Dir, Model};
 use std::alloc::Global;
-
-/// The text of bounds.
-fn text_of(
-    alloc: Global,
-    model: &Model,
-    dir: Dir,
-    claim: Claim<'_>,
-    found: &HorizonBounds,
-) -> Result<Vec<u8>, Refusal>
-    requires lower { length found.now.lower.items ≡ states_of model.now }
-    requires upper { length found.now.upper.items ≡ states_of model.now }
-    ensures { (said result ≡ Err no_memory) ⊎ (said result ≡ Ok (bounds_text dir (plain_claim claim.entry) model.now (plain found.now))) }
-{
-    let mut text = Vec::new(alloc);
-    write_horizon_bounds(model, dir, claim, found, &mut text)?;
-    Ok(text)
-}
 
 /// Bounds of the best probability of coming, from states with the label `stay` or any states, to states with `label` within so many steps: lower and upper
 /// values that are rounded outward to so many digits, from 1 to 30, and a table. It's never too wide. The labels are looked up first, then it is asked
@@ -54,7 +35,9 @@ pub fn until_bounds_query(
     }
     let found = until_bounds(alloc, model, dir, &stays, &goals, steps, digits)?;
     let claim = Claim::Until(stay_word(stay), label);
-    text_of(alloc, model, dir, claim, &found)
+    let mut text = Vec::new(alloc);
+    write_horizon_bounds(model, dir, claim, &found, &mut text)?;
+    Ok(text)
 }
 
 /// The same of the best total reward of this name within so many steps, which is looked up first. A value that would be too wide is missing.
@@ -79,5 +62,7 @@ pub fn total_bounds_query(
         return Err(Refusal::QuerySteps);
     }
     let found = total_bounds(alloc, model, dir, place, steps, digits)?;
-    text_of(alloc, model, dir, Claim::Total(name), &found)
+    let mut text = Vec::new(alloc);
+    write_horizon_bounds(model, dir, Claim::Total(name), &found, &mut text)?;
+    Ok(text)
 }

@@ -1,30 +1,13 @@
-ghost use Rattle.std.specs.Prelude.{◌≡◌, ◌⊎◌, ◌<◌, ◌≤◌, length, option_copied, Ok, Err, IfOk};
+ghost use Rattle.std.specs.Prelude.{◌≡◌, ◌⊎◌, ◌≤◌, option_copied, Err, IfOk};
 ghost use Rattle.mdp_command.specs.Prelude.{no_memory, said};
-ghost use Rattle.mdp_horizon.specs.{CurveSpelling.{curve_text}, BoundsSpelling.{plain_claim}};
 ghost use Rattle.mdp_command_horizon.specs.{CurveDue.{IsUntilCurveDue, IsTotalCurveDue}, CurvePrinted.{IsUntilCurvePrinted, IsTotalCurvePrinted}};
 
 use crate::answering::{states_that_stay, states_with, stay_word};
 use crate::laws::horizon_curve_law;
-use mdp_horizon::{Claim, Point, total_curve, until_curve, write_curve};
+use mdp_horizon::{Claim, total_curve, until_curve, write_curve};
 use mdp_job::Refusal;
 use mdp_rows::{Dir, Model};
 use std::alloc::Global;
-
-/// The text of a curve.
-fn text_of(
-    alloc: Global,
-    dir: Dir,
-    claim: Claim<'_>,
-    start: u32,
-    curve: &[Point],
-) -> Result<Vec<u8>, Refusal>
-    requires { 0 < length curve.now }
-    ensures { (said result ≡ Err no_memory) ⊎ (said result ≡ Ok (curve_text dir (plain_claim claim.entry) start curve.now)) }
-{
-    let mut text = Vec::new(alloc);
-    write_curve(dir, claim, start, curve, &mut text)?;
-    Ok(text)
-}
 
 /// Bounds of the best probability of coming from the initial state, by way of states with the label `stay` or any states, to states with `label`, within
 /// each number of steps from 0 to `steps`. It's never too wide, and makes no table of choices. The labels are looked up first, then the initial state.
@@ -51,7 +34,9 @@ pub fn until_curve_query(
     };
     let curve = until_curve(alloc, model, dir, &stays, &goals, start, steps, digits)?;
     let claim = Claim::Until(stay_word(stay), label);
-    text_of(alloc, dir, claim, start, &curve)
+    let mut text = Vec::new(alloc);
+    write_curve(dir, claim, start, &curve, &mut text)?;
+    Ok(text)
 }
 
 /// The same of the best total reward of this name, which is looked up first. A value that would be too wide is missing.
@@ -77,5 +62,7 @@ pub fn total_curve_query(
         return Err(Refusal::QueryInit);
     };
     let curve = total_curve(alloc, model, dir, place, start, steps, digits)?;
-    text_of(alloc, dir, Claim::Total(name), start, &curve)
+    let mut text = Vec::new(alloc);
+    write_curve(dir, Claim::Total(name), start, &curve, &mut text)?;
+    Ok(text)
 }
