@@ -22,7 +22,8 @@ use Rattle.mdp_job.specs.Job.{reach, until, reward, mean}
 use Rattle.mdp_command.specs.{Accepted.{IsTrueClaim}, Said.{Said}, Shown.{IsShownOf}}
 use Rattle.mdp_command_solve.specs.Ways.{place_on_way}
 use Rattle.mdp_command_solve.specs.Due.{said_of_end, said_of_reward_end, said_of_mean_end, IsReachDue, IsRewardEnd, IsRewardDue, IsMeanDue}
-use Rattle.mdp_command_solve.specs.Laws.{IsDueOnce, TextIsAccepted, TextIsAnswer, UntilTextIsAnswer, RewardTextIsAnswer, MeanTextIsAnswer, IsBest, IsAnswerTo, IsBestReward, IsRewardAnswerTo, IsBestMean, IsMeanAnswerTo}
+use Rattle.mdp_command_solve.specs.Laws.{IsDueOnce, TextIsAccepted, TextIsAnswer, UntilTextIsAnswer, RewardTextIsAnswer, MeanTextIsAnswer}
+use Rattle.mdp_command_solve.specs.Laws.{IsBest, IsAnswerTo, IsBestReward, IsRewardAnswerTo, IsBestMean, IsMeanAnswerTo}
 use Rattle.mdp_command_solve.specs.Solved.{IsClaimPrinted}
 use Rattle.mdp_command_solve.proofs.OnWay.{way_is_mdp}
 

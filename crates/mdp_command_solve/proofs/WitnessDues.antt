@@ -11,8 +11,8 @@ use Rattle.mdp_command.specs.Said.{Said}
 use Rattle.mdp_witness.specs.Query.{PlainSubsystem, Refusal, below, too_wide, EndsSo}
 use Rattle.mdp_witness.specs.Laws as query
 use Rattle.mdp_witness.specs.Shown as shown
-use Rattle.mdp_command_solve.specs.{Ways.{place_on_way, goals_by}, Laws.{IsBest}, WitnessCertificate.{certificate_of}, WitnessDue.{said_of_end, IsDueAt, IsWitnessDue}, WitnessLaws.{IsDueOnce, IsBelow}}
-use Rattle.mdp_command_solve.specs.WitnessShown.{IsWitnessOf}
+use Rattle.mdp_command_solve.specs.{Ways.{place_on_way, goals_by}, Laws.{IsBest}, WitnessCertificate.{certificate_of}, WitnessDue.{said_of_end, IsDueAt, IsWitnessDue}}
+use Rattle.mdp_command_solve.specs.{WitnessLaws.{IsDueOnce, IsBelow}, WitnessShown.{IsWitnessOf}}
 use Rattle.mdp_text.proofs.InitialState.{initial_below}
 use Rattle.mdp_command_solve.proofs.{OnWay.{marks_each, way_states, way_is_mdp}, Solved.{best_on_way}, WitnessPrinting.{is_witness, witness_of}}
 

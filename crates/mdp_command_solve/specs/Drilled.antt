@@ -22,4 +22,5 @@ pub record GivesGreatest (number layers width : ℕ) (text : List ℕ) : Type 0 
 -- accepts it
 pub record IsDrilled (number layers width : ℕ) (text : List ℕ) : Type 0 where
   pub given : GivesGreatest number layers width text
-  pub solved : IsShownOf (IsPrinted Max (reach (codes "goal"))) Exact (generated_text number layers width) (text_of (certificate_of Max None (codes "goal") (layered_model number layers width) given.answer))
+  pub solved : IsShownOf (IsPrinted Max (reach (codes "goal"))) Exact (generated_text number layers width)
+      (text_of (certificate_of Max None (codes "goal") (layered_model number layers width) given.answer))
