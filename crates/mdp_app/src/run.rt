@@ -27,14 +27,14 @@ fn decided<S: Source, C: Source>(
         Ok(job) => job,
         Err(error) => return Err(Refusal::Words(error)),
     };
-    match job {
-        Job::OnModel { rule, task } => on_model(alloc, rule, task, model),
-        Job::OnPair { rule, task } => on_pair(alloc, rule, task, model, second),
+    match &job {
+        Job::OnModel { rule, task } => on_model(alloc, *rule, task, model),
+        Job::OnPair { rule, task } => on_pair(alloc, *rule, task, model, second),
         Job::Drill {
             number,
             layers,
             width,
-        } => drill(alloc, number, layers, width),
+        } => drill(alloc, *number, *layers, *width),
     }
 }
 

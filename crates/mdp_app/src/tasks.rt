@@ -19,66 +19,66 @@ use mdp_rows::{Model, RowRule};
 use std::alloc::Global;
 
 /// The text that answers what is asked of a model, or its refusal.
-fn answer_to(alloc: Global, model: &Model, task: Task<'_>) -> Result<Vec<u8>, Refusal>
-    requires { IsTaskInRange (plain_task task.entry) }
-    ensures due { (said result ≡ Err no_memory) ⊎ IsTaskDue (plain_task task.entry) model.now (said result) }
-    ensures printed { IfOk (said result) (IsTaskPrinted (plain_task task.entry) model.now) }
+fn answer_to(alloc: Global, model: &Model, task: &Task<'_>) -> Result<Vec<u8>, Refusal>
+    requires { IsTaskInRange (plain_task task.now) }
+    ensures due { (said result ≡ Err no_memory) ⊎ IsTaskDue (plain_task task.now) model.now (said result) }
+    ensures printed { IfOk (said result) (IsTaskPrinted (plain_task task.now) model.now) }
 {
     match task {
-        Task::Solve { dir, query } => solve_query(alloc, model, dir, query),
+        Task::Solve { dir, query } => solve_query(alloc, model, *dir, *query),
         Task::Witness {
             dir,
             stay,
             label,
             threshold,
-        } => witness_query(alloc, model, dir, stay, label, threshold),
+        } => witness_query(alloc, model, *dir, *stay, *label, *threshold),
         Task::Horizon {
             dir,
             stay,
             label,
             steps,
-        } => horizon_query(alloc, model, dir, stay, label, steps),
-        Task::Total { dir, name, steps } => total_query(alloc, model, dir, name, steps),
-        Task::Discount { dir, name, factor } => discount_query(alloc, model, dir, name, factor),
-        Task::Bounds { dir, query, digits } => bounds_query(alloc, model, dir, query, digits),
+        } => horizon_query(alloc, model, *dir, *stay, *label, *steps),
+        Task::Total { dir, name, steps } => total_query(alloc, model, *dir, *name, *steps),
+        Task::Discount { dir, name, factor } => discount_query(alloc, model, *dir, *name, *factor),
+        Task::Bounds { dir, query, digits } => bounds_query(alloc, model, *dir, *query, *digits),
         Task::BoundsUntil {
             dir,
             stay,
             label,
             steps,
             digits,
-        } => until_bounds_query(alloc, model, dir, stay, label, steps, digits),
+        } => until_bounds_query(alloc, model, *dir, *stay, *label, *steps, *digits),
         Task::BoundsTotal {
             dir,
             name,
             steps,
             digits,
-        } => total_bounds_query(alloc, model, dir, name, steps, digits),
+        } => total_bounds_query(alloc, model, *dir, *name, *steps, *digits),
         Task::BoundsDiscount {
             dir,
             name,
             factor,
             digits,
-        } => bounds_discount_query(alloc, model, dir, name, factor, digits),
+        } => bounds_discount_query(alloc, model, *dir, *name, *factor, *digits),
         Task::BoundsWitness {
             dir,
             stay,
             label,
             threshold,
-        } => bounds_witness_query(alloc, model, dir, stay, label, threshold),
+        } => bounds_witness_query(alloc, model, *dir, *stay, *label, *threshold),
         Task::CurveUntil {
             dir,
             stay,
             label,
             steps,
             digits,
-        } => until_curve_query(alloc, model, dir, stay, label, steps, digits),
+        } => until_curve_query(alloc, model, *dir, *stay, *label, *steps, *digits),
         Task::CurveTotal {
             dir,
             name,
             steps,
             digits,
-        } => total_curve_query(alloc, model, dir, name, steps, digits),
+        } => total_curve_query(alloc, model, *dir, *name, *steps, *digits),
     }
 }
 
@@ -86,11 +86,11 @@ fn answer_to(alloc: Global, model: &Model, task: Task<'_>) -> Result<Vec<u8>, Re
 pub(crate) fn on_model<S: Source>(
     alloc: Global,
     rule: RowRule,
-    task: Task<'_>,
+    task: &Task<'_>,
     model: &mut S,
 ) -> Result<Vec<u8>, Refusal>
-    requires { IsTaskInRange (plain_task task.entry) }
-    ensures read { IsWorkOnModel rule (IsTaskDue (plain_task task.entry)) (IsShownOf (IsTaskPrinted (plain_task task.entry)) rule) (input S.left S.faults model.old model.new) (said result) }
+    requires { IsTaskInRange (plain_task task.now) }
+    ensures read { IsWorkOnModel rule (IsTaskDue (plain_task task.now)) (IsShownOf (IsTaskPrinted (plain_task task.now)) rule) (input S.left S.faults model.old model.new) (said result) }
     ensures end { IsModelReadToEnd (input S.left S.faults model.old model.new) (said result) }
 {
     match read_model(alloc, model, rule) {
@@ -103,18 +103,18 @@ pub(crate) fn on_model<S: Source>(
 pub(crate) fn on_pair<S: Source, C: Source>(
     alloc: Global,
     rule: RowRule,
-    task: PairTask<'_>,
+    task: &PairTask<'_>,
     model: &mut S,
     second: &mut C,
 ) -> Result<Vec<u8>, Refusal>
-    ensures read { IsWorkOnPair rule (IsPairDue (plain_pair task.entry)) (IsPairShown (plain_pair task.entry) rule) (input S.left S.faults model.old model.new) (input C.left C.faults second.old second.new) (said result) }
+    ensures read { IsWorkOnPair rule (IsPairDue (plain_pair task.now)) (IsPairShown (plain_pair task.now) rule) (input S.left S.faults model.old model.new) (input C.left C.faults second.old second.new) (said result) }
     ensures unread { IsTrue (is_of_model (said result)) → second.new ≡ second.old }
     ensures model_end { IsModelReadToEnd (input S.left S.faults model.old model.new) (said result) }
     ensures second_end { IsFalse (is_of_model (said result)) → IsSecondReadToEnd (input C.left C.faults second.old second.new) (said result) }
 {
     match task {
         PairTask::Check => check_files(alloc, rule, None, model, second),
-        PairTask::Policy { stay, label } => policy_file(alloc, rule, stay, label, model, second),
+        PairTask::Policy { stay, label } => policy_file(alloc, rule, *stay, *label, model, second),
         PairTask::Chain => chain_file(alloc, rule, model, second),
         PairTask::DiscountCheck => {
             check_files(
