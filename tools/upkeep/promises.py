@@ -25,7 +25,7 @@ from .imports import of_specs
 
 TOP = pathlib.Path(__file__).resolve().parent.parent.parent
 PAGE, TEXTS = TOP / "docs" / "promises.md", TOP / "tools" / "promises.txt"
-TESTS = {"mdp_text_tests", "mdp_tests"}
+TESTS = {"mdp_tests"}
 
 # Clauses that say what an answer means, which come first, and those that say how it is computed or that there is only one, which come last.
 MEANT = ["max", "min", "bound", "best", "sub_max", "sub_min", "within", "solves", "true_claim", "holds", "rules"]

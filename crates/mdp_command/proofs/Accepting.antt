@@ -10,8 +10,8 @@ use Rattle.mdp_text.specs.declared.error.Refusal as text
 use Rattle.mdp_check.specs.{BoundsLaws.{YesAcceptsBounds, AcceptedBoundsAreTrue}, declared.answer.Answer.{Answer}}
 use Rattle.mdp_check.specs.declared.answer.Answer.TheVariants.{Yes, No, Wide, NoReward, NoLabel, Size, Memory}
 use Rattle.mdp_check.specs.Laws as exactly
-use Rattle.mdp_discount_bounds.specs.Cert as between_cert
-use Rattle.mdp_discount_bounds.specs.Laws as discount_bounds
+use Rattle.mdp_discount_rules.specs.BoundsCert as between_cert
+use Rattle.mdp_discount_rules.specs.BoundsLaws as discount_bounds
 use Rattle.mdp_discount_text.specs.BoundsLaws as between_text
 use Rattle.mdp_discount_text.specs.Reading as between_reading
 use Rattle.mdp_discount_rules.specs.{Cert.{Certificate, Fits}, declared.answer.DiscountAnswer.{DiscountAnswer}}

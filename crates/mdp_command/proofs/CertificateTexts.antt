@@ -10,7 +10,7 @@ use Rattle.mdp_cert.specs.{Spelling.{claim_text, text_in, text_of, old_text_of},
 use Rattle.mdp_cert.specs.BoundsCert as bounds_cert
 use Rattle.mdp_cert.specs.BoundsLaws as bounds_laws
 use Rattle.mdp_cert.specs.BoundsSpelling as bounds_text
-use Rattle.mdp_discount_bounds.specs.Cert as discount_bounds_cert
+use Rattle.mdp_discount_rules.specs.BoundsCert as discount_bounds_cert
 use Rattle.mdp_discount_rules.specs.Cert as discount_cert
 use Rattle.mdp_discount_text.specs.BoundsLaws as discount_bounds_laws
 use Rattle.mdp_discount_text.specs.BoundsSpelling as discount_bounds_text

@@ -17,10 +17,10 @@ use Rattle.mdp_discount_rules.specs.Check as exact_check
 use Rattle.mdp_discount_rules.specs.Says as exact_says
 use Rattle.mdp_discount_rules.specs.Laws as exact_laws
 use Rattle.mdp_discount_rules.specs.{declared.answer.DiscountAnswer.{DiscountAnswer}, declared.answer.DiscountAnswer.TheVariants.{No, Size}}
-use Rattle.mdp_discount_bounds.specs.Check as bounds_check
-use Rattle.mdp_discount_bounds.specs.Says as bounds_says
-use Rattle.mdp_discount_bounds.specs.Laws as bounds_laws
-use Rattle.mdp_discount_bounds.specs.declared.init.InitialBounds.{InitialBounds}
+use Rattle.mdp_discount_rules.specs.BoundsCheck as bounds_check
+use Rattle.mdp_discount_rules.specs.BoundsSays as bounds_says
+use Rattle.mdp_discount_rules.specs.BoundsLaws as bounds_laws
+use Rattle.mdp_discount_rules.specs.declared.bounds_init.InitialBounds.{InitialBounds}
 use Rattle.mdp_command.specs.DiscountStart.{ExactInitSays, BoundsInitSays, ExactNoOfInit, BoundsNoOfInit}
 
 -- ---- two verdicts, the second one after a yes

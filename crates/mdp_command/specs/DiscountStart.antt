@@ -9,9 +9,9 @@ use Rattle.mdp_check.specs.Says.{IsValueAt, IsRewardAt}
 use Rattle.mdp_discount_rules.specs.Cert as exact
 use Rattle.mdp_discount_rules.specs.Check as exact_check
 use Rattle.mdp_discount_rules.specs.declared.answer.DiscountAnswer.TheVariants.{No}
-use Rattle.mdp_discount_bounds.specs.Cert as bounds
-use Rattle.mdp_discount_bounds.specs.Check as bounds_check
-use Rattle.mdp_discount_bounds.specs.declared.init.InitialBounds.{InitialBounds}
+use Rattle.mdp_discount_rules.specs.BoundsCert as bounds
+use Rattle.mdp_discount_rules.specs.BoundsCheck as bounds_check
+use Rattle.mdp_discount_rules.specs.declared.bounds_init.InitialBounds.{InitialBounds}
 
 -- it is that state with its value, which is finite
 abbrev pub ExactInitSays : Init → Option ℕ → List ℚ → Type 0

@@ -4,7 +4,7 @@ use Rattle.mdp_cert.specs.BoundsReading as bounds_text
 use Rattle.mdp_check.specs.Bounds as bounds
 use Rattle.mdp_check.specs.declared.answer.Answer.{Answer}
 use Rattle.mdp_check.specs.declared.answer.Answer.TheVariants as answer
-use Rattle.mdp_discount_bounds.specs.Check as discount_bounds
+use Rattle.mdp_discount_rules.specs.BoundsCheck as discount_bounds
 use Rattle.mdp_discount_rules.specs.Check as discount
 use Rattle.mdp_discount_text.specs.Reading as discount_bounds_text
 use Rattle.mdp_discount_text.specs.Text as discount_text

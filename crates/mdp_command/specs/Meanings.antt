@@ -6,8 +6,8 @@ use Rattle.mdp_check.specs.Bounds as bounds
 use Rattle.mdp_check.specs.BoundsInitial as bounds_initial
 use Rattle.mdp_cert.specs.BoundsCert as bounds_cert
 use Rattle.mdp_cert.specs.BoundsSpelling as bounds_text
-use Rattle.mdp_discount_bounds.specs.Cert as discount_bounds_cert
-use Rattle.mdp_discount_bounds.specs.Check as discount_bounds
+use Rattle.mdp_discount_rules.specs.BoundsCert as discount_bounds_cert
+use Rattle.mdp_discount_rules.specs.BoundsCheck as discount_bounds
 use Rattle.mdp_discount_text.specs.BoundsSpelling as discount_bounds_text
 use Rattle.mdp_discount_text.specs.Reading.{is_discount_claim}
 use Rattle.mdp_subsystem_bounds.specs.Cert as subsystem_cert

@@ -3,8 +3,7 @@ ghost use Rattle.mdp_command.specs.DiscountStart.{ExactNoOfInit, BoundsNoOfInit}
 
 use mdp_cert::{bounds_text_law, text_law};
 use mdp_check::{bounds_checking_law, checking_law};
-use mdp_discount_bounds::discount_bounds_law;
-use mdp_discount_rules::discount_rules_law;
+use mdp_discount_rules::{discount_bounds_law, discount_rules_law};
 use mdp_discount_text::{discount_bounds_text_law, discount_text_law};
 use mdp_drn::model_law;
 use mdp_subsystem_bounds::{subsystem_bounds_law, subsystem_bounds_text_law};
@@ -37,5 +36,5 @@ pub fn discount_start_law()
     ensures bounds { BoundsNoOfInit }
 {
     mdp_discount_rules::discount_no_law();
-    mdp_discount_bounds::discount_no_law();
+    mdp_discount_rules::discount_bounds_no_law();
 }

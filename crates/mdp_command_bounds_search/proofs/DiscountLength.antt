@@ -11,7 +11,7 @@ use Rattle.mdp_cert.specs.Claims.{reward_text}
 use Rattle.mdp_discount_text.specs.{Spelling.{claim_text, remainder_text}, Entries.{lower, lower_text, lower_value, between_columns, IsEntryInWidth, entries_of}}
 use Rattle.mdp_cert.specs.{Claims.{reward_value}, Pairs.{IsShort, number_value, word_columns, pair_columns, IsPairInWidth, pairs}}
 use Rattle.mdp_discount_text.specs.BoundsSpelling.{version_text, init_text, head_text, text_of}
-use Rattle.mdp_discount_bounds.specs.{Cert.{Certificate, Fits, IsValueNarrow, is_init}, declared.init.InitialBounds.{InitialBounds}}
+use Rattle.mdp_discount_rules.specs.{BoundsCert.{Certificate, Fits, IsValueNarrow, is_init}, declared.bounds_init.InitialBounds.{InitialBounds}}
 use Rattle.mdp_command.specs.Files.{most_bytes}
 use Rattle.mdp_command.proofs.HeadLengths.{five_lines}
 use Rattle.mdp_cert.proofs.RunLengths.{lines_of, closed_short, pair_short, pairs_width, pairs_count}

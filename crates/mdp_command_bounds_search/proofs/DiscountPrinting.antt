@@ -5,7 +5,7 @@ use Rattle.mdp_num.specs.OrderView.{equal_decides}
 use Rattle.mdp_spec.specs.{Bounds.{reward_at}, Labels.{place_of}, Mdp.{Mdp}, Row.{IsMdp}}
 use Rattle.mdp_rows.specs.declared.dir.Dir.{Dir}
 use Rattle.mdp_claims.specs.declared.verdict.Verdict.TheVariants.{Yes}
-use Rattle.mdp_discount_bounds.specs.{Cert.{Certificate, Fits}, Check.{same_value, is_value, init_check, IsAccepted}, Laws.{AcceptedIsBound}}
+use Rattle.mdp_discount_rules.specs.{BoundsCert.{Certificate, Fits}, BoundsCheck.{same_value, is_value, init_check, IsAccepted}, BoundsLaws.{AcceptedIsBound}}
 use Rattle.mdp_discount_text.specs.{BoundsLaws.{IsReadBack}, Reading.{outcome}, BoundsSpelling.{text_of}}
 use Rattle.mdp_job.specs.Refusal.{no_memory}
 use Rattle.mdp_command.specs.{Files.{most_bytes}, Said.{Said}}

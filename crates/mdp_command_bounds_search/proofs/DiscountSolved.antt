@@ -4,7 +4,7 @@ use Rattle.mdp_math.specs.Rational.{ℚ}
 use Rattle.mdp_spec.specs.{Labels.{place_of}, Mdp.{Mdp}, Row.{IsMdp}}
 use Rattle.mdp_rows.specs.declared.dir.Dir.{Dir}
 use Rattle.mdp_discount_rules.specs.Rules.{IsFactor}
-use Rattle.mdp_discount_bounds.specs.{Between.{DiscountBetween}, Laws.{AcceptedIsBound}}
+use Rattle.mdp_discount_rules.specs.{Between.{DiscountBetween}, BoundsLaws.{AcceptedIsBound}}
 use Rattle.mdp_discount_text.specs.BoundsSpelling.{text_of}
 use Rattle.mdp_command_bounds_search.specs.{DiscountDue.{IsAcceptedText, IsNamedDue}, DiscountLaws.{IsAnswerTo, DiscountTextLiesBetween, OnlyDiscountTextsAreDue, DiscountTextIsAccepted}}
 use Rattle.mdp_command_bounds_search.proofs.Solved.{text_is_ok}

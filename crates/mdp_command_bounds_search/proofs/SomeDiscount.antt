@@ -17,8 +17,8 @@ use Rattle.mdp_discount_rules.specs.{Cert.{Certificate}, Checks.{written_discoun
 use Rattle.mdp_discount_rules.specs.Checks as exact
 use Rattle.mdp_discount_rules.proofs.DiscountRules.{written_discounted-some}
 use Rattle.mdp_discount.specs.{Laws.{CanAsk, HasAnEnd, AnswersMeetRules}, Query.{EndsSo}}
-use Rattle.mdp_discount_bounds.specs.{Cert.{IsValueNarrow}, Checks.{discount_bounds_checks, IsDiscountBounds}, Rules.{greatest_magnitude}}
-use Rattle.mdp_discount_bounds.proofs.{Rules.{bounds_rules}, Trivial.{trivial_yes}}
+use Rattle.mdp_discount_rules.specs.{BoundsCert.{IsValueNarrow}, BoundsChecks.{discount_bounds_checks, IsDiscountBounds}, BoundsRules.{greatest_magnitude}}
+use Rattle.mdp_discount_rules.proofs.{BoundsRules.{bounds_rules}, Trivial.{trivial_yes}}
 use Rattle.mdp_search_bounds.specs.{Near.{AreValuesNear}, Wide.{IsInWidth, IsDiscountWide}}
 use Rattle.mdp_search_bounds.proofs.{DiscountExact.{exact-near, meets_between}, Nothing.{nothing_said}}
 use Rattle.mdp_command_bounds_search.proofs.{Narrow.{sum_took, whole_narrow, greatest_narrow, magnitude_narrow}, ExactWidth.{some_told}, ShortLists.{AreShort, zeros_short, policy_short}}

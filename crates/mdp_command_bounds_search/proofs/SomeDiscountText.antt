@@ -12,8 +12,8 @@ use Rattle.mdp_check.proofs.Accepting.{below_names}
 use Rattle.mdp_claims.specs.declared.verdict.Verdict.TheVariants.{Yes}
 use Rattle.mdp_discount_rules.specs.Rules.{IsFactor}
 use Rattle.mdp_discount.specs.Laws.{CanAsk, HasAnEnd, AnswersMeetRules}
-use Rattle.mdp_discount_bounds.specs.{Cert.{Certificate, IsValueNarrow, is_init, Fits}, Check.{init_check, IsAccepted}, Laws.{AcceptedIsBound}}
-use Rattle.mdp_discount_bounds.specs.declared.init.InitialBounds.{InitialBounds}
+use Rattle.mdp_discount_rules.specs.{BoundsCert.{Certificate, IsValueNarrow, is_init, Fits}, BoundsCheck.{init_check, IsAccepted}, BoundsLaws.{AcceptedIsBound}}
+use Rattle.mdp_discount_rules.specs.declared.bounds_init.InitialBounds.{InitialBounds}
 use Rattle.mdp_discount_text.specs.{BoundsLaws.{IsReadBack}, BoundsSpelling.{text_of}}
 use Rattle.mdp_command.specs.Said.{Said}
 use Rattle.mdp_command_bounds_search.specs.{DiscountDue.{ClaimsSo}, DiscountLaws.{HasADiscountText}}

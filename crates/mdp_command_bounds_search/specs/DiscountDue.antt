@@ -4,7 +4,7 @@ use Rattle.std.specs.Prelude.{◌≡◌, ℕ, List, Option, Some, None, Ok, Err}
 use Rattle.mdp_math.specs.Rational.{ℚ}
 use Rattle.mdp_spec.specs.{Labels.{place_of}, Mdp.{Mdp}}
 use Rattle.mdp_rows.specs.declared.dir.Dir.{Dir}
-use Rattle.mdp_discount_bounds.specs.{Cert.{Certificate, Fits}, Check.{IsAccepted}}
+use Rattle.mdp_discount_rules.specs.{BoundsCert.{Certificate, Fits}, BoundsCheck.{IsAccepted}}
 use Rattle.mdp_discount_text.specs.BoundsSpelling.{text_of}
 use Rattle.mdp_job.specs.Refusal.{query_reward}
 use Rattle.mdp_command.specs.Said.{Said}

@@ -5,7 +5,7 @@ use Rattle.mdp_num.specs.Value.{IsNarrow}
 use Rattle.mdp_spec.specs.{Labels.{place_of}, Mdp.{Mdp}, Row.{IsMdp}}
 use Rattle.mdp_rows.specs.{Limits.{IsModel}, declared.dir.Dir.{Dir}, declared.rule.RowRule.{RowRule}}
 use Rattle.mdp_discount_rules.specs.Rules.{IsFactor}
-use Rattle.mdp_discount_bounds.specs.{Between.{DiscountBetween}, Cert.{Certificate}}
+use Rattle.mdp_discount_rules.specs.{Between.{DiscountBetween}, BoundsCert.{Certificate}}
 use Rattle.mdp_discount_text.specs.BoundsSpelling.{text_of}
 use Rattle.mdp_command.specs.{Accepted.{IsTrueClaimBy}, Kinds.{discounted_between}, Said.{Said}, Shown.{IsShownOf}}
 use Rattle.mdp_command_bounds_search.specs.{DiscountDue.{ClaimsSo, IsDiscountBoundsDue}, DiscountShown.{IsDiscountBoundsPrinted}}

@@ -3,7 +3,7 @@ use Rattle.std.specs.Prelude.{◌≡◌, ℕ, ◌≤◌, List, length, Ok}
 use Rattle.mdp_math.specs.Rational.{ℚ}
 use Rattle.mdp_spec.specs.Mdp.{Mdp}
 use Rattle.mdp_rows.specs.declared.dir.Dir.{Dir}
-use Rattle.mdp_discount_bounds.specs.{Cert.{Certificate}, Check.{IsAccepted, IsBound}}
+use Rattle.mdp_discount_rules.specs.{BoundsCert.{Certificate}, BoundsCheck.{IsAccepted, IsBound}}
 use Rattle.mdp_discount_text.specs.{Reading.{outcome}, BoundsSpelling.{text_of}}
 use Rattle.mdp_command.specs.Files.{most_bytes}
 use Rattle.mdp_command_bounds_search.specs.{DiscountDue.{ClaimsSo}, Near.{IsDiscountNearOrWide}}

@@ -2,10 +2,10 @@ ghost use Rattle.std.specs.Prelude.{◌≡◌, Some, length, IfOk, IfSome, IsTru
 ghost use Rattle.mdp_spec.specs.{Labels.{initial_of, place_of}, Mdp.{states_of}};
 ghost use Rattle.mdp_claims.specs.declared.verdict.Verdict.TheVariants.{Yes};
 ghost use Rattle.mdp_discount_rules.specs.Rules.{IsFactor};
-ghost use Rattle.mdp_discount_bounds.specs.{Cert.{IsValueNarrow, is_init, Fits}, Check.{init_check, IsAccepted}, Checks.{IsDiscountBounds}, Plain.{plain}};
+ghost use Rattle.mdp_discount_rules.specs.{BoundsCert.{IsValueNarrow, is_init, Fits}, BoundsCheck.{init_check, IsAccepted}, BoundsChecks.{IsDiscountBounds}, BoundsPlain.{plain}};
 ghost use Rattle.mdp_command_bounds_search.specs.DiscountDue.{ClaimsSo};
 
-use mdp_discount_bounds::{DiscountBounds, DiscountBoundsCert, InitialBounds};
+use mdp_discount_rules::{DiscountBounds, DiscountBoundsCert, InitialBounds};
 use mdp_num::Frac;
 use mdp_rows::{Dir, Model};
 use mdp_text::all_short;

@@ -1,12 +1,12 @@
 ghost use Rattle.std.specs.Prelude.{◌≡◌, ◌⊎◌, Ok, Err, IfOk};
 ghost use Rattle.mdp_command.specs.Prelude.{no_memory, said};
 ghost use Rattle.mdp_discount_rules.specs.Rules.{IsFactor};
-ghost use Rattle.mdp_discount_bounds.specs.Plain.{plain};
+ghost use Rattle.mdp_discount_rules.specs.BoundsPlain.{plain};
 ghost use Rattle.mdp_discount_text.specs.BoundsSpelling.{text_of};
 ghost use Rattle.mdp_command_bounds_search.specs.{DiscountDue.{IsDiscountBoundsDue}, DiscountShown.{IsDiscountBoundsPrinted}};
 
 use crate::discount_certificate::certificate_of;
-use mdp_discount_bounds::{DiscountBoundsCert, discount_bounds_law};
+use mdp_discount_rules::{DiscountBoundsCert, discount_bounds_law};
 use mdp_discount_text::{discount_bounds_text_law, write_discount_bounds};
 use mdp_job::Refusal;
 use mdp_num::Frac;

@@ -5,7 +5,7 @@ ghost use Rattle.mdp_command_bounds_search.specs.WitnessLaws.{TextExcludesRefusa
 use mdp_cert::bounds_text_law;
 use mdp_check::bounds_checking_law;
 use mdp_discount::discount_law;
-use mdp_discount_bounds::discount_bounds_law;
+use mdp_discount_rules::discount_bounds_law;
 use mdp_discount_text::discount_bounds_text_law;
 use mdp_graph::{along_law, avoid_law, meet_law, rounds_law, sure_all_law};
 use mdp_mean::mean_law;

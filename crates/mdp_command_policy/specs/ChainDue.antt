@@ -9,7 +9,7 @@ use Rattle.mdp_cert.specs.Cert as cert
 use Rattle.mdp_cert.specs.Reading as cert_text
 use Rattle.mdp_cert.specs.BoundsCert as bounds
 use Rattle.mdp_cert.specs.BoundsReading as bounds_text
-use Rattle.mdp_discount_bounds.specs.Cert as discount_bounds
+use Rattle.mdp_discount_rules.specs.BoundsCert as discount_bounds
 use Rattle.mdp_discount_text.specs.Reading as discount_bounds_text
 use Rattle.mdp_discount_rules.specs.Cert as discount
 use Rattle.mdp_discount_text.specs.Text as discount_text

@@ -7,3 +7,11 @@ pub mod Cert
 pub mod Plain
 pub mod Check
 pub mod Laws
+pub mod Between
+pub mod BoundsRules
+pub mod BoundsChecks
+pub mod BoundsSays
+pub mod BoundsCert
+pub mod BoundsPlain
+pub mod BoundsCheck
+pub mod BoundsLaws

@@ -22,7 +22,7 @@ pub enum DiscountAnswer {
 }
 
 /// The answer of a verdict.
-pub fn answer_of(verdict: Verdict) -> DiscountAnswer
+pub(crate) fn answer_of(verdict: Verdict) -> DiscountAnswer
     ensures { result ≡ answer_of verdict }
 {
     match verdict {

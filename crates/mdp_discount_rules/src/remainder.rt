@@ -7,7 +7,7 @@ use mdp_num::{Frac, Wide};
 use std::cmp::Ordering;
 
 /// The magnitude of a number.
-pub fn magnitude(number: &Frac) -> Frac
+pub(crate) fn magnitude(number: &Frac) -> Frac
     ensures { result ≡ magnitude number.now }
 {
     if number.sign() < 0 {

@@ -12,7 +12,7 @@ use Rattle.mdp_cert.specs.{Runs.{longest_runs}, Spelling.{run_text, run_lines}}
 use Rattle.mdp_cert.specs.Reading.{entry_at, state_at, run_at, longest_at, runs_from, entries_from, entries_to_end}
 use Rattle.mdp_discount_text.specs.{Text.{claim_to, claim_of, claim_at, remainder_at}, BoundsSpelling.{text_of}}
 use Rattle.mdp_discount_text.specs.Reading.{between_at, init_at, head_from, outcome, is_discount_claim}
-use Rattle.mdp_discount_bounds.specs.Cert.{Certificate}
+use Rattle.mdp_discount_rules.specs.BoundsCert.{Certificate}
 
 abbrev some : ℕ → Option ℚ
 some n = Some (ratio (pos n) 1)

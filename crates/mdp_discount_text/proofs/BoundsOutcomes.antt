@@ -6,7 +6,7 @@ use Rattle.mdp_text.specs.declared.error.Refusal.{Refusal}
 use Rattle.mdp_text.proofs.Exact.{FoundText}
 use Rattle.mdp_cert.specs.{declared.version.Version.TheVariants.{Two}, Pairs.{IsShort}}
 use Rattle.mdp_cert.proofs.{Columns.{same-words}, Parts.{all-of}}
-use Rattle.mdp_discount_bounds.specs.Cert.{Certificate, is_init, IsValueNarrow, Fits}
+use Rattle.mdp_discount_rules.specs.BoundsCert.{Certificate, is_init, IsValueNarrow, Fits}
 use Rattle.mdp_discount_text.specs.{Entries.{between_columns, IsEntryInWidth, entries_of}, BoundsSpelling.{version_text, init_text, text_of}}
 use Rattle.mdp_discount_text.specs.{Reading.{BoundsHead, init_at, head_from, certificate_of, outcome}, BoundsLaws.{AreSameWords}}
 use Rattle.mdp_discount_text.proofs.{Columns.{between-is_columns}, Entries.{Between, back, entries-of, entries-width}, Heads.{IsInit, init-lines}}

@@ -10,7 +10,7 @@ use Rattle.mdp_cert.specs.Cert as cert
 use Rattle.mdp_cert.specs.{Claims.{fraction_value, reward_value, reward_text}, Pairs.{IsShort, number_value, word_columns, pair_columns, IsPairInWidth}}
 use Rattle.mdp_cert.proofs.Columns.{IsColumns, IsValue, fraction-is_value, or-found, or-again, free-or, reward-found, reward-again, free-reward, reward-is_value}
 use Rattle.mdp_cert.proofs.WordByWord.{number-is_value, word-is_columns, pair-is_columns}
-use Rattle.mdp_discount_bounds.specs.Cert.{IsValueNarrow}
+use Rattle.mdp_discount_rules.specs.BoundsCert.{IsValueNarrow}
 use Rattle.mdp_discount_text.specs.{declared.entry.Lower.{Lower}, Entries.{priced_columns, lower, lower_text, lower_parse, lower_value, between_columns, IsEntryInWidth}}
 
 -- ---- a value in width, as mdp_cert has it

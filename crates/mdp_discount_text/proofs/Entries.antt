@@ -5,7 +5,7 @@ use Rattle.std.specs.List.{All}
 use Rattle.mdp_math.specs.Rational.{ℚ}
 use Rattle.mdp_cert.specs.{declared.pair.Pair.{Pair}, Pairs.{IsShort, IsPairInWidth, pair, pairs}}
 use Rattle.mdp_cert.proofs.{Bodies.{Each}, Parts.{all-each}, WordByWord.{inside, pair-at, both, count, behind, each-pair}}
-use Rattle.mdp_discount_bounds.specs.Cert.{IsValueNarrow}
+use Rattle.mdp_discount_rules.specs.BoundsCert.{IsValueNarrow}
 use Rattle.mdp_discount_text.specs.{declared.entry.Lower.{Lower}, Entries.{lower, IsEntryInWidth, entries_of}}
 
 abbrev pub Between : Type 0

@@ -12,7 +12,7 @@ use Rattle.mdp_text.proofs.{Pieces.{Free}, Cuts.{bytes_same}, Feeds.{bind_ok, ok
 use Rattle.mdp_text.proofs.{Joined.{free-join, free-whole, behind-again, behind-text}, States.{three-words}}
 use Rattle.mdp_discount_text.proofs.{FourLines.{AreInits}, Columns.{lower-found, lower-again, free-lower, upper-found, upper-again, free-upper}}
 use Rattle.mdp_discount_text.proofs.FourLines as four
-use Rattle.mdp_discount_bounds.specs.{Cert.{is_init, IsValueNarrow}, declared.init.InitialBounds.{InitialBounds}}
+use Rattle.mdp_discount_rules.specs.{BoundsCert.{is_init, IsValueNarrow}, declared.bounds_init.InitialBounds.{InitialBounds}}
 use Rattle.mdp_discount_text.specs.{Entries.{lower_text, lower_parse}, BoundsSpelling.{init_text}}
 use Rattle.mdp_discount_text.specs.Reading.{lower_at, upper_at, between_at, init_at, BoundsHead, head_from}
 

@@ -1,7 +1,7 @@
 -- Certificates of bounds of discounted rewards and their texts.
 use Rattle.std.specs.Prelude.{◌≡◌, ◌↔◌, ℕ, List, Ok}
 use Rattle.mdp_cert.specs.Laws.{IsSameWords}
-use Rattle.mdp_discount_bounds.specs.Cert.{Certificate, Fits}
+use Rattle.mdp_discount_rules.specs.BoundsCert.{Certificate, Fits}
 use Rattle.mdp_discount_text.specs.{Entries.{between_columns, IsEntryInWidth}, BoundsSpelling.{text_of}, Reading.{outcome}}
 
 -- what is read is the certificate of which the bytes are the text

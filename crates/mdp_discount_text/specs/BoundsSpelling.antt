@@ -3,7 +3,7 @@ use Rattle.std.specs.Prelude.{ℕ, List, ◌++◌, length, decimal, codes, Optio
 use Rattle.mdp_text.specs.Spelling.{line, ◌␣◌, states_text}
 use Rattle.mdp_cert.specs.{declared.version.Version.TheVariants.{Two}, Claims.{reward_text}, Spelling.{closed_lines}}
 use Rattle.mdp_discount_text.specs.{Spelling.{claim_text, remainder_text}, Entries.{lower_text, between_columns, entries_of}}
-use Rattle.mdp_discount_bounds.specs.{Cert.{Certificate}, declared.init.InitialBounds.{InitialBounds}}
+use Rattle.mdp_discount_rules.specs.{BoundsCert.{Certificate}, declared.bounds_init.InitialBounds.{InitialBounds}}
 
 abbrev pub version_text : List ℕ
 version_text = codes "mdp-bounds 1"

@@ -6,7 +6,7 @@ use Rattle.mdp_math.specs.Rational.{ℚ}
 use Rattle.mdp_num.specs.{Value.{spelling}, Canonical.{canonical_of}}
 use Rattle.mdp_cert.specs.{Runs.{Columns}, Claims.{Value, fraction_value, reward_value, reward_same}, declared.pair.Pair.{Pair}}
 use Rattle.mdp_cert.specs.Pairs.{IsShort, number_value, word_columns, pair_columns, IsPairInWidth, pairs}
-use Rattle.mdp_discount_bounds.specs.Cert.{IsValueNarrow}
+use Rattle.mdp_discount_rules.specs.BoundsCert.{IsValueNarrow}
 use Rattle.mdp_discount_text.specs.declared.entry.Lower.{Lower}
 
 abbrev pub priced_columns : Columns (Pair ℚ ℕ)

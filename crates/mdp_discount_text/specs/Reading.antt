@@ -10,7 +10,7 @@ use Rattle.mdp_text.specs.Words.{first_of, words_behind, whole_at, reward_parse,
 use Rattle.mdp_cert.specs.{declared.version.Version.TheVariants.{Two}, declared.pair.Pair.{Pair}, Reading.{entries_to_end}}
 use Rattle.mdp_discount_text.specs.{Text.{DiscountHead, head_with}, declared.entry.Lower.{Lower}, Entries.{lower_parse, between_columns}}
 use Rattle.mdp_discount_text.specs.BoundsSpelling.{version_text}
-use Rattle.mdp_discount_bounds.specs.{Cert.{Certificate}, declared.init.InitialBounds.{InitialBounds}}
+use Rattle.mdp_discount_rules.specs.{BoundsCert.{Certificate}, declared.bounds_init.InitialBounds.{InitialBounds}}
 
 -- ---- the line `init`
 

@@ -6,7 +6,7 @@ use crate::claim_line::{ClaimLine, claim_at};
 use crate::head_lines::remainder_at;
 use crate::lower::lower_of;
 use mdp_cert::three_words;
-use mdp_discount_bounds::InitialBounds;
+use mdp_discount_rules::InitialBounds;
 use mdp_num::Frac;
 use mdp_text::{
     CertError, CertKind, Refusal, next_line, or_refused, refuse_if, reward_of, states_from,

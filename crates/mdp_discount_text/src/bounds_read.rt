@@ -1,12 +1,12 @@
 ghost use Rattle.std.specs.Prelude.{◌≡◌, Ok, IfOk, IfErr};
 ghost use Rattle.mdp_text.specs.{Answer.{Refuses}, Lines.{nothing_behind}};
-ghost use Rattle.mdp_discount_bounds.specs.Plain.{plain};
+ghost use Rattle.mdp_discount_rules.specs.BoundsPlain.{plain};
 ghost use Rattle.mdp_discount_text.specs.Reading.{outcome};
 
 use crate::bounds_head_lines::head_from;
 use crate::bounds_state_lines::bounds_of;
 use mdp_cert::{Version, entries_to_end};
-use mdp_discount_bounds::DiscountBoundsCert;
+use mdp_discount_rules::DiscountBoundsCert;
 use mdp_text::{CertError, CertKind, is_line, next_line, nothing_behind};
 use std::alloc::Global;
 

@@ -4,7 +4,7 @@ ghost use Rattle.mdp_discount_text.specs.Entries.{lower_value, entries_of};
 use crate::entry::Lower;
 use crate::lower::{lower_of, lower_part};
 use mdp_cert::{Behind, Column, First, Lists, Others, Pair, Value, column_of};
-use mdp_discount_bounds::DiscountBounds;
+use mdp_discount_rules::DiscountBounds;
 use mdp_num::{Frac, Memory};
 use mdp_text::push_parts;
 use std::alloc::{AllocError, Global};

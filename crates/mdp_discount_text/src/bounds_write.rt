@@ -1,14 +1,14 @@
 ghost use Rattle.std.specs.Prelude.{◌≡◌, ◌++◌, ◌∷◌, Some, OnOk, OnErr};
 ghost use Rattle.mdp_text.specs.{Answer.{Keeps}, Spelling.{line}};
 ghost use Rattle.mdp_cert.specs.{declared.version.Version.TheVariants.{Two}, Spelling.{closed_lines}};
-ghost use Rattle.mdp_discount_bounds.specs.Plain.{plain};
+ghost use Rattle.mdp_discount_rules.specs.BoundsPlain.{plain};
 ghost use Rattle.mdp_discount_text.specs.{Entries.{lower_text, between_columns, entries_of}, BoundsSpelling.{init_text, head_text, text_of}};
 
 use crate::bounds_state_lines::LentBounds;
 use crate::lower::lower_part;
 use crate::push::{push_claim, push_remainder};
 use mdp_cert::{Version, push_to_end, push_value};
-use mdp_discount_bounds::{DiscountBoundsCert, InitialBounds};
+use mdp_discount_rules::{DiscountBoundsCert, InitialBounds};
 use mdp_num::Memory;
 use mdp_text::Part::Bytes;
 use mdp_text::{or_cut_back, push_number, push_parts, push_start};

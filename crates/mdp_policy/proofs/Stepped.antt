@@ -6,7 +6,7 @@ use Rattle.mdp_rows.specs.declared.dir.Dir.TheVariants.{Max, Min}
 use Rattle.mdp_horizon.specs.{Table.{unfolded_steps, IsTable}, Between.{Claimed, MaxBetween, MinBetween}, Objective.{Objective, value_of}, Objective.Objective.{until, total as total_in}}
 use Rattle.mdp_horizon.proofs.Backward.{unfolded_steps_fits}
 use Rattle.mdp_discount_rules.specs.{Disc.{disc}, Rules.{IsFactor}}
-use Rattle.mdp_discount_bounds.specs.Between.{DiscountMaxBetween, DiscountMinBetween}
+use Rattle.mdp_discount_rules.specs.Between.{DiscountMaxBetween, DiscountMinBetween}
 use Rattle.mdp_policy.specs.{Chain.{chain_of}, ChainLaws.{TotalIsOwn, StepBoundsAreOwn, DiscountBoundsAreOwn}, Own.{IsOwn, OwnTotal, OwnWithin, OwnDiscountBetween}}
 use Rattle.mdp_policy.proofs.{Chains.{chain_is_mdp}, Trees.{totals_kept, untils_kept, discounts_kept}, Owned.{inside, tree_of}}
 

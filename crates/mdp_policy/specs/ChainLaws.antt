@@ -6,7 +6,7 @@ use Rattle.mdp_spec.specs.Between.{ReachMaxBetween, ReachMinBetween, RewardMaxBe
 use Rattle.mdp_rows.specs.declared.dir.Dir.{Dir}
 use Rattle.mdp_horizon.specs.{Bounds.{BoundedMax, BoundedMin, TotalMax, TotalMin}, Between.{MaxBetween, MinBetween}, Objective.{Objective}}
 use Rattle.mdp_discount_rules.specs.{Bounds.{DiscountBound}, Rules.{IsFactor}}
-use Rattle.mdp_discount_bounds.specs.Between.{DiscountBetween}
+use Rattle.mdp_discount_rules.specs.Between.{DiscountBetween}
 use Rattle.mdp_policy.specs.{Chain.{chain_of}, Own.{IsChainOf, AreOwn, OwnReach, OwnReward, OwnMean, OwnBounded, OwnTotal, OwnWithin, OwnDiscount, OwnDiscountBetween}}
 
 -- ---- the chain itself

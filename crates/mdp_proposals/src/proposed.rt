@@ -9,7 +9,7 @@ use std::alloc::{AllocError, Global};
 pub const MOST_DIGITS: u32 = 30;
 
 /// A value in units of 1 over `one` as a fraction; 0 where that is none in width.
-pub fn fraction(value: i128, one: i128) -> Frac {
+pub(crate) fn fraction(value: i128, one: i128) -> Frac {
     match Frac::try_new(value, one) {
         Ok(fraction) => fraction,
         Err(_) => Frac::whole(0),

@@ -4,6 +4,7 @@ ghost use Rattle.std.specs.Prelude.{◌≡◌, length, IfOk};
 
 use crate::proposed::fraction;
 use mdp_num::Frac;
+use mdp_refinement::item_at;
 use std::alloc::{AllocError, Global};
 
 /// How many terms of a continued fraction are looked at: fractions within 127 bits have fewer.
@@ -119,15 +120,6 @@ fn simplest_of_units(lower: i128, upper: i128, one: i128) -> Frac {
     match simplest_terms(low, high) {
         Some(simplest) => simplest,
         None => fraction(lower, one),
-    }
-}
-
-/// The item at a place, another one outside.
-fn item_at<T: Copy>(items: &[T], place: usize, other: T) -> T {
-    if place < items.len() {
-        items[place]
-    } else {
-        other
     }
 }
 

@@ -8,8 +8,8 @@ use Rattle.mdp_spec.specs.{Mdp.{Mdp, choice_at, row_at, value_at}, Row.{row_sum}
 use Rattle.mdp_spec.specs.{Bounds.{reward_at, finite_part, infinite}, RewardRules.{StaysFinite}}
 use Rattle.mdp_rows.specs.{declared.dir.Dir.{Dir}, declared.dir.Dir.TheVariants.{Max, Min}, Better.{IsAsGood}}
 use Rattle.mdp_discount_rules.specs.Rules.{discounted, MeetsDiscount}
-use Rattle.mdp_discount_bounds.specs.Rules.{left_for, Allows, greatest_magnitude, MeetsDiscountBetween}
-use Rattle.mdp_discount_bounds.specs.{Checks.{IsDiscountBounds}, declared.bounds.DiscountBounds.{DiscountBounds}}
+use Rattle.mdp_discount_rules.specs.BoundsRules.{left_for, Allows, greatest_magnitude, MeetsDiscountBetween}
+use Rattle.mdp_discount_rules.specs.{BoundsChecks.{IsDiscountBounds}, declared.bounds.DiscountBounds.{DiscountBounds}}
 use Rattle.mdp_search_bounds.specs.{Near.{IsValueNear, AreValuesNear}, Wide.{IsInWidth}, DiscountHeld.{AreExactBounds}}
 use Rattle.mdp_search_bounds.proofs.{Best.{good_same}, Nearness.{near_same}}
 

@@ -5,7 +5,7 @@ use Rattle.std.specs.List.{All}
 use Rattle.mdp_math.specs.Rational.{ℚ}
 use Rattle.mdp_spec.specs.{Mdp.{Mdp, states_of, choices_at}, Row.{IsMdp}}
 use Rattle.mdp_farkas.specs.Compare.{0ℚ}
-use Rattle.mdp_discount_bounds.specs.Checks.{IsTrivialDiscount}
+use Rattle.mdp_discount_rules.specs.BoundsChecks.{IsTrivialDiscount}
 
 all_none : (states : List ℕ) (values : List (Option ℚ)) → values ≡ map (λ s. None) states → All (λ x. x ≡ None) values
 all_none states values e =

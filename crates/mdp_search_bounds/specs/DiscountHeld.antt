@@ -3,7 +3,7 @@ use Rattle.std.specs.Prelude.{◌≡◌, ℕ, List, length, map, Some}
 use Rattle.mdp_math.specs.Rational.{ℚ}
 use Rattle.mdp_spec.specs.Mdp.{Mdp, states_of}
 use Rattle.mdp_rows.specs.declared.dir.Dir.{Dir}
-use Rattle.mdp_discount_bounds.specs.{Checks.{IsDiscountBounds}, Rules.{greatest_magnitude}, declared.bounds.DiscountBounds.{DiscountBounds}}
+use Rattle.mdp_discount_rules.specs.{BoundsChecks.{IsDiscountBounds}, BoundsRules.{greatest_magnitude}, declared.bounds.DiscountBounds.{DiscountBounds}}
 
 -- one item of each list for each state
 pub record HasDiscountSizes (m : Mdp) (bounds : DiscountBounds) : Type 0 where

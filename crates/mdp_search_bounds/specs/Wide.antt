@@ -10,7 +10,7 @@ use Rattle.mdp_mean.specs.Query as mean
 use Rattle.mdp_discount.specs.Query as discount
 use Rattle.mdp_discount_rules.specs.Cert.{Certificate}
 use Rattle.mdp_farkas.specs.Verdict.{InWidth}
-use Rattle.mdp_discount_bounds.specs.{Checks.{discount_bounds_checks}, Rules.{greatest_magnitude}}
+use Rattle.mdp_discount_rules.specs.{BoundsChecks.{discount_bounds_checks}, BoundsRules.{greatest_magnitude}}
 
 -- the query of the greatest, or the least, probability to reach a goal ends with a term past width
 abbrev pub IsReachWide : Dir → Mdp → List Bool → Type 0

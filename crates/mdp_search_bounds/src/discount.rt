@@ -1,7 +1,7 @@
 ghost use Rattle.std.specs.Prelude.{◌≡◌, ◌<◌, ◌⊎◌, ℕ, true, length, map, Some, IsSome, IfOk, IfSome};
 ghost use Rattle.mdp_spec.specs.{Mdp.{states_of}, Bounds.{reward_at}};
 ghost use Rattle.mdp_discount_rules.specs.{Rules.{IsFactor}, Checks.{IsDiscount}};
-ghost use Rattle.mdp_discount_bounds.specs.Checks.{IsDiscountBounds};
+ghost use Rattle.mdp_discount_rules.specs.BoundsChecks.{IsDiscountBounds};
 ghost use Rattle.mdp_search_bounds.specs.{DiscountHeld.{HasDiscountSizes, IsHeldDiscount, AreExactBounds}, Near.{AreValuesNear}, Wide.{IsDiscountWide}};
 
 use crate::finite::finite_bounds;
@@ -9,13 +9,14 @@ use crate::gap::Gap;
 use crate::ladder::{Search, bounds_by};
 use crate::missing::missing_discount;
 use mdp_discount::solve_discount;
-use mdp_discount_bounds::{
-    DiscountBounds, Verdict, discount_bounds_at_state, greatest_magnitude, holds_bounds_discount,
+use mdp_discount_rules::{
+    DiscountBounds, DiscountCert, Verdict, discount_bounds_at_state, greatest_bounds_magnitude,
+    holds_bounds_discount,
 };
-use mdp_discount_rules::DiscountCert;
 use mdp_num::{Frac, Memory};
-use mdp_proposals::{all_capped, listed, numbers, simplest_rewards};
-use mdp_reach_search::{ProposedDiscount, propose_discount};
+use mdp_proposals::{
+    ProposedDiscount, all_capped, listed, numbers, propose_discount, simplest_rewards,
+};
 use mdp_rows::{Dir, Model};
 use mdp_wide::SolveError;
 use std::alloc::{AllocError, Global};
@@ -45,7 +46,7 @@ fn simplest_bounds(
     let lower = simplest_rewards(alloc, states, &bounds.lower, &bounds.upper, is_sought)?;
     let upper = all_capped(alloc, states, &lower, &bounds.upper)?;
     let choices = bounds.choices.clone()?;
-    let remainder = greatest_magnitude(&lower, &upper);
+    let remainder = greatest_bounds_magnitude(&lower, &upper);
     Ok(DiscountBounds {
         lower,
         upper,
@@ -82,7 +83,7 @@ impl Discounting<'_> {
     {
         let lower = some_values(alloc, &answer.values)?;
         let upper = some_values(alloc, &answer.values)?;
-        let remainder = greatest_magnitude(&lower, &upper);
+        let remainder = greatest_bounds_magnitude(&lower, &upper);
         Ok(DiscountBounds {
             lower,
             upper,

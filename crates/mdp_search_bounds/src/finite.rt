@@ -3,7 +3,7 @@
 ghost use Rattle.std.specs.Prelude.{◌≡◌, ◌<◌, length, IfOk};
 
 use crate::extent::extreme;
-use mdp_discount_bounds::{DiscountBounds, greatest_magnitude};
+use mdp_discount_rules::{DiscountBounds, greatest_bounds_magnitude};
 use mdp_num::Frac;
 use mdp_rows::{Dir, Model};
 use std::alloc::{AllocError, Global};
@@ -71,7 +71,7 @@ pub(crate) fn finite_bounds(
     let most = extent(model, name, factor);
     let below = filled(alloc, lower, &opposite(&most))?;
     let above = filled(alloc, upper, &most)?;
-    let remainder = greatest_magnitude(&below, &above);
+    let remainder = greatest_bounds_magnitude(&below, &above);
     Ok(DiscountBounds {
         lower: below,
         upper: above,

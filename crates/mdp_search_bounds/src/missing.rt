@@ -1,8 +1,8 @@
 ghost use Rattle.std.specs.{Prelude.{◌≡◌, length, map, None, IfOk}, List.{range_with_len}};
 ghost use Rattle.mdp_spec.specs.Mdp.{states_of};
-ghost use Rattle.mdp_discount_bounds.specs.Checks.{IsTrivialDiscount};
+ghost use Rattle.mdp_discount_rules.specs.BoundsChecks.{IsTrivialDiscount};
 
-use mdp_discount_bounds::DiscountBounds;
+use mdp_discount_rules::DiscountBounds;
 use mdp_num::{Frac, Memory};
 use mdp_rows::Model;
 use std::alloc::{AllocError, Global};

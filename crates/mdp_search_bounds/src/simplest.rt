@@ -4,10 +4,11 @@ ghost use Rattle.std.specs.Prelude.{IfOk};
 ghost use Rattle.mdp_search_bounds.specs.Held.{HasReachSizes, HasRewardSizes, HasMeanSizes};
 
 use mdp_bounds::{MeanBoundsCert, ReachBoundsCert, RewardBoundsCert};
-use mdp_mean_search::ProposedMean;
 use mdp_num::Frac;
-use mdp_proposals::{all_capped, numbers, simplest_near_values, simplest_rewards, simplest_values};
-use mdp_reach_search::{ProposedReach, ProposedReward};
+use mdp_proposals::{
+    ProposedMean, ProposedReach, ProposedReward, all_capped, numbers, simplest_near_values,
+    simplest_rewards, simplest_values,
+};
 use mdp_rows::Model;
 use std::alloc::{AllocError, Global};
 use std::cmp::Ordering;

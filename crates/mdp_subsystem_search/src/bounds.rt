@@ -9,8 +9,7 @@ use crate::trivial::least_values;
 use mdp_bounds::{ReachBoundsCert, holds_bounds_reach, value_stands};
 use mdp_claims::Verdict;
 use mdp_num::{Frac, Memory};
-use mdp_proposals::{fractions, numbers};
-use mdp_reach_search::propose_reach;
+use mdp_proposals::{fractions, numbers, propose_reach};
 use mdp_rows::{Dir, Model};
 use std::alloc::{AllocError, Global};
 

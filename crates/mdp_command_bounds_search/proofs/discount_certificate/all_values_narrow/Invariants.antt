@@ -1,5 +1,5 @@
 use Rattle.std.specs.List.{AllWithin}
-use Rattle.mdp_discount_bounds.specs.Cert.{IsValueNarrow}
+use Rattle.mdp_discount_rules.specs.BoundsCert.{IsValueNarrow}
 use Rattle.mdp_command_bounds_search.proofs.discount_certificate.all_values_narrow.Given as goal
 
 abbrev pub invariant-loop-value : goal.invariant-loop-value

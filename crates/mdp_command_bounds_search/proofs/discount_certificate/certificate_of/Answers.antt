@@ -1,7 +1,7 @@
 use Rattle.std.proofs.Common.{◌≡◌, ℕ, ◌<◌, ◌≤◌, ◌^◌, List, Some, refl, sym, ap, subst, ◌∙◌, arith}
 use Rattle.std.specs.List.{All}
 use Rattle.mdp_spec.specs.{Labels.{place_of}, Mdp.{Mdp}}
-use Rattle.mdp_discount_bounds.specs.Cert.{IsValueNarrow}
+use Rattle.mdp_discount_rules.specs.BoundsCert.{IsValueNarrow}
 use Rattle.mdp_rows.specs.Name.{IsName, IsRewardName}
 use Rattle.mdp_rows.proofs.FoundNames.{found_among, name_of_reward}
 use Rattle.mdp_command_bounds_search.proofs.discount_certificate.certificate_of.Goals as goal

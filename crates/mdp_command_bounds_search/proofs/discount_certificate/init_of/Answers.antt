@@ -3,7 +3,7 @@ use Rattle.mdp_math.specs.Rational.{ℚ, of_int}
 use Rattle.mdp_spec.specs.{Labels.{initial_of}, Mdp.{Mdp, states_of}}
 use Rattle.mdp_claims.specs.declared.verdict.Verdict.TheVariants.{Yes}
 use Rattle.mdp_text.proofs.InitialState.{initial_below}
-use Rattle.mdp_discount_bounds.specs.Check.{init_check}
+use Rattle.mdp_discount_rules.specs.BoundsCheck.{init_check}
 use Rattle.mdp_command_bounds_search.proofs.DiscountPrinting.{init_right}
 use Rattle.mdp_command_bounds_search.proofs.discount_certificate.init_of.Goals as goal
 

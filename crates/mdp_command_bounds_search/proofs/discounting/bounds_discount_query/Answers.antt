@@ -1,5 +1,5 @@
 use Rattle.std.proofs.Common.{◌⊎◌, sym, subst}
-use Rattle.mdp_discount_bounds.specs.{Plain.{plain}, declared.bounds.DiscountBounds.{DiscountBounds}}
+use Rattle.mdp_discount_rules.specs.{BoundsPlain.{plain}, declared.bounds.DiscountBounds.{DiscountBounds}}
 use Rattle.mdp_search_bounds.specs.{Near.{AreValuesNear}, Wide.{IsDiscountWide}}
 use Rattle.mdp_command_bounds_search.proofs.DiscountPrinting.{printed, text_due}
 use Rattle.mdp_command_bounds_search.proofs.discounting.bounds_discount_query.Goals as goal

@@ -1,5 +1,5 @@
 use Rattle.mdp_text.proofs.Exact.{read-from, one-text-of}
-use Rattle.mdp_discount_bounds.specs.Cert.{Fits}
+use Rattle.mdp_discount_rules.specs.BoundsCert.{Fits}
 use Rattle.mdp_discount_text.specs.{BoundsSpelling.{text_of}, Reading.{outcome}}
 use Rattle.mdp_discount_text.proofs.BoundsOutcomes.{cert-found, cert-again, are-same-words}
 use Rattle.mdp_discount_text.proofs.bounds_laws.discount_bounds_text_law.Goals as goal

@@ -3,7 +3,7 @@ use Rattle.mdp_math.specs.Rational.{ℚ}
 use Rattle.mdp_text.specs.Lines.{place}
 use Rattle.mdp_cert.specs.declared.version.Version.TheVariants.{Two}
 use Rattle.mdp_cert.proofs.Bodies.{closed-found}
-use Rattle.mdp_discount_bounds.specs.Cert.{is_init}
+use Rattle.mdp_discount_rules.specs.BoundsCert.{is_init}
 use Rattle.mdp_discount_text.specs.{BoundsCode.{plain_head}, Entries.{between_columns, IsEntryInWidth}}
 use Rattle.mdp_discount_text.proofs.{Columns.{between-is_columns}, Entries.{Between}, Heads.{head-found}}
 use Rattle.mdp_discount_text.proofs.bounds_read.read_discount_bounds.Goals as goal

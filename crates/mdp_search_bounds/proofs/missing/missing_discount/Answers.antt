@@ -1,7 +1,7 @@
 use Rattle.std.proofs.{Common.{◌∙◌, ℕ, length, Option, replicate, ap, subst, sym, None}, lemmas.List.FromFn.{length-map-range_with_len}}
 use Rattle.std.specs.List.{range_with_len}
 use Rattle.mdp_math.specs.Rational.{ℚ}
-use Rattle.mdp_discount_bounds.specs.Checks.{IsTrivialDiscount}
+use Rattle.mdp_discount_rules.specs.BoundsChecks.{IsTrivialDiscount}
 use Rattle.mdp_search_bounds.proofs.Nothing.{nothing_said}
 use Rattle.mdp_search_bounds.proofs.missing.missing_discount.Goals as goal
 

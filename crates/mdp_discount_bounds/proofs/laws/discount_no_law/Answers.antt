@@ -1,9 +1,0 @@
-use Rattle.mdp_discount_bounds.proofs.{Rules.{discount_never_no}, Telling.{discount_refuted}, Saying.{discount_says}}
-use Rattle.mdp_discount_bounds.proofs.laws.discount_no_law.Goals as goal
-
-pub returns : goal.returns
-returns c = record {
-  never_no = λ dir m r f lower upper remainder policy fault known rules. discount_never_no dir m r f lower upper remainder policy known rules fault;
-  refuted = discount_refuted;
-  says = discount_says;
-}

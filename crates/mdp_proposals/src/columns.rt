@@ -1,0 +1,214 @@
+//! Both columns of bounds, the lower and the upper values, each with the most digits for which components can be refined.
+
+use crate::layout::Layout;
+use crate::proposed::fraction;
+use mdp_num::Frac;
+use mdp_refinement::{
+    Bound, Rows, Scale, Solution, Task, Value, append, flag_at, put, solve, value_at,
+};
+use mdp_rows::{Dir, Pred};
+use std::alloc::{AllocError, Global};
+
+/// How many digits fewer are tried for a bound, one after the other.
+const FEWER_DIGITS: [u32; 11] = [1, 3, 6, 9, 12, 15, 18, 21, 24, 27, 30];
+
+/// What is sought: the best values of nodes, which lie from the least to the greatest number, where there are such. Where values beyond these are put to them,
+/// the rules hold as before.
+#[derive(Clone, Copy)]
+pub(crate) struct Sought<'a> {
+    pub(crate) layout: Layout<'a>,
+    pub(crate) dir: Dir,
+    pub(crate) least: Option<i128>,
+    pub(crate) greatest: Option<i128>,
+    pub(crate) scale: Scale,
+}
+
+/// What the search came to for one bound: the values of nodes in units of 1 over `one`, and the choices that it picked.
+#[derive(Drop)]
+pub(crate) struct Column {
+    pub(crate) one: i128,
+    pub(crate) values: Vec<Value>,
+    pub(crate) picked: Vec<Pred>,
+    is_full: bool,
+}
+
+/// Both bounds.
+#[derive(Drop)]
+pub(crate) struct Columns {
+    pub(crate) lower: Column,
+    pub(crate) upper: Column,
+}
+
+/// The choices of the rows that were picked, but for those that stop.
+pub(crate) fn picked_choices(
+    alloc: Global,
+    rows: &Rows,
+    picks: &[Option<usize>],
+) -> Result<Vec<Pred>, AllocError> {
+    let mut picked = Vec::new(alloc);
+    for pick in picks {
+        match rows.picked(*pick) {
+            Some(row) if !row.is_stop() => {
+                let (state, choice) = (row.state, row.choice);
+                append(&mut picked, Pred { state, choice })?;
+            }
+            _ => {}
+        }
+    }
+    Ok(picked)
+}
+
+impl Columns {
+    /// The choices that a policy is to come to: those that were picked for the lower bound of greatest values, or for the upper one of least values.
+    pub(crate) fn picked(&self, dir: Dir) -> &[Pred] {
+        match dir {
+            Dir::Max => &self.lower.picked,
+            Dir::Min => &self.upper.picked,
+        }
+    }
+}
+
+impl Sought<'_> {
+    /// The least or the greatest number in units of 1 over `one`.
+    fn limit(self, bound: Bound, one: i128) -> Option<i128> {
+        match bound {
+            Bound::Lower => self.least?.checked_mul(one),
+            Bound::Upper => self.greatest?.checked_mul(one),
+        }
+    }
+
+    /// The values of the nodes whose states have a known value, in units of 1 over `one`.
+    fn given(self, alloc: Global, one: i128) -> Result<Vec<Value>, AllocError> {
+        let nodes = self.layout.nodes;
+        let mut given = vec![in alloc; Value::none(); nodes.count() as usize]?;
+        for state in nodes.order() {
+            if let Some(known) = value_at(self.layout.known, *state) {
+                put(
+                    &mut given,
+                    nodes.of(*state),
+                    Value::known(known.saturating_mul(one)),
+                );
+            }
+        }
+        Ok(given)
+    }
+
+    /// Solves for one bound, by what was found for the other on the same rows. It ends with the first component that can't be refined, unless it is to go to
+    /// the end.
+    fn solved(
+        self,
+        alloc: Global,
+        rows: &Rows,
+        bound: Bound,
+        to_end: bool,
+        other: Option<&Solution>,
+    ) -> Result<Solution, AllocError> {
+        let one = rows.one();
+        let task = Task {
+            is_max: self.dir == Dir::Max,
+            bound,
+            anyway: self.limit(bound, one),
+            to_end,
+        };
+        solve(alloc, rows, &self.given(alloc, one)?, task, other)
+    }
+
+    /// The same bound with the most digits, fewer than those of the scale, for which all components can be refined; else as far as the search goes with those of
+    /// the scale. Where fewer digits are tried there is at least as much room before the point as digits are left out.
+    fn coarser(self, alloc: Global, bound: Bound) -> Result<Column, AllocError> {
+        for fewer in FEWER_DIGITS {
+            let scale = Scale {
+                digits: self.scale.digits.saturating_sub(fewer),
+                room: self.scale.room.max(fewer),
+            };
+            let rows = self.layout.rows(alloc, scale)?;
+            let solution = self.solved(alloc, &rows, bound, false, None)?;
+            if solution.is_full {
+                return Column::of(alloc, &rows, solution);
+            }
+            if scale.digits == 0 {
+                break;
+            }
+        }
+        let rows = self.layout.rows(alloc, self.scale)?;
+        let solution = self.solved(alloc, &rows, bound, true, None)?;
+        Column::of(alloc, &rows, solution)
+    }
+
+    /// Both bounds with the digits of the scale, as far as the search goes with them.
+    pub(crate) fn columns(self, alloc: Global, to_end: bool) -> Result<Columns, AllocError> {
+        let rows = self.layout.rows(alloc, self.scale)?;
+        let lower = self.solved(alloc, &rows, Bound::Lower, to_end, None)?;
+        let other = if lower.is_full || to_end {
+            Some(&lower)
+        } else {
+            None
+        };
+        let upper = self.solved(alloc, &rows, Bound::Upper, to_end, other)?;
+        Ok(Columns {
+            lower: Column::of(alloc, &rows, lower)?,
+            upper: Column::of(alloc, &rows, upper)?,
+        })
+    }
+
+    /// Each bound with the digits of the scale, or with fewer where components can't be refined with these.
+    pub(crate) fn refined_columns(self, alloc: Global) -> Result<Columns, AllocError> {
+        let mut columns = self.columns(alloc, false)?;
+        if !columns.lower.is_full {
+            columns.lower = self.coarser(alloc, Bound::Lower)?;
+        }
+        if !columns.upper.is_full {
+            columns.upper = self.coarser(alloc, Bound::Upper)?;
+        }
+        Ok(columns)
+    }
+
+    /// The value of a state in units of 1 over `one` of the column, put within the limits; none where none was found.
+    pub(crate) fn units_at(self, column: &Column, state: u32) -> Option<i128> {
+        let value = value_at(&column.values, self.layout.nodes.of(state))?;
+        let least = self.limit(Bound::Lower, column.one).unwrap_or(i128::MIN);
+        let greatest = self.limit(Bound::Upper, column.one).unwrap_or(i128::MAX);
+        Some(value.max(least).min(greatest))
+    }
+
+    /// The values of the states in units; 0 where none was found.
+    pub(crate) fn units(self, alloc: Global, column: &Column) -> Result<Vec<i128>, AllocError> {
+        let states = self.layout.earning.model.states();
+        let mut units = vec![in alloc; 0i128; states as usize]?;
+        for s in 0..states {
+            put(&mut units, s, self.units_at(column, s).unwrap_or(0));
+        }
+        Ok(units)
+    }
+
+    /// The values of the states that aren't barred; none where none was found.
+    pub(crate) fn values(
+        self,
+        alloc: Global,
+        column: &Column,
+    ) -> Result<Vec<Option<Frac>>, AllocError> {
+        let states = self.layout.earning.model.states();
+        let mut values = vec![in alloc; None; states as usize]?;
+        for s in 0..states {
+            if !flag_at(self.layout.is_barred, s) {
+                if let Some(units) = self.units_at(column, s) {
+                    put(&mut values, s, Some(fraction(units, column.one)));
+                }
+            }
+        }
+        Ok(values)
+    }
+}
+
+impl Column {
+    /// What a solution on these rows says.
+    fn of(alloc: Global, rows: &Rows, solution: Solution) -> Result<Column, AllocError> {
+        let picked = picked_choices(alloc, rows, &solution.picks)?;
+        Ok(Column {
+            one: rows.one(),
+            values: solution.values,
+            picked,
+            is_full: solution.is_full,
+        })
+    }
+}

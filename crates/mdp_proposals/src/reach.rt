@@ -1,0 +1,186 @@
+//! The search for probabilities.
+
+ghost use Rattle.std.specs.Prelude.{◌≡◌, length};
+ghost use Rattle.mdp_spec.specs.Mdp.{states_of};
+
+use crate::columns::{Columns, Sought};
+use crate::decided::{Decided, decide};
+use crate::ends::{joined_nodes, led_policy, single_nodes, with_picked};
+use crate::layout::{Earning, Layout};
+use crate::proposed::MOST_DIGITS;
+use crate::ranks::{max_ranks, min_ranks};
+use mdp_num::Memory;
+use mdp_parts::end_components;
+use mdp_refinement::{Nodes, Scale, Value, flag_at, item_at, put};
+use mdp_rows::{Dir, Marks, Model};
+use std::alloc::{AllocError, Global};
+
+/// Whether each value is 0.
+fn are_zero(alloc: Global, values: &[i128]) -> Result<Vec<bool>, AllocError> {
+    values.iter().map(|value| *value == 0).collect(alloc)
+}
+
+/// Proposed bounds of probabilities: for each state a lower and an upper value in units of 1 over `one`, a choice and a rank. Nothing is promised of them, nor
+/// of how many there are.
+#[derive(Drop)]
+pub struct ProposedReach {
+    pub one: i128,
+    pub lower: Vec<i128>,
+    pub upper: Vec<i128>,
+    pub choices: Vec<u32>,
+    pub ranks: Vec<u32>,
+}
+
+impl ProposedReach {
+    /// Takes the ranks along the policy, past no state of lower value 0. Whether each state of another one has a rank.
+    fn take_ranks(
+        &mut self,
+        alloc: Global,
+        model: &Model,
+        goals: &Marks,
+    ) -> Result<bool, AllocError>
+        requires { length goals.now ≡ states_of model.now }
+    {
+        let is_zero = are_zero(alloc, &self.lower)?;
+        let ranks = max_ranks(alloc, model, goals, &self.choices, &is_zero)?;
+        let mut is_ranked = true;
+        for s in 0..model.states() {
+            let rank = item_at(&ranks, s as usize, None);
+            put(&mut self.ranks, s, rank.unwrap_or(0));
+            is_ranked = is_ranked && (flag_at(&is_zero, s) || rank.is_some());
+        }
+        Ok(is_ranked)
+    }
+
+    /// Leaves of the lower values those of 1 alone, which hold by the graph.
+    fn forget_lower(&mut self) {
+        for place in 0..self.lower.len() {
+            if self.lower[place] < self.one {
+                self.lower[place] = 0;
+            }
+        }
+    }
+}
+
+/// The probabilities that are sought on nodes, where some are known.
+fn sought_of<'a>(
+    model: &'a Model,
+    known: &'a [Value],
+    nodes: &'a Nodes,
+    dir: Dir,
+    digits: u32,
+) -> Sought<'a> {
+    let earning = Earning {
+        model,
+        name: None,
+        is_negated: false,
+    };
+    Sought {
+        layout: Layout {
+            known,
+            ..Layout::new(earning, nodes)
+        },
+        dir,
+        least: Some(0),
+        greatest: Some(1),
+        scale: Scale { digits, room: 0 },
+    }
+}
+
+/// The values of columns, with a policy and no ranks yet.
+fn proposed(
+    alloc: Global,
+    sought: Sought<'_>,
+    columns: &Columns,
+    choices: Vec<u32>,
+) -> Result<ProposedReach, AllocError> {
+    Ok(ProposedReach {
+        one: columns.lower.one,
+        lower: sought.units(alloc, &columns.lower)?,
+        upper: sought.units(alloc, &columns.upper)?,
+        ranks: vec![in alloc; 0; choices.len()]?,
+        choices,
+    })
+}
+
+/// Bounds where each state is a node, without ranks.
+fn single(
+    alloc: Global,
+    model: &Model,
+    decided: &Decided,
+    dir: Dir,
+    digits: u32,
+) -> Result<ProposedReach, AllocError> {
+    let nodes = single_nodes(alloc, model.states())?;
+    let sought = sought_of(model, &decided.known, &nodes, dir, digits);
+    let columns = sought.columns(alloc, true)?;
+    let choices = with_picked(alloc, columns.picked(dir), &decided.choices)?;
+    proposed(alloc, sought, &columns, choices)
+}
+
+/// Bounds of the greatest probabilities, without ranks: the states of an end component share one. Where the graph decides all there is none to look for.
+fn joined(
+    alloc: Global,
+    model: &Model,
+    decided: &Decided,
+    digits: u32,
+) -> Result<ProposedReach, Memory> {
+    if decided.known.iter().all(|value| value.units().is_some()) {
+        return Ok(single(alloc, model, decided, Dir::Max, digits)?);
+    }
+    let ends = end_components(alloc, model)?;
+    let nodes = joined_nodes(alloc, model, &ends, &decided.known)?;
+    let sought = sought_of(model, &decided.known, &nodes, Dir::Max, digits);
+    let columns = sought.columns(alloc, true)?;
+    let picked = &columns.lower.picked;
+    let choices = led_policy(alloc, model, &ends, picked, &decided.choices)?;
+    Ok(proposed(alloc, sought, &columns, choices)?)
+}
+
+/// Bounds of the greatest probabilities.
+fn greatest(
+    alloc: Global,
+    model: &Model,
+    goals: &Marks,
+    digits: u32,
+) -> Result<ProposedReach, Memory>
+    requires { length goals.now ≡ states_of model.now }
+{
+    let decided = decide(alloc, model, goals, Dir::Max)?;
+    let mut near = joined(alloc, model, &decided, digits)?;
+    if !near.take_ranks(alloc, model, goals)? {
+        near.forget_lower();
+        near.take_ranks(alloc, model, goals)?;
+    }
+    Ok(near)
+}
+
+/// Bounds of the least probabilities. There is no end component where the graph doesn't decide the value.
+fn least(alloc: Global, model: &Model, goals: &Marks, digits: u32) -> Result<ProposedReach, Memory>
+    requires { length goals.now ≡ states_of model.now }
+{
+    let decided = decide(alloc, model, goals, Dir::Min)?;
+    let mut near = single(alloc, model, &decided, Dir::Min, digits)?;
+    near.ranks = min_ranks(alloc, model, goals, &near.lower)?;
+    Ok(near)
+}
+
+/// Proposes bounds of the greatest or the least probability to reach a goal, as multiples of 10 to the power of -`digits` where the rows allow it,
+/// with a policy and ranks.
+///
+/// The graph decides where the probability is 0 or 1. Elsewhere components are solved, successors first: floats give corrections to values in whole
+/// numbers, whose residuals are exact (iterative refinement).
+pub fn propose_reach(
+    alloc: Global,
+    model: &Model,
+    goals: &Marks,
+    dir: Dir,
+    digits: u32,
+) -> Result<ProposedReach, Memory>
+    requires goals { length goals.now ≡ states_of model.now }
+{
+    match dir {
+        Dir::Max => greatest(alloc, model, goals, digits.min(MOST_DIGITS)),
+        Dir::Min => least(alloc, model, goals, digits.min(MOST_DIGITS)),
+    }
+}

@@ -1,5 +1,0 @@
-use Rattle.std.proofs.Common.{◌≡◌}
-use Rattle.mdp_reach_search.proofs.layout.Layout.free_model.Given as goal
-
-abbrev pub invariant-loop-s : goal.invariant-loop-s
-invariant-loop-s l = l.builder.names ≡ l.self.earning.model.now.names
