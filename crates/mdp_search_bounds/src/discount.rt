@@ -138,6 +138,10 @@ impl Search for Discounting<'_> {
         self.model
     }
 
+    fn first_digits(&self, _digits: u32) -> Option<u32> {
+        None
+    }
+
     fn propose(&self, alloc: Global, digits: u32) -> Result<ProposedDiscount, Memory> {
         propose_discount(alloc, self.model, self.name, self.dir, self.factor, digits)
     }

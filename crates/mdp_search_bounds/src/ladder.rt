@@ -48,6 +48,9 @@ pub(crate) trait Search {
     /// The model.
     fn model(&self) -> &Model;
 
+    /// With how many digits the search begins, where so few come as near as `digits` say as a rule: of a large model more of them take long.
+    fn first_digits(&self, digits: u32) -> Option<u32>;
+
     /// What the search proposes with so many digits.
     fn propose(&self, alloc: Global, digits: u32) -> Result<Self::Proposal, Memory>
         ensures { IfOk result (is_made self.now digits) };
@@ -240,12 +243,30 @@ fn held_between<S: Search>(
     Ok(None)
 }
 
+/// What the search finds with those digits with which it begins, where the rules say yes to it and it is as near as `digits` say.
+fn held_first<S: Search>(alloc: Global, search: &S, digits: u32) -> Result<Option<S::Cert>, Memory>
+    ensures held { IfOk result (λ found. IfSome found (S.is_held search.now)) }
+    ensures found { IfOk result (λ found. IfSome found (S.is_found search.now)) }
+{
+    let Some(few) = search.first_digits(digits) else {
+        return Ok(None);
+    };
+    let first = held_near(alloc, search, few)?;
+    if gap_of(search, &first).is_near(digits) {
+        return Ok(first);
+    }
+    Ok(None)
+}
+
 /// What the search finds, where the rules say yes to it: with the most digits, or with fewer where these aren't as near as `digits` say and fewer are nearer.
 fn held_found<S: Search>(alloc: Global, search: &S, digits: u32) -> Result<Option<S::Cert>, Memory>
     ensures held { IfOk result (λ found. IfSome found (S.is_held search.now)) }
     ensures found { IfOk result (λ found. IfSome found (S.is_found search.now)) }
     ensures none { IfOk result (λ found. IfNone found (IsVain (S.is_proposed search.now) (S.is_held search.now) 30)) }
 {
+    if let Some(first) = held_first(alloc, search, digits)? {
+        return Ok(Some(first));
+    }
     let found = held_with_most(alloc, search, digits)?;
     let gap = gap_of(search, &found);
     if gap.is_near(digits) {

@@ -17,6 +17,12 @@ use mdp_rows::{Dir, Model};
 use mdp_wide::SolveError;
 use std::alloc::{AllocError, Global};
 
+/// Of more states a mean payoff is first searched with few digits: how near its bounds come is measured as they are found, and hardly grows with the model.
+const MANY_STATES: u32 = 10_000;
+
+/// How many digits more than were asked for are tried then.
+const FIRST_SPARE: u32 = 1;
+
 /// The search for bounds of the mean payoff of a name.
 #[derive(Clone, Copy)]
 struct Averaging<'m> {
@@ -67,6 +73,13 @@ impl Search for Averaging<'_> {
 
     fn model(&self) -> &Model {
         self.model
+    }
+
+    fn first_digits(&self, digits: u32) -> Option<u32> {
+        if self.model.states() > MANY_STATES {
+            return Some(digits.saturating_add(FIRST_SPARE));
+        }
+        None
     }
 
     fn propose(&self, alloc: Global, digits: u32) -> Result<ProposedMean, Memory> {
