@@ -6,7 +6,7 @@ use Rattle.mdp_job.specs.Job.{PlainTask, solve, witness, horizon, total, discoun
 use Rattle.mdp_job.specs.Job.{PlainPairTask, check, policy, chain, discount_check, bounds_check, on_model, on_pair, drill, Asked}
 use Rattle.mdp_command.specs.{Kinds.{discounted, checker_for}, CheckShown.{IsYes}, Shown.{IsShownOf}, declared.kind.CertificateKind.TheVariants.{Bounds}}
 use Rattle.mdp_command_solve.specs.{Solved.{IsPrinted}, Drilled.{IsDrilled}, WitnessShown.{IsWitnessPrinted}, DiscountShown.{IsDiscountPrinted}}
-use Rattle.mdp_command_horizon.specs.{BoundsShown.{AreUntilBoundsPrinted, AreTotalBoundsPrinted}, CurveShown.{IsUntilCurvePrinted, IsTotalCurvePrinted}, Shown.{IsHorizonPrinted, IsTotalPrinted}}
+use Rattle.mdp_command_horizon.specs.{BoundsPrinted.{AreUntilBoundsPrinted, AreTotalBoundsPrinted}, CurvePrinted.{IsUntilCurvePrinted, IsTotalCurvePrinted}, Printed.{IsHorizonPrinted, IsTotalPrinted}}
 use Rattle.mdp_command_policy.specs.{Shown.{IsPolicyShown}, ChainShown.{IsChainShown}}
 use Rattle.mdp_command_bounds_search.specs.{DiscountShown.{IsDiscountBoundsPrinted}, Shown.{IsBoundsPrinted}, WitnessDue.{claim_by}, WitnessShown.{IsBoundsWitnessPrinted}}
 
