@@ -1,5 +1,5 @@
 -- What a run answers, from what was decided and what was written.
-use Rattle.std.proofs.Common.{◌≡◌, ◌⊎◌, ℕ, inl, inr, Bool, true, false, List, Option, Some, None, Result, Ok, Err, IfOk, IsOk, IsTrue, refl, sym, ap, subst, ◌∙◌}
+use Rattle.std.proofs.Common.{◌≡◌, ◌⊎◌, ℕ, inl, inr, Bool, true, false, List, Option, Result, Ok, Err, IfOk, IsOk, IsTrue, refl, sym, ap, subst, ◌∙◌}
 use Rattle.mdp_spec.specs.Mdp.{Mdp}
 use Rattle.mdp_rows.specs.{Limits.{IsModel}, declared.rule.RowRule.{RowRule}}
 use Rattle.mdp_drn.specs.{FromSource.{HadLeft}, Laws.{ReadsAsModel}}

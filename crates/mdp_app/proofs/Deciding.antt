@@ -3,11 +3,17 @@ use Rattle.std.proofs.Common.{◌≡◌, ◌⊎◌, ℕ, inl, inr, Bool, true, f
 use Rattle.std.specs.Io.KnownBytes.{IsAtEnd}
 use Rattle.mdp_spec.specs.Mdp.{Mdp}
 use Rattle.mdp_rows.specs.declared.rule.RowRule.{RowRule}
-use Rattle.mdp_job.specs.{Job.{Asked, reads_model, reads_second}, Refusal.{no_job, read_certificate, long_model, long_certificate, no_memory}, declared.words_error.WordsError.{WordsError}}
+use Rattle.mdp_job.specs.{Job.{PlainTask, Asked, reads_model, reads_second}, Refusal.{no_job, read_certificate, long_model, long_certificate, no_memory}, declared.words_error.WordsError.{WordsError}}
 use Rattle.mdp_command.proofs.{Ends.{end_of_read, end_of_second, model_was_read}, FileBytes.{or_nothing, had_nothing}}
 use Rattle.mdp_command.specs.{Files.{model_due, IsDueToModel}, Read.{IsModelReadToEnd, IsSecondReadToEnd, IsModelWorked, IsWorkOnModel, IsPairWorked, IsWorkOnPair, is_of_model}, Said.{Said}}
 use Rattle.mdp_command.specs.Streams.{Input, IsStill}
-use Rattle.mdp_app.specs.{Decided.{IsTextDecided, IsDecided}, Due.{IsDue, IsModelRead}, Run.{IsFromBytes, HasCause}, Shown.{IsShown}}
+use Rattle.mdp_app.specs.{Decided.{IsTextDecided, IsDecided}, Due.{IsDue, IsModelRead}, Run.{IsFromBytes, HasCause}, Shown.{IsTaskPrinted, IsShown}}
+
+-- ---- what is printed
+
+-- for a task, by another spelling of it
+pub printed_as : (task other : PlainTask) (m : Mdp) (said : Said) → task ≡ other → IfOk said (IsTaskPrinted task m) → IfOk said (IsTaskPrinted other m)
+printed_as task other m said is printed = subst (λ (t : PlainTask). IfOk said (IsTaskPrinted t m)) is printed
 
 -- ---- words that are no job
 
