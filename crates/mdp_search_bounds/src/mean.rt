@@ -18,7 +18,7 @@ use mdp_wide::SolveError;
 use std::alloc::{AllocError, Global};
 
 /// Of more states a mean payoff is first searched with few digits: how near its bounds come is measured as they are found, and hardly grows with the model.
-const MANY_STATES: u32 = 10_000;
+const MANY_STATES: u32 = 1_000;
 
 /// How many digits more than were asked for are tried then.
 const FIRST_SPARE: u32 = 1;
