@@ -13,9 +13,9 @@ use mdp_rows::Marks;
 use std::alloc::{AllocError, Global};
 
 /// How many entries attempts to take out states look at in all: so many, and each of the model's so often.
-const REMOVAL_ENTRIES: u64 = 4_194_304;
+const REMOVAL_ENTRIES: u64 = 2_097_152;
 
-const REMOVAL_PASSES: u64 = 24;
+const REMOVAL_PASSES: u64 = 10;
 
 /// The most attempts.
 const MOST_ATTEMPTS: u32 = 1_000_000;

@@ -10,9 +10,9 @@ use mdp_rows::Marks;
 use std::alloc::Global;
 
 /// How many entries trials look at in all: so many, and each of the model's so often.
-const TRIAL_ENTRIES: u64 = 2_097_152;
+const TRIAL_ENTRIES: u64 = 1_048_576;
 
-const TRIAL_PASSES: u64 = 12;
+const TRIAL_PASSES: u64 = 5;
 
 impl Query<'_, '_> {
     /// Whether it is shown that without a kept state the best probability is below the threshold.
