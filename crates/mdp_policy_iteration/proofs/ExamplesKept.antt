@@ -11,7 +11,7 @@ use Rattle.mdp_elim.specs.{Equation.{Equation, no_equation}, Elimination.{divide
 use Rattle.mdp_elim.specs.{Predecessors.{at}, System.{equation_of}, Kept.{HasValue, solved_at}}
 use Rattle.mdp_elim.proofs.Others.{written_sum-agree}
 use Rattle.mdp_policy_iteration.specs.{Problem.{Problem, given, decision, stop, go, choice_at, row_from, taken}, Path.{fits, improvement}}
-use Rattle.mdp_policy_iteration.specs.{Reads.{IsGiven, Reads}, ReadersOf.{AreReaders}, Evaluated.{Evaluation, IsEvaluated, DifferAt, equations_of}}
+use Rattle.mdp_policy_iteration.specs.{Reads.{IsGiven, Reads}, DependentsOf.{AreDependents}, Evaluated.{Evaluation, IsEvaluated, DifferAt, equations_of}}
 use Rattle.mdp_policy_iteration.specs.Scope.{IsScope}
 use Rattle.mdp_policy_iteration.proofs.{Reading.{reads-by}, AllNodes.{all-below, all-ascend}, Examples.{may}}
 
@@ -50,9 +50,9 @@ lists-one nodes h = elim (h.row 0 (entry 1 half) (omega arith)) as (λ _. is_amo
 not-nothing : Reads three 0 0 [] → ⊥
 not-nothing h = false≢true (lists-one [] h)
 
--- readers that leave it out aren't all of them
-not-readers : AreReaders three ([] ∷ [] ∷ [] ∷ []) → ⊥
-not-readers h = let r = h.complete 0 0 (omega arith) (omega arith) in false≢true (r.2 1 (lists-one r.0 r.1))
+-- dependents that leave it out aren't all of them
+not-dependents : AreDependents three ([] ∷ [] ∷ [] ∷ []) → ⊥
+not-dependents h = let r = h.complete 0 0 (omega arith) (omega arith) in false≢true (r.2 1 (lists-one r.0 r.1))
 
 -- a policy by which node 1 goes on, and what is kept of it: x0 = 1/2 + 1/2 * x1, x1 = 1
 abbrev goes : List ℕ

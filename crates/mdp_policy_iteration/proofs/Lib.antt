@@ -23,6 +23,10 @@ pub mod Scopes
 pub mod Collected
 pub mod Unchanged
 pub mod Taken
+pub mod Among
+pub mod Marking
+pub mod Pushing
+pub mod Searching
 pub mod Listing
 pub mod Chosen
 pub mod Reading
@@ -31,4 +35,5 @@ pub mod UpTo
 pub mod Elsewhere
 pub mod EvaluatedAgain
 mod Examples
+mod ExamplesDependents
 mod ExamplesKept

@@ -1,38 +1,36 @@
--- The choices of a problem, listed one after another by what they read.
+-- The choices of a problem, listed one after another at the nodes on which they depend.
 use Rattle.std.proofs.Common.{◌≡◌, inl, inr, ◌⊎◌, ℕ, ◌+◌, ◌<◌, ◌==◌, ◌&&◌, ◌||◌, true, List, [], length, refl, sym, ◌∙◌, ap, subst, arith, eq-eqb, true≢false}
 use Rattle.std.proofs.{lemmas.Bool.{cases_eq, eqb-true, or_cases}, lemmas.List.{get_or_past}}
 use Rattle.std.specs.List.{list_any}
 use Rattle.mdp_math.proofs.{Numbers.{le_or}, Booleans.{and-left, and-right, and-both, or-true}}
 use Rattle.mdp_rows.specs.{Preds.{is_among}, declared.preds.Pred.{Pred}}
-use Rattle.mdp_readers.specs.Readers.{reads, is_choice}
-use Rattle.mdp_policy_iteration.specs.{Problem.{Problem, count, choices_at}, Reads.{Reads}, ReadersOf.{AreReadersTo, IsBefore}}
-use Rattle.mdp_policy_iteration.proofs.Collected.{change}
-use Rattle.mdp_readers.proofs.{Pushing.{IsPushed}, Tests.{all-among}}
+use Rattle.mdp_policy_iteration.specs.{Problem.{Problem, count, choices_at}, Reads.{Reads}, Dependents.{depends, is_choice}, DependentsOf.{AreDependentsTo, IsBefore}}
+use Rattle.mdp_policy_iteration.proofs.{Collected.{change}, Pushing.{IsPushed}, Among.{all-among}}
 
--- no choice reads a node past the end
-in_range : (readers : List (List Pred)) (s c v : ℕ) → reads readers s c v ≡ true → v < length readers
-in_range readers s c v h = elim (le_or (length readers) v) [
-  | inl past ↦ absurd (true≢false (sym h ∙ ap (list_any (is_choice s c)) (get_or_past readers v [] past)))
+-- no choice depends on a node past the end
+in_range : (dependents : List (List Pred)) (s c v : ℕ) → depends dependents s c v ≡ true → v < length dependents
+in_range dependents s c v h = elim (le_or (length dependents) v) [
+  | inl past ↦ absurd (true≢false (sym h ∙ ap (list_any (is_choice s c)) (get_or_past dependents v [] past)))
   | inr l ↦ l
 ]
 
 is_choice-same : (s c : ℕ) → is_choice s c (change s c) ≡ true
 is_choice-same s c = and-both (s == s) (c == c) (eq-eqb s s refl) (eq-eqb c c refl)
 
-module _ (p : Problem) (s c : ℕ) (old new : List (List Pred)) (nodes : List ℕ) (so_far : AreReadersTo p s c old) (node : s < count p) (choice : c < length (choices_at p s))
+module _ (p : Problem) (s c : ℕ) (old new : List (List Pred)) (nodes : List ℕ) (so_far : AreDependentsTo p s c old) (node : s < count p) (choice : c < length (choices_at p s))
     (read : Reads p s c nodes) (pushed : IsPushed old new (change s c) nodes) where
-  stays : (t d v : ℕ) → reads old t d v ≡ true → reads new t d v ≡ true
+  stays : (t d v : ℕ) → depends old t d v ≡ true → depends new t d v ≡ true
   stays t d v h = pushed.at t d v (in_range old t d v h) ∙ ap (λ b. b || (is_choice t d (change s c) && is_among v nodes)) h
 
-  here : (v : ℕ) → is_among v nodes ≡ true → reads new s c v ≡ true
+  here : (v : ℕ) → is_among v nodes ≡ true → depends new s c v ≡ true
   here v e =
       let l : v < length old = (let a = all-among (λ t. t < count p) v nodes read.in_range e in let b = so_far.each_node in omega arith) in
-      pushed.at s c v l ∙ ap (λ b. reads old s c v || b) (and-both (is_choice s c (change s c)) (is_among v nodes) (is_choice-same s c) e) ∙ or-true (reads old s c v)
+      pushed.at s c v l ∙ ap (λ b. depends old s c v || b) (and-both (is_choice s c (change s c)) (is_among v nodes) (is_choice-same s c) e) ∙ or-true (depends old s c v)
 
-  valid : (t d v : ℕ) → reads new t d v ≡ true → (t < count p) × (d < length (choices_at p t))
+  valid : (t d v : ℕ) → depends new t d v ≡ true → (t < count p) × (d < length (choices_at p t))
   valid t d v h =
       let l : v < length old = (let a = in_range new t d v h in let b = pushed.count in omega arith) in
-      elim (or_cases (reads old t d v) (is_choice t d (change s c) && is_among v nodes) (sym (pushed.at t d v l) ∙ h)) [
+      elim (or_cases (depends old t d v) (is_choice t d (change s c) && is_among v nodes) (sym (pushed.at t d v l) ∙ h)) [
         | inl was ↦ so_far.choices t d v was
         | inr now ↦
             (let is = and-left (is_choice t d (change s c)) (is_among v nodes) now in
@@ -42,9 +40,9 @@ module _ (p : Problem) (s c : ℕ) (old new : List (List Pred)) (nodes : List �
       ]
 
   abbrev IsListed : ℕ → ℕ → Type 0
-  IsListed t d = (nodes : List ℕ) × Reads p t d nodes × ((v : ℕ) → is_among v nodes ≡ true → reads new t d v ≡ true)
+  IsListed t d = (nodes : List ℕ) × Reads p t d nodes × ((v : ℕ) → is_among v nodes ≡ true → depends new t d v ≡ true)
 
-  pub listed-more : AreReadersTo p s (c + 1) new
+  pub listed-more : AreDependentsTo p s (c + 1) new
   listed-more = record {
     each_node = pushed.count ∙ so_far.each_node;
     choices = valid;
@@ -62,8 +60,8 @@ module _ (p : Problem) (s c : ℕ) (old new : List (List Pred)) (nodes : List �
       ]
 
 -- all choices of a node are those of the nodes before the next
-pub listed-node : (p : Problem) (s : ℕ) (readers : List (List Pred)) → AreReadersTo p s (length (choices_at p s)) readers → AreReadersTo p (s + 1) 0 readers
-listed-node p s readers h = record {
+pub listed-node : (p : Problem) (s : ℕ) (dependents : List (List Pred)) → AreDependentsTo p s (length (choices_at p s)) dependents → AreDependentsTo p (s + 1) 0 dependents
+listed-node p s dependents h = record {
   each_node = h.each_node;
   choices = h.choices;
   complete = λ t d before l. h.complete t d (all_before t d before l) l;

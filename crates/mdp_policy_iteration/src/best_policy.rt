@@ -3,9 +3,9 @@ ghost use Rattle.mdp_policy_iteration.specs.{Problem.{count}, Path.{improved, im
 ghost use Rattle.mdp_policy_iteration.specs.{Changes.{Ascend, IsChangeOf, spread, nodes_of}, Evaluated.{HasRoom, IsEvaluated}, Ends.{Ends, EndsWithLast}};
 
 use crate::comparison::take_changes;
+use crate::dependents::dependents_of;
 use crate::evaluation::Evaluation;
 use crate::loops::Loops;
-use crate::readers::readers_of;
 use crate::round::{first_round, round_of};
 use crate::scope::Scope;
 use crate::shortest_path::ShortestPath;
@@ -53,14 +53,14 @@ fn improve_further<P: ShortestPath>(
     ensures best { IfOk result (λ last. IsBestFrom (P.problem problem.now) start.items last.policy.items evaluation.new.values) }
 {
     solution_law();
-    let readers = readers_of(alloc, problem)?;
+    let dependents = dependents_of(alloc, problem)?;
     let mut marks = Marks::empty(alloc, problem.count())?;
     let mut policy = start;
     let mut round = 0u64;
     'rounds: loop {
         policy = next_policy(policy, &changes);
         round = round.saturating_add(1);
-        let scope = Scope::of_changes(alloc, problem, &readers, &policy, &changes, &mut marks)?;
+        let scope = Scope::of_changes(alloc, problem, &dependents, &policy, &changes, &mut marks)?;
         match round_of(alloc, problem, &policy, loops, evaluation, &scope) {
             Ok(next) if next.is_empty() => return Ok(Last { round, policy }),
             Ok(next) => changes = next,

@@ -1,8 +1,10 @@
 //! Policy iteration, once: a stochastic shortest path problem, the path of its policies by written arithmetic, and the best policy at its end.
 #![tactic(auto)]
 
+mod affected;
 mod best_policy;
 mod comparison;
+mod dependents;
 mod errors;
 mod evaluation;
 mod laws;
@@ -11,7 +13,6 @@ mod loops;
 mod outer;
 mod placing;
 mod policy_chain;
-mod readers;
 mod round;
 mod scope;
 mod shortest_path;

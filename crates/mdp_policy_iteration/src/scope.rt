@@ -1,10 +1,10 @@
 ghost use Rattle.std.specs.{Prelude.{◌≡◌, false, replicate, IfOk, OnOk}, List.{All, range_with_len}};
-ghost use Rattle.mdp_policy_iteration.specs.{Problem.{IsPolicy, count}, ReadersOf.{AreReaders}, Changes.{IsChangeOf}, Scope.{IsScope}};
+ghost use Rattle.mdp_policy_iteration.specs.{Problem.{IsPolicy, count}, DependentsOf.{AreDependents}, Changes.{IsChangeOf}, Scope.{IsScope}};
 
 use crate::comparison::changed_nodes;
+use crate::dependents::Dependents;
 use crate::loops::all_nodes;
 use crate::shortest_path::ShortestPath;
-use mdp_readers::Readers;
 use mdp_rows::{Marks, Pred};
 use std::alloc::{AllocError, Global};
 use std::marker::Model;
@@ -39,21 +39,21 @@ impl Scope {
     pub(crate) fn of_changes<P: ShortestPath>(
         alloc: Global,
         problem: &P,
-        readers: &Readers,
+        dependents: &Dependents,
         policy: &[u32],
         changes: &[Pred],
         marks: &mut Marks,
     ) -> Result<Scope, AllocError>
         requires policy { IsPolicy (P.problem problem.now) policy.now }
-        requires readers { AreReaders (P.problem problem.now) readers.now }
+        requires dependents { AreDependents (P.problem problem.now) dependents.now }
         requires changes { All (IsChangeOf (P.problem problem.now)) changes.now }
         requires marks { marks.old ≡ replicate (count (P.problem problem.now)) false }
         ensures scope { IfOk result (λ scope. IsScope (P.problem problem.now) policy.now changes.now scope) }
         ensures marks { OnOk result (marks.new ≡ marks.old) }
     {
         let changed = changed_nodes(alloc, changes)?;
-        let affected = readers.coming_to(alloc, policy, &changed, marks)?;
-        let compared = readers.with_readers(alloc, &affected, marks)?;
+        let affected = dependents.coming_to(alloc, policy, &changed, marks)?;
+        let compared = dependents.with_dependents(alloc, &affected, marks)?;
         Ok(Scope { affected, compared })
     }
 }

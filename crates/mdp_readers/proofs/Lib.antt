@@ -1,5 +1,0 @@
-pub mod Tests
-pub mod Marking
-pub mod Searching
-pub mod Pushing
-mod Examples

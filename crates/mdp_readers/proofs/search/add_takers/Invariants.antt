@@ -1,6 +1,0 @@
-use Rattle.std.proofs.Common.{take}
-use Rattle.mdp_readers.specs.Found.{AreAdded, is_taker}
-use Rattle.mdp_readers.proofs.search.add_takers.Given as goal
-
-abbrev pub invariant-loop-pred : goal.invariant-loop-pred
-invariant-loop-pred l = AreAdded (is_taker l.policy (take l.pred-index l.choices)) l.initial.marks l.marks l.initial.found.items l.found.items
