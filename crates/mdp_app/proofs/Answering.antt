@@ -8,7 +8,7 @@ use Rattle.mdp_job.specs.Job.{PlainPairTask, check, policy, chain, discount_chec
 use Rattle.mdp_job.specs.{Refusal.{PlainRefusal, read_model, read_certificate, no_memory}, declared.status.Status.{Status}}
 use Rattle.mdp_job.specs.declared.status.Status.TheVariants as status
 use Rattle.mdp_command.proofs.{Statuses.{refusal_status}, Working.{read_of_due}}
-use Rattle.mdp_command.specs.{Files.{model_due, IsDueToModel}, Said.{Said, said_status}, Streams.{Input, Told, Output}, Written.{Wrote, EndsWith}}
+use Rattle.mdp_command.specs.{Files.{model_due, second_due, IsDueToModel, IsDueToSecond, IsDueToPair}, Said.{Said, said_status}, Streams.{Input, Told, Output}, Written.{Wrote, EndsWith}}
 use Rattle.mdp_command_solve.specs.DiscountLaws as discounted
 use Rattle.mdp_command_solve.specs.DrillLaws as drilled
 use Rattle.mdp_command_solve.specs.Laws as solved
@@ -87,9 +87,15 @@ module _ (laws : DueLaws) where
   pair_done discount_check m other text said d e = d ∙ sym e
   pair_done bounds_check m other text said d e = d ∙ sym e
 
-  pair_done_by : (task : PlainPairTask) (other text : List ℕ) (read : Result Mdp PlainRefusal) (said : Said) → IsDueToModel (λ m. IsPairDue task m other) read said
-      → IsDueToModel (λ m. IsPairDue task m other) read (Ok text) → said ≡ Ok text
-  pair_done_by task other text (Ok m) said d e = pair_done task m other text said d e
+  behind_done : (task : PlainPairTask) (m : Mdp) (text : List ℕ) (read : Result (List ℕ) PlainRefusal) (said : Said) → IsDueToSecond (IsPairDue task m) read said
+      → IsDueToSecond (IsPairDue task m) read (Ok text) → said ≡ Ok text
+  behind_done task m text (Ok bytes) said d e = pair_done task m bytes text said d e
+  behind_done task m text (Err r) said d e = cc e
+
+  pair_done_by : (task : PlainPairTask) (other text : List ℕ) (read : Result Mdp PlainRefusal) (said : Said)
+      → IsDueToModel (λ m. IsDueToSecond (IsPairDue task m) (second_due other)) read said
+      → IsDueToModel (λ m. IsDueToSecond (IsPairDue task m) (second_due other)) read (Ok text) → said ≡ Ok text
+  pair_done_by task other text (Ok m) said d e = behind_done task m text (second_due other) said d e
   pair_done_by task other text (Err r) said d e = cc e
 
   -- where a text is due, the work is done with what is due
@@ -102,8 +108,8 @@ module _ (laws : DueLaws) where
   due_done (Ok (on_pair rule task)) model second m s n t text said hn ht due tm ts due_text =
       inl (done_of said text (
       pair_done_by task s text (model_due rule m) said
-      (subst (λ (x : List ℕ). IsDueToModel (λ k. IsPairDue task k x) (model_due rule m) said) (had_told true second s t ts ht refl)
-      (subst (λ (x : List ℕ). IsDueToModel (λ k. IsPairDue task k t) (model_due rule x) said) (had_told true model m n tm hn refl) due)) due_text))
+      (subst (λ (x : List ℕ). IsDueToPair (IsPairDue task) rule m x said) (had_told true second s t ts ht refl)
+      (subst (λ (x : List ℕ). IsDueToPair (IsPairDue task) rule x t said) (had_told true model m n tm hn refl) due)) due_text))
   due_done (Ok (drill number layers width)) model second m s n t text said hn ht due tm ts due_text =
       inl (done_of said text (laws.drill_once number layers width said (Ok text) due due_text))
   due_done (Err e) model second m s n t text said hn ht due tm ts due_text = cc

@@ -3,17 +3,20 @@ use Rattle.std.proofs.Common.{◌≡◌, ◌⊎◌, ℕ, inl, inr, Bool, true, f
 use Rattle.std.specs.Io.KnownBytes.{IsAtEnd}
 use Rattle.mdp_spec.specs.Mdp.{Mdp}
 use Rattle.mdp_rows.specs.declared.rule.RowRule.{RowRule}
-use Rattle.mdp_job.specs.{Job.{PlainTask, Asked, reads_model, reads_second}, Refusal.{no_job, read_certificate, long_model, long_certificate, no_memory}, declared.words_error.WordsError.{WordsError}}
+use Rattle.mdp_job.specs.{Job.{PlainTask, PlainPairTask, Asked, reads_model, reads_second}, Refusal.{no_job, read_certificate, long_model, long_certificate, no_memory}, declared.words_error.WordsError.{WordsError}}
 use Rattle.mdp_command.proofs.{Ends.{end_of_read, end_of_second, model_was_read}, FileBytes.{or_nothing, had_nothing}}
-use Rattle.mdp_command.specs.{Files.{model_due, IsDueToModel}, Read.{IsModelReadToEnd, IsSecondReadToEnd, IsModelWorked, IsWorkOnModel, IsPairWorked, IsWorkOnPair, is_of_model}, Said.{Said}}
+use Rattle.mdp_command.specs.{Files.{model_due, second_due, IsDueToModel, IsDueToSecond, IsDueToPair}, Read.{IsModelReadToEnd, IsSecondReadToEnd, IsModelWorked, IsWorkOnModel, IsPairWorked, IsWorkOnPair, is_of_model}, Said.{Said}}
 use Rattle.mdp_command.specs.Streams.{Input, IsStill}
-use Rattle.mdp_app.specs.{Decided.{IsTextDecided, IsDecided}, Due.{IsDue, IsModelRead}, Run.{IsFromBytes, HasCause}, Shown.{IsTaskPrinted, IsShown}}
+use Rattle.mdp_app.specs.{Decided.{IsTextDecided, IsDecided}, Due.{IsDue, IsModelRead}, Run.{IsFromBytes, HasCause}, Shown.{IsTaskPrinted, IsPairPrinted, IsShown}}
 
 -- ---- what is printed
 
 -- for a task, by another spelling of it
 pub printed_as : (task other : PlainTask) (m : Mdp) (said : Said) → task ≡ other → IfOk said (IsTaskPrinted task m) → IfOk said (IsTaskPrinted other m)
 printed_as task other m said is printed = subst (λ (t : PlainTask). IfOk said (IsTaskPrinted t m)) is printed
+
+pub pair_printed_as : (task other : PlainPairTask) (m : Mdp) (bytes : List ℕ) (said : Said) → task ≡ other → IfOk said (IsPairPrinted task m bytes) → IfOk said (IsPairPrinted other m bytes)
+pair_printed_as task other m bytes said is printed = subst (λ (t : PlainPairTask). IfOk said (IsPairPrinted t m bytes)) is printed
 
 -- ---- words that are no job
 
@@ -125,7 +128,7 @@ module _ (asked : Asked) (rule : RowRule) (due : Mdp → Said → Type 0) (shows
 
 module _ (asked : Asked) (rule : RowRule) (due : Mdp → List ℕ → Said → Type 0) (shows : List ℕ → List ℕ → List ℕ → Type 0) (model second : Input)
     (reads : reads_model asked ≡ true) (reads_too : reads_second asked ≡ true)
-    (due_is : (bytes other : List ℕ) (said : Said) → IsDueToModel (λ m. due m other) (model_due rule bytes) said → IsDue asked bytes other said)
+    (due_is : (bytes other : List ℕ) (said : Said) → IsDueToPair due rule bytes other said → IsDue asked bytes other said)
     (shown_is : (bytes other text : List ℕ) → shows bytes other text → IsShown asked bytes other text)
     (read_is : (bytes : List ℕ) → IsOk (model_due rule bytes) → IsModelRead asked bytes) where
   -- the ends of the two sources
@@ -161,7 +164,7 @@ module _ (asked : Asked) (rule : RowRule) (due : Mdp → List ℕ → Said → T
     says = failed.0;
     model_bytes = from.model_bytes;
     had_model = from.had_model;
-    model_read = read_is from.model_bytes (model_was_read (λ m. due m from.second_bytes) rule from.model_bytes said from.is_due other);
+    model_read = read_is from.model_bytes (model_was_read (λ m. IsDueToSecond (due m) (second_due from.second_bytes)) rule from.model_bytes said from.is_due other);
     model_end = behind_model said failed.0 end;
     model_still = from.model_still;
   })))

@@ -3,7 +3,7 @@ use Rattle.std.specs.Prelude.{◌≡◌, ℕ, List, Some, None, Ok, Err, IsOk}
 use Rattle.mdp_spec.specs.Mdp.{Mdp}
 use Rattle.mdp_job.specs.Job.{PlainTask, solve, witness, horizon, total, discount, bounds, bounds_until, bounds_total, bounds_discount, bounds_witness, curve_until, curve_total}
 use Rattle.mdp_job.specs.{Job.{PlainPairTask, check, policy, chain, discount_check, bounds_check, on_model, on_pair, drill, Asked}, Refusal.{no_job}}
-use Rattle.mdp_command.specs.{Files.{model_due, IsDueToModel}, Said.{Said}, CheckDue.{IsCheckDue}}
+use Rattle.mdp_command.specs.{Files.{model_due, IsDueToModel, IsDueToPair}, Said.{Said}, CheckDue.{IsCheckDue}}
 use Rattle.mdp_command.specs.declared.kind.CertificateKind.TheVariants.{Discounted, Bounds}
 use Rattle.mdp_command_solve.specs.{Due.{IsQueryDue}, DrillDue.{IsDrillDue}, WitnessDue.{IsWitnessDue}, DiscountDue.{IsDiscountDue}}
 use Rattle.mdp_command_horizon.specs.{BoundsDue.{IsUntilBoundsDue, IsTotalBoundsDue}, CurveDue.{IsUntilCurveDue, IsTotalCurveDue}, Due.{IsHorizonDue, IsTotalDue}}
@@ -36,7 +36,7 @@ IsPairDue bounds_check = IsCheckDue (Some Bounds)
 -- this is due to what the words ask for, to the model's bytes and to those of the second file: the model is judged first
 abbrev pub IsDue : Asked → List ℕ → List ℕ → Said → Type 0
 IsDue (Ok (on_model rule task)) model second said = IsDueToModel (IsTaskDue task) (model_due rule model) said
-IsDue (Ok (on_pair rule task)) model second said = IsDueToModel (λ m. IsPairDue task m second) (model_due rule model) said
+IsDue (Ok (on_pair rule task)) model second said = IsDueToPair (IsPairDue task) rule model second said
 IsDue (Ok (drill number layers width)) model second said = IsDrillDue number layers width said
 IsDue (Err e) model second said = said ≡ Err (no_job e)
 

@@ -1,17 +1,17 @@
 //! What each command does, once its files are open: what is asked of a model that was read, and of a second file behind it.
 
-ghost use Rattle.std.specs.Prelude.{◌≡◌, ◌⊎◌, Err, IfOk, IsTrue, IsFalse};
+ghost use Rattle.std.specs.Prelude.{◌≡◌, ◌⊎◌, false, Err, IfOk, IsTrue, IsFalse};
 ghost use Rattle.mdp_job.specs.Job.{plain_task, plain_pair};
-ghost use Rattle.mdp_command.specs.{Prelude.{IsModelReadToEnd, IsSecondReadToEnd, no_memory, said, input}, Read.{IsWorkOnModel, IsWorkOnPair, is_of_model}, Shown.{IsShownOf}};
-ghost use Rattle.mdp_app.specs.{Due.{IsTaskDue, IsPairDue}, InRange.{IsTaskInRange}, Shown.{IsTaskPrinted, IsPairShown}};
+ghost use Rattle.mdp_command.specs.{Prelude.{IsModelReadToEnd, IsSecondReadToEnd, no_memory, said, input}, Read.{IsWorkOnModel, IsWorkOnPair, is_of_model}, Shown.{IsShownOf, AreShownOf}};
+ghost use Rattle.mdp_app.specs.{Due.{IsTaskDue, IsPairDue}, InRange.{IsTaskInRange}, Shown.{IsTaskPrinted, IsPairPrinted}};
 
-use mdp_command::{CertificateKind, check_files, read_model};
+use mdp_command::{CertificateKind, check_query, read_model, read_second};
 use mdp_command_bounds_search::{bounds_discount_query, bounds_query, bounds_witness_query};
 use mdp_command_horizon::{
     horizon_query, total_bounds_query, total_curve_query, total_query, until_bounds_query,
     until_curve_query,
 };
-use mdp_command_policy::{chain_file, policy_file};
+use mdp_command_policy::{chain_query, policy_query};
 use mdp_command_solve::{discount_query, solve_query, witness_query};
 use mdp_edge::Source;
 use mdp_job::{PairTask, Refusal, Task};
@@ -99,6 +99,28 @@ pub(crate) fn on_model<S: Source>(
     }
 }
 
+/// The text that answers what is asked of a model and the bytes of a second file, or its refusal.
+fn answer_to_pair(
+    alloc: Global,
+    model: &Model,
+    task: &PairTask<'_>,
+    bytes: &[u8],
+) -> Result<Vec<u8>, Refusal>
+    ensures due { (said result ≡ Err no_memory) ⊎ IsPairDue (plain_pair task.now) model.now bytes.now (said result) }
+    ensures printed { IfOk (said result) (IsPairPrinted (plain_pair task.now) model.now bytes.now) }
+    ensures not_of_model { is_of_model (said result) ≡ false }
+{
+    match task {
+        PairTask::Check => check_query(alloc, model, None, bytes),
+        PairTask::Policy { stay, label } => policy_query(alloc, model, *stay, *label, bytes),
+        PairTask::Chain => chain_query(alloc, model, bytes),
+        PairTask::DiscountCheck => {
+            check_query(alloc, model, Some(CertificateKind::Discounted), bytes)
+        }
+        PairTask::BoundsCheck => check_query(alloc, model, Some(CertificateKind::Bounds), bytes),
+    }
+}
+
 /// Reads the model and then the second file, each to its end, and answers what is asked of both. The second one isn't read where the model is refused.
 pub(crate) fn on_pair<S: Source, C: Source>(
     alloc: Global,
@@ -107,26 +129,12 @@ pub(crate) fn on_pair<S: Source, C: Source>(
     model: &mut S,
     second: &mut C,
 ) -> Result<Vec<u8>, Refusal>
-    ensures read { IsWorkOnPair rule (IsPairDue (plain_pair task.now)) (IsPairShown (plain_pair task.now) rule) (input S.left S.faults model.old model.new) (input C.left C.faults second.old second.new) (said result) }
+    ensures read { IsWorkOnPair rule (IsPairDue (plain_pair task.now)) (AreShownOf (IsPairPrinted (plain_pair task.now)) rule) (input S.left S.faults model.old model.new) (input C.left C.faults second.old second.new) (said result) }
     ensures unread { IsTrue (is_of_model (said result)) → second.new ≡ second.old }
     ensures model_end { IsModelReadToEnd (input S.left S.faults model.old model.new) (said result) }
     ensures second_end { IsFalse (is_of_model (said result)) → IsSecondReadToEnd (input C.left C.faults second.old second.new) (said result) }
 {
-    match task {
-        PairTask::Check => check_files(alloc, rule, None, model, second),
-        PairTask::Policy { stay, label } => policy_file(alloc, rule, *stay, *label, model, second),
-        PairTask::Chain => chain_file(alloc, rule, model, second),
-        PairTask::DiscountCheck => {
-            check_files(
-                alloc,
-                rule,
-                Some(CertificateKind::Discounted),
-                model,
-                second,
-            )
-        }
-        PairTask::BoundsCheck => {
-            check_files(alloc, rule, Some(CertificateKind::Bounds), model, second)
-        }
-    }
+    let model = read_model(alloc, model, rule)?;
+    let bytes = read_second(alloc, second)?;
+    answer_to_pair(alloc, &model, task, &bytes)
 }

@@ -1,5 +1,5 @@
 -- What a run answers, from what was decided and what was written.
-use Rattle.std.proofs.Common.{◌≡◌, ◌⊎◌, ℕ, inl, inr, List, Option, Some, None, Result, Ok, Err, OnOk, IsTrue, IsFalse, refl, sym, ap, subst, ◌∙◌}
+use Rattle.std.proofs.Common.{◌≡◌, ◌⊎◌, ℕ, inl, inr, nat_lt, List, length, Option, Some, None, Result, Ok, Err, OnOk, IsTrue, IsFalse, refl, sym, ap, subst, ◌∙◌}
 use Rattle.std.specs.Io.KnownBytes.{IsAtEnd}
 use Rattle.mdp_spec.specs.Mdp.{Mdp}
 use Rattle.mdp_rows.specs.{Limits.{IsModel}, declared.rule.RowRule.{RowRule}}
@@ -7,11 +7,11 @@ use Rattle.mdp_rows.specs.declared.rule.RowRule.TheVariants as rules
 use Rattle.mdp_drn.specs.{FromSource.{HadLeft}, Laws.{ReadsAsModel}, Outcome.{Refusal}, Reading.{outcome, Reads}, Writing.{text_of, ReadsBack}}
 use Rattle.mdp_job.specs.{Refusal.{PlainRefusal, no_job, no_memory}, declared.status.Status.{Status}, declared.words_error.WordsError.{WordsError}}
 use Rattle.mdp_job.specs.declared.status.Status.TheVariants as status
-use Rattle.mdp_command.proofs.{Ends.{end_of_read, end_of_second}, Statuses.{done_text, ends_as}}
-use Rattle.mdp_command.specs.{Accepted.{IsTrueClaimBy}, Answered.{yes_text}, Files.{model_due, IsDueToModel}, Meaning.{Meaning, IsTrueOf, ClaimsTruly}}
+use Rattle.mdp_command.proofs.{Ends.{end_of_read, end_of_second}, Statuses.{done_text, ends_as}, Working.{short_second}}
+use Rattle.mdp_command.specs.{Answered.{yes_text}, Files.{most_bytes, model_due, second_due, IsDueToModel, IsDueToSecond, IsDueToPair}, Meaning.{Meaning, IsTrueOf, ClaimsTruly}}
 use Rattle.mdp_command.specs.Read.{IsModelReadToEnd, IsSecondReadToEnd, is_of_model}
-use Rattle.mdp_command.specs.{Said.{Said, said_status}, Streams.{Input, Output}, Written.{WroteAll, Wrote, EndsWith}, CheckDue.{IsCheckDue}, Kinds.{checker_of}}
-use Rattle.mdp_command.specs.{Meanings.{kind_of, meaning_of}, CheckLaws.{YesIsAccepted, ReadsItsText}, CheckShown.{IsCheckRead}}
+use Rattle.mdp_command.specs.{Said.{Said, said_status}, Streams.{Input, Output}, Written.{WroteAll, Wrote, EndsWith}, CheckDue.{said_to_text, IsCheckDue}, Kinds.{checker_of}, Shown.{AreShownOf}}
+use Rattle.mdp_command.specs.{Meanings.{kind_of, meaning_of}, CheckLaws.{YesIsAccepted, ReadsItsText}, CheckShown.{IsYes, IsCheckPrinted, IsCheckRead}}
 use Rattle.mdp_command.specs.declared.kind.CertificateKind.{CertificateKind}
 use Rattle.mdp_command.specs.declared.kind.CertificateKind.TheVariants.{Exact, Discounted, Bounds, DiscountedBounds, SubsystemBounds}
 use Rattle.mdp_checker.specs.{Run.{HasCause, IsDecided, IsAnswered, IsYesTrue, IsYesTrueOfText, IsYesUnless, IsComplete}, Words.{Asked}}
@@ -39,50 +39,49 @@ check_decided asked rule model cert said is read unread model_end cert_end =
 abbrev pub ReadsItsTexts : Type 0
 ReadsItsTexts = (kind : CertificateKind) → ReadsItsText (checker_of kind)
 
-true_of : ReadsItsTexts → (kind : CertificateKind) (rule : RowRule) (model cert : List ℕ) (t : IsTrueClaimBy (checker_of kind) rule model cert) → IsTrueOf (meaning_of kind) t.accepted.model cert
-true_of reads Exact rule model cert t = record {
-  cert = t.accepted.cert;
-  text = (reads Exact cert t.accepted.cert).0 t.accepted.text;
-  states = t.accepted.holds.states;
-  start = t.accepted.holds.init;
-  bound = t.bound;
+true_of : ReadsItsTexts → (kind : CertificateKind) (m : Mdp) (cert text : List ℕ) → IsYes (checker_of kind) m cert text → IsTrueOf (meaning_of kind) m cert
+true_of reads Exact m cert text y = record {
+  cert = y.cert;
+  text = (reads Exact cert y.cert).0 y.read;
+  states = y.holds.states;
+  start = y.holds.init;
+  bound = y.bound;
 }
-true_of reads Discounted rule model cert t = record {
-  cert = t.accepted.cert;
-  text = (reads Discounted cert t.accepted.cert).0 t.accepted.text;
-  states = t.accepted.holds.states;
-  start = t.accepted.holds.init;
-  bound = t.bound;
+true_of reads Discounted m cert text y = record {
+  cert = y.cert;
+  text = (reads Discounted cert y.cert).0 y.read;
+  states = y.holds.states;
+  start = y.holds.init;
+  bound = y.bound;
 }
-true_of reads Bounds rule model cert t = record {
-  cert = t.accepted.cert;
-  text = (reads Bounds cert t.accepted.cert).0 t.accepted.text;
-  states = t.accepted.holds.states;
-  start = t.accepted.holds.init;
-  bound = t.bound;
+true_of reads Bounds m cert text y = record {
+  cert = y.cert;
+  text = (reads Bounds cert y.cert).0 y.read;
+  states = y.holds.states;
+  start = y.holds.init;
+  bound = y.bound;
 }
-true_of reads DiscountedBounds rule model cert t = record {
-  cert = t.accepted.cert;
-  text = (reads DiscountedBounds cert t.accepted.cert).0 t.accepted.text;
-  states = t.accepted.holds.states;
-  start = t.accepted.holds.init;
-  bound = t.bound;
+true_of reads DiscountedBounds m cert text y = record {
+  cert = y.cert;
+  text = (reads DiscountedBounds cert y.cert).0 y.read;
+  states = y.holds.states;
+  start = y.holds.init;
+  bound = y.bound;
 }
-true_of reads SubsystemBounds rule model cert t = record {
-  cert = t.accepted.cert;
-  text = (reads SubsystemBounds cert t.accepted.cert).0 t.accepted.text;
-  states = t.accepted.holds.states;
-  start = t.accepted.holds.init;
-  bound = t.bound;
+true_of reads SubsystemBounds m cert text y = record {
+  cert = y.cert;
+  text = (reads SubsystemBounds cert y.cert).0 y.read;
+  states = y.holds.states;
+  start = y.holds.init;
+  bound = y.bound;
 }
 
-claims_truly : ReadsAsModel → ReadsItsTexts → (kind : CertificateKind) (rule : RowRule) (model cert : List ℕ) → IsTrueClaimBy (checker_of kind) rule model cert
-    → ClaimsTruly (meaning_of kind) rule model cert
-claims_truly kept reads kind rule model cert t = record {
-  model = t.accepted.model;
-  reads = t.accepted.reads;
-  mdp = IsModel.mdp (kept model rule t.accepted.model t.accepted.reads);
-  true_of = true_of reads kind rule model cert t;
+claims_truly : ReadsAsModel → ReadsItsTexts → (rule : RowRule) (model cert text : List ℕ) → AreShownOf (IsCheckPrinted None) rule model cert text → ClaimsTruly (meaning_of (kind_of cert)) rule model cert
+claims_truly kept reads rule model cert text s = record {
+  model = s.model;
+  reads = s.reads;
+  mdp = IsModel.mdp (kept model rule s.model s.reads);
+  true_of = true_of reads (kind_of cert) s.model cert text s.printed;
 }
 
 -- ---- what is answered
@@ -108,10 +107,10 @@ module _ (model cert : Input) (out : Output) (ended : Status) where
     had_model = from.had_model;
     had_cert = from.had_second;
     kind = kind_of from.second_bytes;
-    true_claim = claims_truly kept reads (kind_of from.second_bytes) rule from.model_bytes from.second_bytes from.shown.true_claim;
+    true_claim = claims_truly kept reads rule from.model_bytes from.second_bytes text from.shown;
     model_end = model_end;
     cert_end = cert_end;
-    written = subst (λ (t : List ℕ). WroteAll out t) from.shown.yes w;
+    written = subst (λ (t : List ℕ). WroteAll out t) from.shown.printed.yes w;
   }
   yes_read kept reads rule text (inr (inl failed)) model_end cert_end w = cc (failed.0)
   yes_read kept reads rule text (inr (inr (inl failed))) model_end cert_end w = cc (failed.says)
@@ -132,20 +131,38 @@ module _ (model cert : Input) (out : Output) (ended : Status) where
 
   -- ---- bytes that are accepted
 
-  said_once : (text : List ℕ) (read : Result Mdp PlainRefusal) (said again : Said) → IsDueToModel (λ m. IsCheckDue None m text) read said → IsDueToModel (λ m. IsCheckDue None m text) read again
+  text_once : (m : Mdp) (read : Result (List ℕ) PlainRefusal) (said again : Said) → IsDueToSecond (IsCheckDue None m) read said → IsDueToSecond (IsCheckDue None m) read again → said ≡ again
+  text_once m (Ok text) said again d e = d ∙ sym e
+  text_once m (Err r) said again d e = d ∙ sym e
+
+  said_once : (cert : List ℕ) (read : Result Mdp PlainRefusal) (said again : Said) → IsDueToModel (λ m. IsDueToSecond (IsCheckDue None m) (second_due cert)) read said
+      → IsDueToModel (λ m. IsDueToSecond (IsCheckDue None m) (second_due cert)) read again
       → said ≡ again
-  said_once text (Ok m) said again d e = d ∙ sym e
-  said_once text (Err r) said again d e = d ∙ sym e
+  said_once cert (Ok m) said again d e = text_once m (second_due cert) said again d e
+  said_once cert (Err r) said again d e = d ∙ sym e
+
+  -- the checker of a text is that of the bytes which the text was read as
+  by_text : (m : Mdp) (cert : List ℕ) (said : Said) (read : Result (List ℕ) PlainRefusal) → second_due cert ≡ read
+      → IsDueToSecond (λ bytes said. said ≡ said_to_text (checker_of (kind_of cert)) m bytes) read said → IsDueToSecond (IsCheckDue None m) read said
+  by_text m cert said (Ok text) is due =
+      let same = (short_second cert text (nat_lt most_bytes (length cert)) refl is).1 in subst (λ (c : List ℕ). said ≡ said_to_text (checker_of (kind_of c)) m text) same due
+  by_text m cert said (Err r) is due = due
+
+  by_model : (cert : List ℕ) (said : Said) (read : Result Mdp PlainRefusal)
+      → IsDueToModel (λ m. IsDueToSecond (λ bytes said. said ≡ said_to_text (checker_of (kind_of cert)) m bytes) (second_due cert)) read said
+      → IsDueToModel (λ m. IsDueToSecond (IsCheckDue None m) (second_due cert)) read said
+  by_model cert said (Ok m) due = by_text m cert said (second_due cert) refl due
+  by_model cert said (Err r) due = due
 
   had : (told : Option (List ℕ)) (bytes found : List ℕ) → told ≡ Some bytes → HadLeft told found → found ≡ bytes
   had told bytes found is h = subst (λ (t : Option (List ℕ)). HadLeft t found) is h
 
   module _ (rule : RowRule) (model_bytes cert_bytes : List ℕ) (told : model.before ≡ Some model_bytes) (told_cert : cert.before ≡ Some cert_bytes)
-      (yes : IsDueToModel (λ m. IsCheckDue None m cert_bytes) (model_due rule model_bytes) (Ok yes_text)) where
+      (yes : IsDueToPair (IsCheckDue None) rule model_bytes cert_bytes (Ok yes_text)) where
     by_cause : (said : Said) → Wrote ended out said → IsCheckRead None rule model cert said → IsYesUnless model cert out ended
     by_cause said w (inl from) =
-        let due = subst (λ (x : List ℕ). IsDueToModel (λ m. IsCheckDue None m cert_bytes) (model_due rule x) said) (had model.before model_bytes from.model_bytes told from.had_model)
-        (subst (λ (x : List ℕ). IsDueToModel (λ m. IsCheckDue None m x) (model_due rule from.model_bytes) said) (had cert.before cert_bytes from.second_bytes told_cert from.had_second) from.is_due) in
+        let due = subst (λ (x : List ℕ). IsDueToPair (IsCheckDue None) rule x cert_bytes said) (had model.before model_bytes from.model_bytes told from.had_model)
+        (subst (λ (x : List ℕ). IsDueToPair (IsCheckDue None) rule from.model_bytes x said) (had cert.before cert_bytes from.second_bytes told_cert from.had_second) from.is_due) in
         ends_as ended out said status.Done (IsYesUnless model cert out ended) (ap said_status (said_once cert_bytes (model_due rule model_bytes) said (Ok yes_text) due yes)) w inl
         (λ h. inr (inr (inr h)))
     by_cause said w (inr (inl failed)) =
@@ -158,7 +175,8 @@ module _ (model cert : Input) (out : Output) (ended : Status) where
   pub complete : ((kind : CertificateKind) → YesIsAccepted (checker_of kind)) → (asked : Asked) → IsAnswered asked model cert out ended → IsComplete asked model cert out ended
   complete accepts (Ok asked) a rule model_bytes cert_bytes is told told_cert holds =
       let same : asked ≡ rule = cc is in
-      by_cause rule model_bytes cert_bytes told told_cert ((accepts (kind_of cert_bytes) rule model_bytes cert_bytes yes_text).1 (refl, holds)) a.said a.written
+      by_cause rule model_bytes cert_bytes told told_cert
+      (by_model cert_bytes (Ok yes_text) (model_due rule model_bytes) ((accepts (kind_of cert_bytes) rule model_bytes cert_bytes yes_text).1 (refl, holds))) a.said a.written
       (subst (λ (r : RowRule). IsCheckRead None r model cert a.said) same a.cause.read)
   complete accepts (Err e) a rule model_bytes cert_bytes is told told_cert holds = cc is
 

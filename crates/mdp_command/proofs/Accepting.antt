@@ -21,12 +21,12 @@ use Rattle.mdp_discount_text.specs.Laws.{IsReadFromText}
 use Rattle.mdp_discount_text.specs.Text as discount_text
 use Rattle.mdp_subsystem_bounds.specs.Laws as subsystem
 use Rattle.mdp_job.specs.Refusal.{PlainRefusal, long_model, long_certificate, no_memory}
-use Rattle.mdp_command.proofs.Working.{read_of_due}
+use Rattle.mdp_command.proofs.Working.{read_of_due, short_second}
 use Rattle.mdp_command.specs.{Accepted.{Checker, AcceptedBy, exact}, Answered.{yes_text, said_of}}
-use Rattle.mdp_command.specs.{Files.{most_bytes, model_or_refusal, model_due, second_due, certificate_or_refusal, IsDueToModel}, Said.{Said}}
-use Rattle.mdp_command.specs.CheckDue.{said_to_text, check_due, IsCheckDue}
-use Rattle.mdp_command.specs.Kinds.{as_answer, discounted, between, discounted_between, subsystem_between, checker_of, chosen, checker_for}
-use Rattle.mdp_command.specs.{CheckLaws.{YesIsAccepted, AcceptedIsTrue}, CheckShown.{IsYes}, declared.kind.CertificateKind.{CertificateKind}}
+use Rattle.mdp_command.specs.{Files.{most_bytes, model_or_refusal, model_due, second_due, certificate_or_refusal, IsDueToModel, IsDueToSecond}, Said.{Said}}
+use Rattle.mdp_command.specs.CheckDue.{said_to_text, IsCheckDue}
+use Rattle.mdp_command.specs.Kinds.{as_answer, discounted, between, discounted_between, subsystem_between, checker_of, chosen}
+use Rattle.mdp_command.specs.{CheckLaws.{YesIsAccepted, YesIsTrue, AcceptedIsTrue}, CheckShown.{IsCheckPrinted}, declared.kind.CertificateKind.{CertificateKind}}
 use Rattle.mdp_command.specs.declared.kind.CertificateKind.TheVariants.{Exact, Discounted, Bounds, DiscountedBounds, SubsystemBounds}
 
 -- ---- what each checker keeps
@@ -106,44 +106,55 @@ not_more n xs x y h = ap (λ (b : Bool). cond b x y) (le-ltb n (length xs) h)
 
 module _ (checker : Checker) where
   -- a text is said to one that reads as a certificate, to which yes is answered
-  pub record HasYes (m : Mdp) (bytes said : List ℕ) : Type 0 where
-    pub short : length bytes ≤ most_bytes
+  record HasYes (m : Mdp) (bytes said : List ℕ) : Type 0 where
     pub cert : checker.meaning.Certificate
     pub read : checker.outcome bytes ≡ Ok cert
     pub answer : checker.answer_to m cert ≡ Yes
     pub yes : said ≡ yes_text
 
-  by_read : (m : Mdp) (bytes said : List ℕ) → length bytes ≤ most_bytes → (read : Result checker.meaning.Certificate text.Refusal) → checker.outcome bytes ≡ read
+  by_read : (m : Mdp) (bytes said : List ℕ) (read : Result checker.meaning.Certificate text.Refusal) → checker.outcome bytes ≡ read
       → (certificate_or_refusal read >>= (λ c. said_of (checker.answer_to m c))) ≡ Ok said → HasYes m bytes said
-  by_read m bytes said short (Ok c) is e = let y = is_yes (checker.answer_to m c) said e in record { short = short; cert = c; read = is; answer = y.0; yes = y.1 }
-  by_read m bytes said short (Err r) is e = cc e
+  by_read m bytes said (Ok c) is e = let y = is_yes (checker.answer_to m c) said e in record { cert = c; read = is; answer = y.0; yes = y.1 }
+  by_read m bytes said (Err r) is e = cc e
 
-  by_length : (m : Mdp) (bytes said : List ℕ) (long : Bool) → nat_lt most_bytes (length bytes) ≡ long
-      → (cond long (Err long_certificate) (Ok bytes) >>= (λ text. said_to_text checker m text)) ≡ Ok said → HasYes m bytes said
-  by_length m bytes said true is e = cc e
-  by_length m bytes said false is e = by_read m bytes said (ltb-false most_bytes (length bytes) is) (checker.outcome bytes) refl e
+  has_yes : (m : Mdp) (bytes said : List ℕ) → Ok said ≡ said_to_text checker m bytes → HasYes m bytes said
+  has_yes m bytes said e = by_read m bytes said (checker.outcome bytes) refl (sym e)
 
-  has_yes : (m : Mdp) (bytes said : List ℕ) → check_due checker m bytes ≡ Ok said → HasYes m bytes said
-  has_yes m bytes said e = by_length m bytes said (nat_lt most_bytes (length bytes)) refl e
+  pub yes_is_true : IsSound checker → YesIsTrue checker
+  yes_is_true sound m bytes said mdp due =
+      let has = has_yes m bytes said due in
+      let holds = (sound.yes m bytes has.cert mdp has.read).0 has.answer in
+      record { yes = has.yes; cert = has.cert; read = has.read; holds = holds; bound = sound.bound m bytes has.cert mdp has.read holds }
+
+  -- ---- the same of the bytes of two files
+
+  -- what is due to a model, and to bytes of which not too many were read
+  abbrev TextDue : Mdp → Said → Result (List ℕ) PlainRefusal → Type 0
+  TextDue m said read = IsDueToSecond (λ bytes said. said ≡ said_to_text checker m bytes) read said
+
+  by_second : (m : Mdp) (cert said : List ℕ) (read : Result (List ℕ) PlainRefusal) → second_due cert ≡ read → TextDue m (Ok said) read → (length cert ≤ most_bytes) × HasYes m cert said
+  by_second m cert said (Ok bytes) is due =
+      let short = short_second cert bytes (nat_lt most_bytes (length cert)) refl is in (short.0, subst (λ (b : List ℕ). HasYes m b said) (sym short.1) (has_yes m bytes said due))
+  by_second m cert said (Err r) is due = cc due
 
   module _ (models : ReadsAsModel) (sound : IsSound checker) where
     mdp_of : (rule : RowRule) (bytes : List ℕ) (m : Mdp) → drn.Reads bytes rule m → IsMdp m
     mdp_of rule bytes m reads = IsModel.mdp (models bytes rule m reads)
 
     by_model : (rule : RowRule) (model cert said : List ℕ) (read : Result Mdp PlainRefusal) → model_due rule model ≡ read
-        → IsDueToModel (λ m said. said ≡ check_due checker m cert) read (Ok said) → (said ≡ yes_text) × AcceptedBy checker rule model cert
+        → IsDueToModel (λ m said. TextDue m said (second_due cert)) read (Ok said) → (said ≡ yes_text) × AcceptedBy checker rule model cert
     by_model rule model cert said (Ok m) is due =
         let reads = read_of_due rule model m is in
-        let has = has_yes m cert said (sym due) in (
-          has.yes,
+        let has = by_second m cert said (second_due cert) refl due in (
+          has.1.yes,
           record {
             short_model = reads.0;
-            short_cert = has.short;
+            short_cert = has.0;
             model = m;
             reads = reads.1;
-            cert = has.cert;
-            text = has.read;
-            holds = (sound.yes m cert has.cert (mdp_of rule model m reads.1) has.read).0 has.answer;
+            cert = has.1.cert;
+            text = has.1.read;
+            holds = (sound.yes m cert has.1.cert (mdp_of rule model m reads.1) has.1.read).0 has.1.answer;
           },
         )
     by_model rule model cert said (Err r) is due = cc due
@@ -156,63 +167,38 @@ module _ (checker : Checker) where
     accepted_mdp : (rule : RowRule) (model cert : List ℕ) (a : AcceptedBy checker rule model cert) → IsMdp a.model
     accepted_mdp rule model cert a = mdp_of rule model a.model a.reads
 
-    cert_is_due : (rule : RowRule) (model cert : List ℕ) (a : AcceptedBy checker rule model cert) → check_due checker a.model cert ≡ Ok yes_text
+    cert_is_due : (rule : RowRule) (model cert : List ℕ) (a : AcceptedBy checker rule model cert) → TextDue a.model (Ok yes_text) (second_due cert)
     cert_is_due rule model cert a =
-        ap (λ (read : Result (List ℕ) PlainRefusal). read >>= (λ text. said_to_text checker a.model text)) (not_more most_bytes cert (Err long_certificate) (Ok cert) a.short_cert)
-        ∙ ap (λ (read : Result checker.meaning.Certificate text.Refusal). certificate_or_refusal read >>= (λ c. said_of (checker.answer_to a.model c))) a.text
-        ∙ ap said_of ((sound.yes a.model cert a.cert (accepted_mdp rule model cert a) a.text).1 a.holds)
+        subst (λ (read : Result (List ℕ) PlainRefusal). TextDue a.model (Ok yes_text) read) (sym (not_more most_bytes cert (Err long_certificate) (Ok cert) a.short_cert))
+        (sym (
+        ap (λ (read : Result checker.meaning.Certificate text.Refusal). certificate_or_refusal read >>= (λ c. said_of (checker.answer_to a.model c))) a.text
+        ∙ ap said_of ((sound.yes a.model cert a.cert (accepted_mdp rule model cert a) a.text).1 a.holds)))
 
-    yes_is_due : (rule : RowRule) (model cert : List ℕ) → AcceptedBy checker rule model cert → IsDueToModel (λ m said. said ≡ check_due checker m cert) (model_due rule model) (Ok yes_text)
+    yes_is_due : (rule : RowRule) (model cert : List ℕ) → AcceptedBy checker rule model cert → IsDueToModel (λ m said. TextDue m said (second_due cert)) (model_due rule model) (Ok yes_text)
     yes_is_due rule model cert a =
-        subst (λ (read : Result Mdp PlainRefusal). IsDueToModel (λ m said. said ≡ check_due checker m cert) read (Ok yes_text)) (sym (model_is_due rule model cert a))
-        (sym (cert_is_due rule model cert a))
+        subst (λ (read : Result Mdp PlainRefusal). IsDueToModel (λ m said. TextDue m said (second_due cert)) read (Ok yes_text)) (sym (model_is_due rule model cert a)) (cert_is_due rule model cert a)
 
     pub yes_is_accepted : YesIsAccepted checker
     yes_is_accepted rule model cert said = (
       λ due. by_model rule model cert said (model_due rule model) refl due,
       λ h.
-          subst (λ (said : List ℕ). IsDueToModel (λ m said. said ≡ check_due checker m cert) (model_due rule model) (Ok said)) (sym h.0)
+          subst (λ (said : List ℕ). IsDueToModel (λ m said. TextDue m said (second_due cert)) (model_due rule model) (Ok said)) (sym h.0)
           (yes_is_due rule model cert h.1),
     )
 
     pub accepted_is_true : AcceptedIsTrue checker
     accepted_is_true rule model cert a = sound.bound a.model cert a.cert (accepted_mdp rule model cert a) a.text a.holds
 
-  -- ---- what is shown of a text
+-- ---- what is printed
 
-  true_claim : YesIsAccepted checker → AcceptedIsTrue checker → (rule : RowRule) (m : Mdp) (model cert said : List ℕ) → model_due rule model ≡ Ok m → Ok said ≡ check_due checker m cert
-      → IsYes checker rule model cert said
-  true_claim accepts true_of rule m model cert said is due =
-      let a : (said ≡ yes_text) × AcceptedBy checker rule model cert =
-      (accepts rule model cert said).0 (subst (λ (read : Result Mdp PlainRefusal). IsDueToModel (λ m said. said ≡ check_due checker m cert) read (Ok said)) (sym is) due) in
-      record { yes = a.0; true_claim = record { accepted = a.1; bound = true_of rule model cert a.1 } }
+pub printed_of_due : ((kind : CertificateKind) → YesIsTrue (checker_of kind)) → (wanted : Option CertificateKind) (m : Mdp) (bytes : List ℕ) (said : Said) → IsMdp m
+    → (said ≡ Err no_memory) ⊎ IsCheckDue wanted m bytes said → IfOk said (IsCheckPrinted wanted m bytes)
+printed_of_due law wanted m bytes (Ok text) mdp (inl memory) = cc memory
+printed_of_due law wanted m bytes (Ok text) mdp (inr due) = law (chosen wanted bytes) m bytes text mdp due
+printed_of_due law wanted m bytes (Err r) mdp due = tt
 
-  shown : YesIsAccepted checker → AcceptedIsTrue checker → (rule : RowRule) (m : Mdp) (said : Said) (model cert : List ℕ) → model_due rule model ≡ Ok m → said ≡ check_due checker m cert
-      → IfOk said (IsYes checker rule model cert)
-  shown accepts true_of rule m (Ok said) model cert is due = true_claim accepts true_of rule m model cert said is due
-  shown accepts true_of rule m (Err r) model cert is due = tt
-
-pub checked : ((kind : CertificateKind) → YesIsAccepted (checker_of kind)) → ((kind : CertificateKind) → AcceptedIsTrue (checker_of kind)) → (wanted : Option CertificateKind) (rule : RowRule) (m : Mdp)
-    (said : Said) (model cert : List ℕ) → model_due rule model ≡ Ok m → IsCheckDue wanted m cert said → IfOk said (IsYes (checker_for wanted cert) rule model cert)
-checked accepts true_of wanted rule m said model cert is due = shown (checker_for wanted cert) (accepts (chosen wanted cert)) (true_of (chosen wanted cert)) rule m said model cert is due
-
--- ---- what is due to the bytes of a file, from what was read of it
-
-short_is : (bytes text : List ℕ) (long : Bool) → cond long (Err long_certificate) (Ok bytes) ≡ Ok text → bytes ≡ text
-short_is bytes text true e = cc e
-short_is bytes text false e = cc e
-
-pub refused_is_due : (wanted : Option CertificateKind) (m : Mdp) (r : PlainRefusal) (bytes : List ℕ) → second_due bytes ≡ Err r → IsCheckDue wanted m bytes (Err r)
-refused_is_due wanted m r bytes e = sym (ap (λ (x : Result (List ℕ) PlainRefusal). x >>= (λ text. said_to_text (checker_for wanted bytes) m text)) e)
+-- ---- what is due by the kind of a text
 
 pub by_kind : (kind given : CertificateKind) (m : Mdp) (text : List ℕ) (said : Said) → given ≡ kind → (said ≡ Err no_memory) ⊎ (said ≡ said_to_text (checker_of given) m text)
     → (said ≡ Err no_memory) ⊎ (said ≡ said_to_text (checker_of kind) m text)
 by_kind kind given m text said is due = subst (λ (k : CertificateKind). (said ≡ Err no_memory) ⊎ (said ≡ said_to_text (checker_of k) m text)) is due
-
-pub read_is_due : (wanted : Option CertificateKind) (m : Mdp) (said : Said) (lent text : List ℕ) → lent ≡ text → (said ≡ Err no_memory) ⊎ (said ≡ said_to_text (checker_for wanted lent) m lent)
-    → (said ≡ Err no_memory) ⊎ ((bytes : List ℕ) → second_due bytes ≡ Ok text → IsCheckDue wanted m bytes said)
-read_is_due wanted m said lent text same (inl memory) = inl memory
-read_is_due wanted m said lent text same (inr due) =
-    inr (λ bytes e.
-    due ∙ ap (λ (t : List ℕ). said_to_text (checker_for wanted t) m t) (same ∙ sym (short_is bytes text (nat_lt most_bytes (length bytes)) e))
-    ∙ sym (ap (λ (x : Result (List ℕ) PlainRefusal). x >>= (λ t. said_to_text (checker_for wanted bytes) m t)) (e ∙ ap (λ (t : List ℕ). Ok t) (sym (short_is bytes text (nat_lt most_bytes (length bytes)) e)))))

@@ -7,8 +7,8 @@ use Rattle.mdp_drn.specs.Outcome as drn
 use Rattle.mdp_drn.specs.Reading.{outcome, Reads}
 use Rattle.mdp_job.specs.Refusal.{PlainRefusal, read_model, read_certificate, long_model, no_memory}
 use Rattle.mdp_command.proofs.FileBytes.{or_nothing, had_nothing}
-use Rattle.mdp_command.specs.Files.{most_bytes, model_or_refusal, model_due, IsDueToModel}
-use Rattle.mdp_command.specs.{Read.{IsDueToBytes, IsRead, IsSaidOfBytes, IsReadAs, IsWorkOnModel, IsWorkOnPair}, Said.{Said}, Shown.{IsShownOf}, Streams.{Input, IsStill}}
+use Rattle.mdp_command.specs.Files.{most_bytes, model_or_refusal, model_due, second_due, IsDueToModel, IsDueToSecond}
+use Rattle.mdp_command.specs.{Read.{IsDueToBytes, IsRead, IsWorkOnModel, IsWorkOnPair}, Said.{Said}, Shown.{IsShownOf, AreShownOf}, Streams.{Input, IsStill}}
 
 -- ---- the model's bytes
 
@@ -64,18 +64,36 @@ module _ (rule : RowRule) (due : Mdp → Said → Type 0) (shows : List ℕ → 
 
 -- ---- a command that reads both sources
 
-module _ (rule : RowRule) (due : Mdp → List ℕ → Said → Type 0) (shows : List ℕ → List ℕ → List ℕ → Type 0) (model second : Input) where
-  abbrev dues : List ℕ → Mdp → Said → Type 0
-  dues bytes m = due m bytes
+-- bytes that are taken as they are aren't too many
+pub short_second : (bytes text : List ℕ) (long : Bool) → nat_lt most_bytes (length bytes) ≡ long → second_due bytes ≡ Ok text → (length bytes ≤ most_bytes) × (bytes ≡ text)
+short_second bytes text true e is = cc (e, is)
+short_second bytes text false e is = (ltb-false most_bytes (length bytes) e, cc (e, is))
+
+-- what is printed for a model and a second file is shown of any bytes to which these are due
+pub pair_shown_of : (IsPrinted : Mdp → List ℕ → List ℕ → Type 0) (rule : RowRule) (m : Mdp) (text : List ℕ) (said : Said) → IfOk said (IsPrinted m text) → (bytes other : List ℕ)
+    → model_due rule bytes ≡ Ok m → second_due other ≡ Ok text → IfOk said (AreShownOf IsPrinted rule bytes other)
+pair_shown_of IsPrinted rule m text (Ok out) printed bytes other is is_second =
+    let read = read_of_due rule bytes m is in
+    let second = short_second other text (nat_lt most_bytes (length other)) refl is_second in
+    record { short = read.0; model = m; reads = read.1; second_short = second.0; printed = subst (λ (t : List ℕ). IsPrinted m t out) (sym second.1) printed }
+pair_shown_of IsPrinted rule m text (Err r) printed bytes other is is_second = tt
+
+module _ (rule : RowRule) (due : Mdp → List ℕ → Said → Type 0) (IsPrinted : Mdp → List ℕ → List ℕ → Type 0) (model second : Input) where
+  abbrev HasWorked : Said → Type 0
+  HasWorked said = IsWorkOnPair rule due (AreShownOf IsPrinted rule) model second said
+
+  -- what is due to a model behind which these bytes were read
+  abbrev Behind : List ℕ → Said → Result Mdp PlainRefusal → Type 0
+  Behind other said read = IsDueToModel (λ m. IsDueToSecond (due m) (second_due other)) read said
 
   -- the second source wasn't read
-  pub pair_refused : (r : PlainRefusal) → IsStill second → IsRead model (model_due rule) read_model (Err r) → IsWorkOnPair rule due shows model second (Err r)
+  pub pair_refused : (r : PlainRefusal) → IsStill second → IsRead model (model_due rule) read_model (Err r) → HasWorked (Err r)
   pair_refused r still (inl read) = inl (record {
     model_bytes = read.0.bytes;
     second_bytes = or_nothing second.before;
     had_model = read.0.had;
     had_second = had_nothing second.before;
-    is_due = subst (λ (x : Result Mdp PlainRefusal). IsDueToModel (dues (or_nothing second.before)) x (Err r)) read.0.is_due refl;
+    is_due = subst (λ (x : Result Mdp PlainRefusal). Behind (or_nothing second.before) (Err r) x) read.0.is_due refl;
     shown = tt;
     model_still = read.1;
     second_still = still;
@@ -83,79 +101,50 @@ module _ (rule : RowRule) (due : Mdp → List ℕ → Said → Type 0) (shows : 
   pair_refused r still (inr (inl failed)) = inr (inl (cc (failed.0), failed.1))
   pair_refused r still (inr (inr memory)) = inr (inr (inr (cc memory)))
 
-  -- what is due to the model is a function of the second source's bytes
-  pub pair_worked : (m : Mdp) (said : Said) (due_to : List ℕ → Said) → ((bytes : List ℕ) → said ≡ due_to bytes → due m bytes said)
-      → IsRead model (model_due rule) read_model (Ok m) → IsRead second due_to read_certificate said
-      → ((bytes other : List ℕ) → model_due rule bytes ≡ Ok m → said ≡ due_to other → IfOk said (shows bytes other))
-      → IsWorkOnPair rule due shows model second said
-  pair_worked m said due_to is model_read (inl read) shown =
-      let from = model_had rule model m model_read in
-      inl (record {
-        model_bytes = from.0.bytes;
-        second_bytes = read.0.bytes;
-        had_model = from.0.had;
-        had_second = read.0.had;
-        is_due = subst (λ (x : Result Mdp PlainRefusal). IsDueToModel (dues read.0.bytes) x said) from.0.is_due (is read.0.bytes read.0.is_due);
-        shown = shown from.0.bytes read.0.bytes (sym from.0.is_due) read.0.is_due;
-        model_still = from.1;
-        second_still = read.1;
-      })
-  pair_worked m said due_to is model_read (inr (inl failed)) shown =
-      let from = model_had rule model m model_read in
-      inr (inr (inl (record {
-        fault = failed.1;
-        says = failed.0;
-        model_bytes = from.0.bytes;
-        had_model = from.0.had;
-        model_read = subst (λ (x : Result Mdp PlainRefusal). IsOk x) from.0.is_due refl;
-        model_still = from.1;
-      })))
-  pair_worked m said due_to is model_read (inr (inr memory)) shown = inr (inr (inr memory))
+  module _ (m : Mdp) (read : IsRead model (model_due rule) read_model (Ok m)) where
+    -- the second source failed, or has too many bytes
+    pub second_refused : (r : PlainRefusal) → IsRead second second_due read_certificate (Err r) → HasWorked (Err r)
+    second_refused r (inl other) =
+        let from = model_had rule model m read in
+        inl (record {
+          model_bytes = from.0.bytes;
+          second_bytes = other.0.bytes;
+          had_model = from.0.had;
+          had_second = other.0.had;
+          is_due = subst (λ (x : Result Mdp PlainRefusal). Behind other.0.bytes (Err r) x) from.0.is_due
+              (subst (λ (x : Result (List ℕ) PlainRefusal). IsDueToSecond (due m) x (Err r)) other.0.is_due refl);
+          shown = tt;
+          model_still = from.1;
+          second_still = other.1;
+        })
+    second_refused r (inr (inl failed)) =
+        let from = model_had rule model m read in
+        inr (inr (inl (record {
+          fault = failed.1;
+          says = cc failed.0;
+          model_bytes = from.0.bytes;
+          had_model = from.0.had;
+          model_read = subst (λ (x : Result Mdp PlainRefusal). IsOk x) from.0.is_due refl;
+          model_still = from.1;
+        })))
+    second_refused r (inr (inr memory)) = inr (inr (inr (cc memory)))
 
-  -- the same of what is due to the second source's bytes, and is no function of them
-  pub pair_worked_as : (m : Mdp) (said : Said) → IsRead model (model_due rule) read_model (Ok m) → IsReadAs second (due m) read_certificate said
-      → ((bytes other : List ℕ) → model_due rule bytes ≡ Ok m → due m other said → IfOk said (shows bytes other))
-      → IsWorkOnPair rule due shows model second said
-  pair_worked_as m said model_read (inl read) shown =
-      let from = model_had rule model m model_read in
-      inl (record {
-        model_bytes = from.0.bytes;
-        second_bytes = read.0.bytes;
-        had_model = from.0.had;
-        had_second = read.0.had;
-        is_due = subst (λ (x : Result Mdp PlainRefusal). IsDueToModel (dues read.0.bytes) x said) from.0.is_due read.0.is_due;
-        shown = shown from.0.bytes read.0.bytes (sym from.0.is_due) read.0.is_due;
-        model_still = from.1;
-        second_still = read.1;
-      })
-  pair_worked_as m said model_read (inr (inl failed)) shown =
-      let from = model_had rule model m model_read in
-      inr (inr (inl (record {
-        fault = failed.1;
-        says = failed.0;
-        model_bytes = from.0.bytes;
-        had_model = from.0.had;
-        model_read = subst (λ (x : Result Mdp PlainRefusal). IsOk x) from.0.is_due refl;
-        model_still = from.1;
-      })))
-  pair_worked_as m said model_read (inr (inr memory)) shown = inr (inr (inr memory))
-
--- ---- what is due to the bytes of a source, from what was read of it
-
-module _ {A : Type 0} (told : Option (List ℕ)) (still failed : Type 0) (due_to : List ℕ → Result A PlainRefusal) (due : List ℕ → Said → Type 0) (fault : PlainRefusal) where
-  abbrev pub HasRead : Result A PlainRefusal → Type 0
-  HasRead result = (IsDueToBytes told due_to result × still) ⊎ (((result ≡ Err fault) × failed) ⊎ (result ≡ Err no_memory))
-
-  abbrev pub HasSaid : Said → Type 0
-  HasSaid said = (IsSaidOfBytes told due said × still) ⊎ (((said ≡ Err fault) × failed) ⊎ (said ≡ Err no_memory))
-
-  pub read_refused : (r : PlainRefusal) → ((bytes : List ℕ) → due_to bytes ≡ Err r → due bytes (Err r)) → HasRead (Err r) → HasSaid (Err r)
-  read_refused r is (inl read) = inl (record { bytes = read.0.bytes; had = read.0.had; is_due = is read.0.bytes (sym read.0.is_due) }, read.1)
-  read_refused r is (inr (inl has_failed)) = inr (inl (cc (has_failed.0), has_failed.1))
-  read_refused r is (inr (inr memory)) = inr (inr (cc memory))
-
-  pub read_worked : (x : A) (said : Said) → (said ≡ Err no_memory) ⊎ ((bytes : List ℕ) → due_to bytes ≡ Ok x → due bytes said) → HasRead (Ok x) → HasSaid said
-  read_worked x said (inl memory) read = inr (inr memory)
-  read_worked x said (inr is) (inl read) = inl (record { bytes = read.0.bytes; had = read.0.had; is_due = is read.0.bytes (sym read.0.is_due) }, read.1)
-  read_worked x said (inr is) (inr (inl has_failed)) = cc (has_failed.0)
-  read_worked x said (inr is) (inr (inr memory)) = cc memory
+    -- both were read, and this is answered
+    pub pair_worked : (lent text : List ℕ) (said : Said) → lent ≡ text → IsRead second second_due read_certificate (Ok text) → (said ≡ Err no_memory) ⊎ due m lent said → IfOk said (IsPrinted m lent)
+        → HasWorked said
+    pair_worked lent text said same (inl other) (inl memory) printed = inr (inr (inr memory))
+    pair_worked lent text said same (inl other) (inr is_due) printed =
+        let from = model_had rule model m read in
+        inl (record {
+          model_bytes = from.0.bytes;
+          second_bytes = other.0.bytes;
+          had_model = from.0.had;
+          had_second = other.0.had;
+          is_due = subst (λ (x : Result Mdp PlainRefusal). Behind other.0.bytes said x) from.0.is_due
+              (subst (λ (x : Result (List ℕ) PlainRefusal). IsDueToSecond (due m) x said) other.0.is_due (subst (λ (t : List ℕ). due m t said) same is_due));
+          shown = pair_shown_of IsPrinted rule m text said (subst (λ (t : List ℕ). IfOk said (IsPrinted m t)) same printed) from.0.bytes other.0.bytes (sym from.0.is_due) (sym other.0.is_due);
+          model_still = from.1;
+          second_still = other.1;
+        })
+    pair_worked lent text said same (inr (inl failed)) is_due printed = cc (failed.0)
+    pair_worked lent text said same (inr (inr memory)) is_due printed = cc memory

@@ -33,6 +33,15 @@ IsDueToModel due (Err refusal) said = said ≡ Err refusal
 abbrev pub second_due : List ℕ → Result (List ℕ) PlainRefusal
 second_due bytes = if nat_lt most_bytes (length bytes) then Err long_certificate else Ok bytes
 
+-- only its length is judged before it is read as anything: this is due to its bytes, and the refusal where they are too many
+abbrev pub IsDueToSecond : (List ℕ → Said → Type 0) → Result (List ℕ) PlainRefusal → Said → Type 0
+IsDueToSecond due (Ok bytes) said = due bytes said
+IsDueToSecond due (Err refusal) said = said ≡ Err refusal
+
+-- this is due to the bytes of both files: the model's are judged first
+abbrev pub IsDueToPair : (Mdp → List ℕ → Said → Type 0) → RowRule → List ℕ → List ℕ → Said → Type 0
+IsDueToPair due rule model second said = IsDueToModel (λ m. IsDueToSecond (due m) (second_due second)) (model_due rule model) said
+
 -- what a text reads as, or the refusal of its line
 abbrev pub certificate_or_refusal : {A : Type 0} → Result A cert_refusal.Refusal → Result A PlainRefusal
 certificate_or_refusal (Ok c) = Ok c

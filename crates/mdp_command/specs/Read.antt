@@ -4,7 +4,7 @@ use Rattle.mdp_spec.specs.Mdp.{Mdp}
 use Rattle.mdp_rows.specs.declared.rule.RowRule.{RowRule}
 use Rattle.mdp_drn.specs.FromSource.{HadLeft}
 use Rattle.mdp_job.specs.Refusal.{PlainRefusal, model_text, read_model, long_model, read_certificate, long_certificate, no_memory}
-use Rattle.mdp_command.specs.{Files.{model_due, IsDueToModel}, Said.{Said}, Streams.{Input, HasFailed, IsStill}}
+use Rattle.mdp_command.specs.{Files.{model_due, IsDueToModel, IsDueToPair}, Said.{Said}, Streams.{Input, HasFailed, IsStill}}
 
 -- ---- one source
 
@@ -17,16 +17,6 @@ pub record IsDueToBytes {A : Type 0} (told : Option (List ℕ)) (due_to : List �
 -- a file: what is due to its bytes, or a fault that was counted, or want of memory
 abbrev pub IsRead : {A : Type 0} → Input → (List ℕ → Result A PlainRefusal) → PlainRefusal → Result A PlainRefusal → Type 0
 IsRead file due_to fault result = (IsDueToBytes file.before due_to result × IsStill file) ⊎ (((result ≡ Err fault) × HasFailed file) ⊎ (result ≡ Err no_memory))
-
--- this is due to the bytes that a source had left
-pub record IsSaidOfBytes (told : Option (List ℕ)) (due : List ℕ → Said → Type 0) (said : Said) : Type 0 where
-  pub bytes : List ℕ
-  pub had : HadLeft told bytes
-  pub is_due : due bytes said
-
--- a file, where this is due to its bytes; or a fault that was counted, or want of memory
-abbrev pub IsReadAs : Input → (List ℕ → Said → Type 0) → PlainRefusal → Said → Type 0
-IsReadAs file due fault said = (IsSaidOfBytes file.before due said × IsStill file) ⊎ (((said ≡ Err fault) × HasFailed file) ⊎ (said ≡ Err no_memory))
 
 -- a file was read to its end, but where it failed or had too many bytes
 abbrev pub IsReadToEnd : {A : Type 0} → PlainRefusal → PlainRefusal → Input → Result A PlainRefusal → Type 0
@@ -62,7 +52,7 @@ pub record IsPairWorked (rule : RowRule) (due : Mdp → List ℕ → Said → Ty
   pub second_bytes : List ℕ
   pub had_model : HadLeft model.before model_bytes
   pub had_second : HadLeft second.before second_bytes
-  pub is_due : IsDueToModel (λ m. due m second_bytes) (model_due rule model_bytes) said
+  pub is_due : IsDueToPair due rule model_bytes second_bytes said
   pub shown : IfOk said (shows model_bytes second_bytes)
   pub model_still : IsStill model
   pub second_still : IsStill second

@@ -1,7 +1,7 @@
-ghost use Rattle.std.specs.Prelude.{◌≡◌, ◌⊎◌, false, Err, IsTrue, IsFalse};
-ghost use Rattle.mdp_command.specs.{Prelude.{IsModelReadToEnd, IsSecondReadToEnd, no_memory, read_certificate, said, input}, Accepted.{exact}, Read.{IsReadAs, is_of_model}};
+ghost use Rattle.std.specs.Prelude.{◌≡◌, ◌⊎◌, false, Err, IfOk, IsTrue, IsFalse};
+ghost use Rattle.mdp_command.specs.{Prelude.{IsModelReadToEnd, IsSecondReadToEnd, no_memory, said, input}, Accepted.{exact}, Read.{is_of_model}};
 ghost use Rattle.mdp_command.specs.{CheckDue.{said_to_text, IsCheckDue}, Kinds.{as_answer, discounted, between, discounted_between, subsystem_between, checker_for}};
-ghost use Rattle.mdp_command.specs.CheckShown.{IsCheckRead};
+ghost use Rattle.mdp_command.specs.CheckShown.{IsCheckPrinted, IsCheckRead};
 
 use crate::files::{read_model, read_second};
 use crate::kind::{CertificateKind, chosen};
@@ -94,19 +94,20 @@ fn of_text(
     }
 }
 
-/// Reads the certificate to its end and judges its text, then holds it against the model.
-fn of_source<C: Source>(
+/// Judges the text of a certificate of the wanted kind, or of that which its first line names, then holds it against the model.
+pub fn check_query(
     alloc: Global,
-    wanted: Option<CertificateKind>,
     model: &Model,
-    second: &mut C,
+    wanted: Option<CertificateKind>,
+    bytes: &[u8],
 ) -> Result<Vec<u8>, Refusal>
-    ensures read { IsReadAs (input C.left C.faults second.old second.new) (IsCheckDue wanted model.now) read_certificate (said result) }
+    ensures due { (said result ≡ Err no_memory) ⊎ IsCheckDue wanted model.now bytes.now (said result) }
+    ensures printed { IfOk (said result) (IsCheckPrinted wanted model.now bytes.now) }
     ensures not_of_model { is_of_model (said result) ≡ false }
-    ensures end { IsSecondReadToEnd (input C.left C.faults second.old second.new) (said result) }
 {
-    let bytes = read_second(alloc, second)?;
-    of_text(alloc, wanted, model, &bytes)
+    check_law();
+    model.known();
+    of_text(alloc, wanted, model, bytes)
 }
 
 /// Reads the model to its end and judges its text, then the certificate, then holds the one against the other. The certificate is of the wanted kind, or
@@ -124,6 +125,6 @@ pub fn check_files<S: Source, C: Source>(
     ensures second_end { IsFalse (is_of_model (said result)) → IsSecondReadToEnd (input C.left C.faults second.old second.new) (said result) }
 {
     let model = read_model(alloc, model, rule)?;
-    check_law();
-    of_source(alloc, wanted, &model, second)
+    let bytes = read_second(alloc, second)?;
+    check_query(alloc, &model, wanted, &bytes)
 }

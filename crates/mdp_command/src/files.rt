@@ -1,7 +1,7 @@
-ghost use Rattle.std.specs.Prelude.{◌≡◌, ◌⊎◌, Err, IfOk};
+ghost use Rattle.std.specs.Prelude.{◌≡◌, ◌⊎◌, false, Err, IfOk};
 ghost use Rattle.mdp_spec.specs.Row.{IsMdp};
 ghost use Rattle.mdp_job.specs.Refusal.{read_model, read_certificate};
-ghost use Rattle.mdp_command.specs.{Files.{model_due, second_due}, Read.{IsRead, IsModelReadToEnd, IsSecondReadToEnd}, Said.{said, plain_error}, Streams.{input}};
+ghost use Rattle.mdp_command.specs.{Files.{model_due, second_due}, Read.{IsRead, IsModelReadToEnd, IsSecondReadToEnd, is_of_model}, Said.{said, plain_error}, Streams.{input}};
 
 use mdp_drn::{FromError, read_from};
 use mdp_edge::{InError, Source, read_all};
@@ -35,6 +35,7 @@ pub fn read_model<S: Source>(alloc: Global, source: &mut S, rule: RowRule) -> Re
 pub fn read_second<S: Source>(alloc: Global, source: &mut S) -> Result<Vec<u8>, Refusal>
     ensures read { IsRead (input S.left S.faults source.old source.new) second_due read_certificate (said result) }
     ensures end { IsSecondReadToEnd (input S.left S.faults source.old source.new) (said result) }
+    ensures not_of_model { is_of_model (said result) ≡ false }
 {
     match read_all(alloc, source, MOST_BYTES) {
         Ok(bytes) => Ok(bytes),

@@ -1,4 +1,4 @@
-ghost use Rattle.mdp_command.specs.{Kinds.{checker_of}, CheckLaws.{YesIsAccepted, AcceptedIsTrue, ReadsItsText, NamesItsKind}, declared.kind.CertificateKind.{CertificateKind}};
+ghost use Rattle.mdp_command.specs.{Kinds.{checker_of}, CheckLaws.{YesIsAccepted, YesIsTrue, AcceptedIsTrue, ReadsItsText, NamesItsKind}, declared.kind.CertificateKind.{CertificateKind}};
 ghost use Rattle.mdp_command.specs.DiscountStart.{ExactNoOfInit, BoundsNoOfInit};
 
 use mdp_cert::{bounds_text_law, text_law};
@@ -9,9 +9,10 @@ use mdp_drn::model_law;
 use mdp_subsystem_bounds::{subsystem_bounds_law, subsystem_bounds_text_law};
 
 /// Laws of a check, for certificates of each kind: a `yes` is due exactly where the bytes are accepted, and the claim of an accepted certificate is
-/// true of the model. Bytes read as a certificate exactly where they are its text, and a text names the kind of its certificate.
+/// true of the model, which no other is answered `yes`. Bytes read as a certificate exactly where they are its text, and a text names the kind of its certificate.
 pub fn check_law()
     ensures accepted { (kind : CertificateKind) → YesIsAccepted (checker_of kind) }
+    ensures yes { (kind : CertificateKind) → YesIsTrue (checker_of kind) }
     ensures true_claim { (kind : CertificateKind) → AcceptedIsTrue (checker_of kind) }
     ensures text { (kind : CertificateKind) → ReadsItsText (checker_of kind) }
     ensures kind { (kind : CertificateKind) → NamesItsKind kind }

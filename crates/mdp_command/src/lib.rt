@@ -12,7 +12,7 @@ mod saying;
 mod words;
 mod writing;
 
-pub use checking::check_files;
+pub use checking::{check_files, check_query};
 pub use files::{read_model, read_second};
 pub use kind::{CertificateKind, kind_of};
 pub use laws::{check_law, discount_start_law};

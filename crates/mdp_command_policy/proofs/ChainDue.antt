@@ -3,14 +3,13 @@ use Rattle.std.proofs.Common.{◌≡◌, ℕ, ◌<◌, ◌⊎◌, inl, inr, Bool
 use Rattle.std.proofs.lemmas.Bool.{false≢true, cases_lt}
 use Rattle.std.specs.Prelude.{◌==◌}
 use borrow.Author.Tests.{eqb-true, leb-true}
-use Rattle.mdp_math.specs.Result.{◌>>=◌}
 use Rattle.mdp_spec.specs.{Mdp.{Mdp, states_of, choices_at}, Tree.{IsPolicy}}
 use Rattle.mdp_graph.proofs.Falls.{case-any}
 use Rattle.mdp_drn.specs.Writing.{text_of}
 use Rattle.mdp_job.specs.Refusal.{PlainRefusal, no_memory, query_size, query_choice}
-use Rattle.mdp_command.specs.{Files.{second_due}, Said.{Said}}
+use Rattle.mdp_command.specs.Said.{Said}
 use Rattle.mdp_policy.specs.Chain.{chain_of, NamesNoChoice}
-use Rattle.mdp_command_policy.specs.{ChainDue.{choices_in, choices_due, IsChoiceDue, IsSizeDue, IsTextDue, IsChainDue}, ChainLaws.{IsDueOnce, SomethingIsDue}}
+use Rattle.mdp_command_policy.specs.{ChainDue.{choices_in, IsChoiceDue, IsSizeDue, IsTextDue, IsChainDue}, ChainLaws.{IsDueOnce, SomethingIsDue}}
 
 not_both : {Q : Type 0} (m : Mdp) (policy : List ℕ) → IsPolicy m policy → NamesNoChoice m policy → Q
 not_both m policy is other = let in_range = is.in_range other.state other.below in let past = other.past in absurd (omega (arith, in_range, past))
@@ -30,7 +29,7 @@ text_once m (Ok policy) said again d e = size_once m policy (length policy == st
 text_once m (Err r) said again d e = d ∙ sym e
 
 pub chain_once : IsDueOnce
-chain_once m bytes said again d e = text_once m (choices_due bytes) said again d e
+chain_once m bytes said again d e = text_once m (choices_in bytes) said again d e
 
 -- ---- something is due
 
@@ -57,7 +56,7 @@ text_some m (Ok policy) = size_some m policy (length policy == states_of m) refl
 text_some m (Err r) = (Err r, refl)
 
 pub chain_due : SomethingIsDue
-chain_due m bytes = text_some m (choices_due bytes)
+chain_due m bytes = text_some m (choices_in bytes)
 
 -- ---- what is due to a chain that was made
 
@@ -67,18 +66,6 @@ made_due m made policy said same is (inl memory) = inl memory
 made_due m made policy said same is (inr e) =
     let due : IsChoiceDue m policy said = inl (is, e ∙ ap (λ (k : Mdp). let r : Said = Ok (text_of k) in r) same) in
     inr (subst (λ (fits : Bool). IsSizeDue m policy fits said) (sym (eq-eqb (length policy) (states_of m) is.one_each)) due)
-
--- ---- what is due to the bytes of a file, from what was read of it
-
-pub refused_is_due : (m : Mdp) (r : PlainRefusal) (bytes : List ℕ) → second_due bytes ≡ Err r → IsChainDue m bytes (Err r)
-refused_is_due m r bytes e = subst (λ (x : Result (List ℕ) PlainRefusal). IsTextDue m (x >>= choices_in) (Err r)) (sym e) refl
-
-pub read_is_due : (m : Mdp) (said : Said) (lent text : List ℕ) → lent ≡ text → (said ≡ Err no_memory) ⊎ IsTextDue m (choices_in lent) said
-    → (said ≡ Err no_memory) ⊎ ((bytes : List ℕ) → second_due bytes ≡ Ok text → IsChainDue m bytes said)
-read_is_due m said lent text same (inl memory) = inl memory
-read_is_due m said lent text same (inr due) =
-    inr (λ bytes e.
-    subst (λ (x : Result (List ℕ) PlainRefusal). IsTextDue m (x >>= choices_in) said) (sym e) (subst (λ (t : List ℕ). IsTextDue m (choices_in t) said) same due))
 
 -- ---- what is due to choices that were read of a text
 

@@ -2,7 +2,6 @@
 use Rattle.std.proofs.Common.{◌≡◌, ℕ, ◌⊎◌, inl, inr, Bool, true, false, List, length, Option, Some, Result, Ok, Err, refl, sym, ap, subst, ◌∙◌, arith}
 use Rattle.std.proofs.lemmas.List.FromFn.{fill_by_all}
 use Rattle.std.specs.Prelude.{slice_index_or, ◌==◌}
-use Rattle.mdp_math.specs.Result.{◌>>=◌}
 use Rattle.mdp_math.proofs.Booleans.{same_truth}
 use Rattle.mdp_spec.specs.{Mdp.{Mdp, states_of}, Tree.{is_marked, IsPolicy}}
 use Rattle.mdp_wide.specs.{declared.too_wide.Kind.{Kind}, declared.too_wide.Part.{Part}, declared.too_wide.Part.TheVariants.{Whole}, Errors.{SolveError}}
@@ -13,9 +12,9 @@ use Rattle.mdp_policy_iteration.specs.Places.{Place}
 use Rattle.mdp_reach.specs.Query.{policy_rows}
 use Rattle.mdp_policy.specs.{Answer.{IsValueOf, IsAnswerOn, IsTermAt, GivesOn}, Way.{way_model, way_policy}, Spelling.{value_text}, Text.{policy_outcome}, Written.{Answer, written_value}}
 use Rattle.mdp_job.specs.Refusal.{PlainRefusal, too_wide, no_memory}
-use Rattle.mdp_command.specs.{Files.{second_due}, Said.{Said}}
+use Rattle.mdp_command.specs.Said.{Said}
 use Rattle.mdp_command_policy.specs.declared.marking.Marked.{Marked}
-use Rattle.mdp_command_policy.specs.Due.{choices_or_refusal, choices_due, marks_due, TakesNoChoice, term_at, said_of_end, IsValueDue, IsChoiceDue, IsMarksDue, IsSizeDue, IsTextDue, IsPolicyDue}
+use Rattle.mdp_command_policy.specs.Due.{choices_or_refusal, marks_due, TakesNoChoice, term_at, said_of_end, IsValueDue, IsChoiceDue, IsMarksDue, IsSizeDue, IsTextDue, IsPolicyDue}
 
 -- ---- the marks are determined
 
@@ -58,7 +57,7 @@ module _ (stay : Option (List ℕ)) (label : List ℕ) (m : Mdp) where
   text_once (Err r) said again d e = d ∙ sym e
 
   pub policy_once : (bytes : List ℕ) (said again : Said) → IsPolicyDue stay label m bytes said → IsPolicyDue stay label m bytes again → said ≡ again
-  policy_once bytes said again d e = text_once (choices_due bytes) said again d e
+  policy_once bytes said again d e = text_once (choices_or_refusal (policy_outcome bytes)) said again d e
 
 -- ---- what is due to a policy, from what its value was given as
 
@@ -83,18 +82,3 @@ module _ (stay : Option (List ℕ)) (label : List ℕ) (m : Mdp) (policy : List 
   wide_due e w is gives =
       let g = subst (λ (s : Option (List Bool)). GivesOn m s marks.goals policy (Err (error.TooWide w))) are (subst (λ (x : SolveError). GivesOn m stays marks.goals policy (Err x)) is gives) in
       (Err g.0, g.2, ap (λ (t : WideTerm). let r : Said = Err (too_wide t) in r) (term_is (way_policy marks.stays marks.goals policy) g.0 w g.1))
-
--- ---- what is due to the bytes of a file, from what was read of it
-
-module _ (stay : Option (List ℕ)) (label : List ℕ) (m : Mdp) where
-  pub refused_is_due : (r : PlainRefusal) (bytes : List ℕ) → second_due bytes ≡ Err r → IsPolicyDue stay label m bytes (Err r)
-  refused_is_due r bytes e =
-      subst (λ (x : Result (List ℕ) PlainRefusal). IsTextDue stay label m (x >>= (λ text. choices_or_refusal (policy_outcome text))) (Err r)) (sym e) refl
-
-  pub read_is_due : (said : Said) (lent text : List ℕ) → lent ≡ text → (said ≡ Err no_memory) ⊎ IsTextDue stay label m (choices_or_refusal (policy_outcome lent)) said
-      → (said ≡ Err no_memory) ⊎ ((bytes : List ℕ) → second_due bytes ≡ Ok text → IsPolicyDue stay label m bytes said)
-  read_is_due said lent text same (inl memory) = inl memory
-  read_is_due said lent text same (inr due) =
-      inr (λ bytes e.
-      subst (λ (x : Result (List ℕ) PlainRefusal). IsTextDue stay label m (x >>= (λ text. choices_or_refusal (policy_outcome text))) said) (sym e)
-      (subst (λ (t : List ℕ). IsTextDue stay label m (choices_or_refusal (policy_outcome t)) said) same due))

@@ -1,35 +1,21 @@
 -- A text that is due is that of a policy's probabilities, and of changes that are better.
-use Rattle.std.proofs.Common.{◌≡◌, ℕ, ◌≤◌, inl, inr, Bool, true, false, nat_lt, List, length, Option, Some, None, Result, Ok, Err, IfOk, refl, ◌∙◌}
-use Rattle.std.proofs.lemmas.Bool.{ltb-false}
+use Rattle.std.proofs.Common.{◌≡◌, ◌⊎◌, ℕ, inl, inr, Bool, true, false, List, length, Option, Some, None, Result, Ok, Err, IfOk, refl}
 use Rattle.std.specs.Prelude.{◌==◌}
 use Rattle.mdp_spec.specs.{Mdp.{Mdp, states_of}, Row.{IsMdp}, Sub.{sub_of, policy_on}, Tree.{is_marked, IsPolicy}}
 use Rattle.mdp_spec.proofs.Subsystem.{sub_is_mdp, policy_on_sub}
-use Rattle.mdp_rows.specs.declared.rule.RowRule.{RowRule}
 use Rattle.mdp_elim.specs.Laws.{GivesSolutions}
 use Rattle.mdp_graph.specs.{Laws.{RowsFall, RowsStay}, Reach.{row_step}}
 use Rattle.mdp_policy_iteration.specs.Places.{Place}
-use Rattle.mdp_policy_iteration.proofs.Results.{ok_part}
 use Rattle.mdp_reach.specs.Query.{policy_rows, AreMaxRanks}
-use Rattle.mdp_text.specs.declared.error.Refusal as text
+use Rattle.mdp_text.specs.declared.error.Refusal as cert_refusal
 use Rattle.mdp_policy.specs.{Answer.{IsValueOf, IsAnswerOn}, Way.{way_policy}, Text.{policy_outcome, IsReadFromText}, Written.{Answer}}
 use Rattle.mdp_policy.proofs.{Facts.{IsValued, written_valued}, Ways.{valued_there}}
-use Rattle.mdp_job.specs.Refusal.{PlainRefusal}
-use Rattle.mdp_command.specs.{Files.{most_bytes, model_due, second_due}, Said.{Said}}
-use Rattle.mdp_command.proofs.Working.{read_of_due}
+use Rattle.mdp_job.specs.Refusal.{PlainRefusal, no_memory}
+use Rattle.mdp_command.specs.Said.{Said}
 use Rattle.mdp_command_policy.specs.declared.marking.Marked.{Marked}
-use Rattle.mdp_command_policy.specs.Due.{choices_or_refusal, choices_due, marks_due, said_of_end, IsChoiceDue, IsMarksDue, IsSizeDue, IsTextDue, IsPolicyDue}
-use Rattle.mdp_command_policy.specs.{Laws.{TextIsValue}, Shown.{IsValuePrinted, IsPolicyPrinted, IsPolicyShown}}
+use Rattle.mdp_command_policy.specs.Due.{choices_or_refusal, marks_due, said_of_end, IsChoiceDue, IsMarksDue, IsSizeDue, IsTextDue, IsPolicyDue}
+use Rattle.mdp_command_policy.specs.{Laws.{TextIsValue}, Shown.{IsValuePrinted, IsPolicyPrinted}}
 use Rattle.mdp_command_policy.proofs.Ranks.{ranks_of, least_ranks}
-
--- ---- the policy's text
-
-short_second : (bytes text : List ℕ) (long : Bool) → nat_lt most_bytes (length bytes) ≡ long → second_due bytes ≡ Ok text → (length bytes ≤ most_bytes) × (bytes ≡ text)
-short_second bytes text true e is = cc (e, is)
-short_second bytes text false e is = (ltb-false most_bytes (length bytes) e, cc (e, is))
-
-outcome_part : (read : Result (List ℕ) text.Refusal) (policy : List ℕ) → choices_or_refusal read ≡ Ok policy → read ≡ Ok policy
-outcome_part (Ok choices) policy e = cc e
-outcome_part (Err r) policy e = cc e
 
 module _ (falls : RowsFall) (stays : RowsStay) (gives : GivesSolutions) where
   -- ---- the value
@@ -80,23 +66,21 @@ module _ (falls : RowsFall) (stays : RowsStay) (gives : GivesSolutions) where
     of_size policy false d = cc d
     of_size policy true d = of_marks policy (marks_due stay label m) refl d
 
-    of_text : (bytes : List ℕ) (read : Result (List ℕ) PlainRefusal) → choices_due bytes ≡ read → IsTextDue stay label m read (Ok text)
-        → (policy : List ℕ) × (choices_due bytes ≡ Ok policy) × IsValuePrinted stay label m policy text
+    of_text : (bytes : List ℕ) (read : Result (List ℕ) cert_refusal.Refusal) → policy_outcome bytes ≡ read → IsTextDue stay label m (choices_or_refusal read) (Ok text)
+        → (policy : List ℕ) × (policy_outcome bytes ≡ Ok policy) × IsValuePrinted stay label m policy text
     of_text bytes (Ok policy) is d = (policy, is, of_size policy (length policy == states_of m) d)
     of_text bytes (Err r) is d = cc d
 
     pub printed_of_due : IsReadFromText → (bytes : List ℕ) → IsPolicyDue stay label m bytes (Ok text) → IsPolicyPrinted stay label m bytes text
     printed_of_due from bytes d =
-        let p = of_text bytes (choices_due bytes) refl d in
-        let b = ok_part (second_due bytes) (λ t. choices_or_refusal (policy_outcome t)) p.0 p.1 in
-        let s = short_second bytes b.0 (nat_lt most_bytes (length bytes)) refl b.1 in
-        let o = (from b.0 p.0).0 (outcome_part (policy_outcome b.0) p.0 b.2) in
-        record { short = s.0; policy = p.0; fits = o.0; text_of = s.1 ∙ o.1; printed = p.2 }
+        let p = of_text bytes (policy_outcome bytes) refl d in
+        let o = (from bytes p.0).0 p.1 in
+        record { policy = p.0; fits = o.0; text_of = o.1; printed = p.2 }
 
--- ---- what is shown of the bytes
+-- ---- what is printed
 
-pub shown : TextIsValue → (rule : RowRule) (stay : Option (List ℕ)) (label : List ℕ) (m : Mdp) (said : Said) → IsMdp m → (bytes other : List ℕ) → model_due rule bytes ≡ Ok m
-    → IsPolicyDue stay label m other said → IfOk said (IsPolicyShown rule stay label bytes other)
-shown law rule stay label m (Ok text) mdp bytes other is due =
-    let read = read_of_due rule bytes m is in record { short = read.0; model = m; reads = read.1; value = law stay label m other text mdp due }
-shown law rule stay label m (Err r) mdp bytes other is due = tt
+pub printed : TextIsValue → (stay : Option (List ℕ)) (label : List ℕ) (m : Mdp) (bytes : List ℕ) (said : Said) → IsMdp m → (said ≡ Err no_memory) ⊎ IsPolicyDue stay label m bytes said
+    → IfOk said (IsPolicyPrinted stay label m bytes)
+printed law stay label m bytes (Ok text) mdp (inl memory) = cc memory
+printed law stay label m bytes (Ok text) mdp (inr due) = law stay label m bytes text mdp due
+printed law stay label m bytes (Err r) mdp due = tt

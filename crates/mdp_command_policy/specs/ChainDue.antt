@@ -1,6 +1,5 @@
 -- What is due to the chain of a policy: to the model and to the bytes of the second file, which are a policy's text or a certificate's.
 use Rattle.std.specs.Prelude.{◌≡◌, ◌⊎◌, ℕ, Bool, true, false, List, length, Result, Ok, Err, ◌==◌, if◌then◌else◌, codes}
-use Rattle.mdp_math.specs.Result.{◌>>=◌}
 use Rattle.mdp_spec.specs.{Mdp.{Mdp, states_of}, Tree.{IsPolicy}}
 use Rattle.mdp_drn.specs.{Lines.{begins_with}, Writing.{text_of}}
 use Rattle.mdp_text.specs.declared.error.Refusal as text
@@ -17,7 +16,7 @@ use Rattle.mdp_subsystem_bounds.specs.Cert as subsystem
 use Rattle.mdp_subsystem_bounds.specs.Reading as subsystem_text
 use Rattle.mdp_policy.specs.{Text.{policy_outcome}, Chain.{chain_of, NamesNoChoice}}
 use Rattle.mdp_job.specs.Refusal.{PlainRefusal, query_size, query_choice, cert_text, policy_text}
-use Rattle.mdp_command.specs.{Files.{second_due}, Said.{Said}}
+use Rattle.mdp_command.specs.Said.{Said}
 
 -- ---- the choices that a text names, one for each state
 
@@ -70,10 +69,6 @@ choices_in bytes =
     else (if begins_with (codes "mdp-discount") bytes then in_discount (discount_text.outcome bytes)
     else in_policy (policy_outcome bytes)))
 
--- the choices that a file's bytes name
-abbrev pub choices_due : List ℕ → Result (List ℕ) PlainRefusal
-choices_due bytes = second_due bytes >>= choices_in
-
 -- ---- the chain, and the refusals before it, in their order: the number of states, the choices
 
 -- the text of the chain, or that some choice isn't one of its state
@@ -90,4 +85,4 @@ IsTextDue m (Ok policy) said = IsSizeDue m policy (length policy == states_of m)
 IsTextDue m (Err r) said = said ≡ Err r
 
 abbrev pub IsChainDue : Mdp → List ℕ → Said → Type 0
-IsChainDue m bytes said = IsTextDue m (choices_due bytes) said
+IsChainDue m bytes said = IsTextDue m (choices_in bytes) said

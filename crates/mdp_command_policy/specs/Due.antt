@@ -8,7 +8,7 @@ use Rattle.mdp_policy_iteration.specs.Places.{Place}
 use Rattle.mdp_text.specs.declared.error.Refusal as text
 use Rattle.mdp_policy.specs.{Answer.{IsAnswerOn}, Way.{way_policy}, Spelling.{value_text}, Text.{policy_outcome}, Written.{Answer}}
 use Rattle.mdp_job.specs.Refusal.{PlainRefusal, query_size, query_label, query_choice, too_wide, policy_text}
-use Rattle.mdp_command.specs.{Files.{second_due}, Said.{Said}}
+use Rattle.mdp_command.specs.Said.{Said}
 use Rattle.mdp_command_policy.specs.declared.marking.Marked.{Marked}
 
 -- ---- the policy
@@ -16,10 +16,6 @@ use Rattle.mdp_command_policy.specs.declared.marking.Marked.{Marked}
 abbrev pub choices_or_refusal : Result (List ℕ) text.Refusal → Result (List ℕ) PlainRefusal
 choices_or_refusal (Ok choices) = Ok choices
 choices_or_refusal (Err r) = Err (policy_text r.line r.kind)
-
--- the choices of which a file's bytes are the text
-abbrev pub choices_due : List ℕ → Result (List ℕ) PlainRefusal
-choices_due bytes = second_due bytes >>= (λ text. choices_or_refusal (policy_outcome text))
 
 -- at some state the choice isn't one of the state's
 pub record TakesNoChoice (m : Mdp) (policy : List ℕ) : Type 0 where
@@ -81,4 +77,4 @@ IsTextDue stay label m (Ok policy) said = IsSizeDue stay label m policy (length 
 IsTextDue stay label m (Err r) said = said ≡ Err r
 
 abbrev pub IsPolicyDue : Option (List ℕ) → List ℕ → Mdp → List ℕ → Said → Type 0
-IsPolicyDue stay label m bytes said = IsTextDue stay label m (choices_due bytes) said
+IsPolicyDue stay label m bytes said = IsTextDue stay label m (choices_or_refusal (policy_outcome bytes)) said

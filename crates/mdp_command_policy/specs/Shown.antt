@@ -1,12 +1,9 @@
 -- What is shown of the text that gives the value of a policy.
-use Rattle.std.specs.Prelude.{◌≡◌, ℕ, ◌≤◌, List, length, Option, Some, None, Ok}
+use Rattle.std.specs.Prelude.{◌≡◌, ℕ, List, Option, Some, None, Ok}
 use Rattle.mdp_spec.specs.Mdp.{Mdp}
-use Rattle.mdp_rows.specs.declared.rule.RowRule.{RowRule}
-use Rattle.mdp_drn.specs.Reading.{Reads}
 use Rattle.mdp_policy.specs.{Answer.{IsAnswerOn}, Bounds.{PolicyBound, AreGreatest, SomeTreePasses, DeepTreesStayBelow}, Spelling.{value_text}, Text.{FitsText, policy_text}}
 use Rattle.mdp_policy.specs.{Written.{Answer}, declared.value.Change.{Change}}
-use Rattle.mdp_command.specs.{Files.{most_bytes}, Read.{IsWorkOnPair}, Said.{Said}, Streams.{Input}}
-use Rattle.mdp_command_policy.specs.{Due.{marks_due, IsPolicyDue}, declared.marking.Marked.{Marked}}
+use Rattle.mdp_command_policy.specs.{Due.{marks_due}, declared.marking.Marked.{Marked}}
 
 -- the text of the value of a policy, with the states of the label as goals and, where it is asked, those of the label `stay` on the way
 pub record IsValuePrinted (stay : Option (List ℕ)) (label : List ℕ) (m : Mdp) (policy text : List ℕ) : Type 0 where
@@ -25,20 +22,7 @@ pub record IsValuePrinted (stay : Option (List ℕ)) (label : List ℕ) (m : Mdp
 
 -- the bytes are the text of a policy, and that is printed of it
 pub record IsPolicyPrinted (stay : Option (List ℕ)) (label : List ℕ) (m : Mdp) (policy_bytes text : List ℕ) : Type 0 where
-  pub short : length policy_bytes ≤ most_bytes
   pub policy : List ℕ
   pub fits : FitsText policy
   pub text_of : policy_bytes ≡ policy_text policy
   pub printed : IsValuePrinted stay label m policy text
-
--- the same of the model that the bytes read as
-pub record IsPolicyShown (rule : RowRule) (stay : Option (List ℕ)) (label model_bytes policy_bytes text : List ℕ) : Type 0 where
-  pub short : length model_bytes ≤ most_bytes
-  pub model : Mdp
-  pub reads : Reads model_bytes rule model
-  pub value : IsPolicyPrinted stay label model policy_bytes text
-
--- the value of the policy of the second source in the model of the first: what is due to the bytes that they had, and what is shown of a text;
--- or a fault, or want of memory
-abbrev pub IsPolicyRead : RowRule → Option (List ℕ) → List ℕ → Input → Input → Said → Type 0
-IsPolicyRead rule stay label = IsWorkOnPair rule (IsPolicyDue stay label) (IsPolicyShown rule stay label)

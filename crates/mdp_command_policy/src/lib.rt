@@ -10,6 +10,6 @@ mod marking;
 mod valuing;
 
 pub use chain_laws::command_chain_law;
-pub use chaining::chain_file;
+pub use chaining::chain_query;
 pub use laws::policy_law;
-pub use valuing::policy_file;
+pub use valuing::policy_query;

@@ -1,17 +1,15 @@
-ghost use Rattle.std.specs.Prelude.{◌≡◌, ◌⊎◌, ◌==◌, length, option_copied, true, false, Ok, Err, IfOk, IfSome, IsTrue, IsFalse};
-ghost use Rattle.mdp_command.specs.{Prelude.{IsModelReadToEnd, IsSecondReadToEnd, no_memory, read_certificate, said, input}, Read.{IsReadAs, is_of_model}};
+ghost use Rattle.std.specs.Prelude.{◌≡◌, ◌⊎◌, ◌==◌, length, option_copied, true, false, Ok, Err, IfOk, IfSome};
+ghost use Rattle.mdp_command.specs.{Prelude.{no_memory, said}, Read.{is_of_model}};
 ghost use Rattle.mdp_spec.specs.{Mdp.{states_of}, Tree.{IsPolicy}};
-ghost use Rattle.mdp_policy.specs.{Answer.{plain}, Spelling.{value_text}, Text.{policy_outcome}};
-ghost use Rattle.mdp_command_policy.specs.{Due.{choices_or_refusal, TakesNoChoice, IsValueDue, IsSizeDue, IsTextDue, IsPolicyDue}, Shown.{IsPolicyRead}};
+ghost use Rattle.mdp_policy.specs.{Answer.{plain}, Spelling.{value_text}};
+ghost use Rattle.mdp_command_policy.specs.{Due.{TakesNoChoice, IsValueDue, IsSizeDue, IsPolicyDue}, Shown.{IsPolicyPrinted}};
 
 use crate::laws::policy_law;
 use crate::marking::{Marked, marks_of};
 use mdp_cert::CertError;
-use mdp_command::{read_model, read_second};
-use mdp_edge::Source;
 use mdp_job::Refusal;
 use mdp_policy::{PolicyValue, read_policy, value_of, write_value};
-use mdp_rows::{Model, RowRule};
+use mdp_rows::Model;
 use mdp_wide::SolveError;
 use std::alloc::Global;
 
@@ -101,7 +99,7 @@ fn of_text(
     label: &[u8],
     bytes: &[u8],
 ) -> Result<Vec<u8>, Refusal>
-    ensures due { (said result ≡ Err no_memory) ⊎ IsTextDue (option_copied stay.entry) label.now model.now (choices_or_refusal (policy_outcome bytes.now)) (said result) }
+    ensures due { (said result ≡ Err no_memory) ⊎ IsPolicyDue (option_copied stay.entry) label.now model.now bytes.now (said result) }
     ensures not_of_model { is_of_model (said result) ≡ false }
 {
     match read_policy(alloc, bytes) {
@@ -111,43 +109,20 @@ fn of_text(
     }
 }
 
-/// Reads the policy to its end and judges its text, then gives its value in the model.
-fn of_source<C: Source>(
+/// Judges the text of a policy, and gives the probabilities with which it comes to a state with the label, by way of states with the label `stay` alone where
+/// it is given, and the first changes that raise and that lower one.
+pub fn policy_query(
     alloc: Global,
     model: &Model,
     stay: Option<&[u8]>,
     label: &[u8],
-    second: &mut C,
+    bytes: &[u8],
 ) -> Result<Vec<u8>, Refusal>
-    ensures read { IsReadAs (input C.left C.faults second.old second.new) (IsPolicyDue (option_copied stay.entry) label.now model.now) read_certificate (said result) }
+    ensures due { (said result ≡ Err no_memory) ⊎ IsPolicyDue (option_copied stay.entry) label.now model.now bytes.now (said result) }
+    ensures printed { IfOk (said result) (IsPolicyPrinted (option_copied stay.entry) label.now model.now bytes.now) }
     ensures not_of_model { is_of_model (said result) ≡ false }
-    ensures end { IsSecondReadToEnd (input C.left C.faults second.old second.new) (said result) }
-{
-    match read_second(alloc, second) {
-        Ok(bytes) => of_text(alloc, model, stay, label, &bytes),
-        Err(refusal) => Err(refusal),
-    }
-}
-
-/// Reads the model to its end and judges its text, then the policy's, and gives the probabilities with which the policy comes to a state with the
-/// label, by way of states with the label `stay` alone where it is given, and the first changes that raise and that lower one. The second source
-/// isn't read where the model is refused.
-pub fn policy_file<S: Source, C: Source>(
-    alloc: Global,
-    rule: RowRule,
-    stay: Option<&[u8]>,
-    label: &[u8],
-    model: &mut S,
-    second: &mut C,
-) -> Result<Vec<u8>, Refusal>
-    ensures read { IsPolicyRead rule (option_copied stay.entry) label.now (input S.left S.faults model.old model.new) (input C.left C.faults second.old second.new) (said result) }
-    ensures unread { IsTrue (is_of_model (said result)) → second.new ≡ second.old }
-    ensures model_end { IsModelReadToEnd (input S.left S.faults model.old model.new) (said result) }
-    ensures second_end { IsFalse (is_of_model (said result)) → IsSecondReadToEnd (input C.left C.faults second.old second.new) (said result) }
 {
     policy_law();
-    match read_model(alloc, model, rule) {
-        Ok(model) => of_source(alloc, &model, stay, label, second),
-        Err(refusal) => Err(refusal),
-    }
+    model.known();
+    of_text(alloc, model, stay, label, bytes)
 }
