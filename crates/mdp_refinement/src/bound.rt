@@ -1,7 +1,7 @@
 //! Which bound is sought, and what it asks of the choices.
 
 /// A bound from below or from above.
-#[derive(Clone, Copy, PartialEq, Eq)]
+#[derive(Clone, Copy)]
 pub enum Bound {
     Lower,
     Upper,
@@ -21,7 +21,10 @@ pub struct Task {
 impl Task {
     /// Whether the bound is to hold on each choice, and not on the policy's alone.
     pub fn is_each(self) -> bool {
-        self.is_max == (self.bound == Bound::Upper)
+        match self.bound {
+            Bound::Upper => self.is_max,
+            Bound::Lower => !self.is_max,
+        }
     }
 
     /// 1 for an upper bound, -1 for a lower one.

@@ -1,6 +1,6 @@
 use crate::convert::{nearest, to_float};
 use crate::graph::Graph;
-use crate::lists::{append, float_at, item_at, number, number_at, part_of, put};
+use crate::lists::{append, float_at, item_at, number, number_at, part_of, put, target_of};
 use crate::rows::{Rows, WholeRow};
 use crate::strong::Components;
 use crate::value::{Value, value_at};
@@ -62,9 +62,12 @@ impl Source<'_> {
 
     /// Whether a row leads to no node outside whose value isn't known.
     fn is_known(self, row: &WholeRow) -> bool {
-        let entries = self.rows.entries_of(row);
-        entries.iter().all(|entry| self.has(entry.node)
-            || value_at(self.values, entry.node).is_some())
+        for entry in self.rows.entries_of(row) {
+            if !self.has(entry.node) && value_at(self.values, entry.node).is_none() {
+                return false;
+            }
+        }
+        true
     }
 
     /// Appends the entries of a row to other nodes of the component. The row's denominator less what stays in the component.
@@ -117,7 +120,7 @@ impl Component {
         let from = self.entries.len();
         let leaving = source.push_entries(row, &mut self.entries)?;
         if let Some(entries) = self.entries.as_mut_slice().get_mut(from..) {
-            entries.sort_unstable_by_key(|entry| entry.0);
+            entries.sort_unstable_by_key(target_of);
         }
         let exit = to_float(leaving) / to_float(row.denominator);
         let mut inner = 0.0;

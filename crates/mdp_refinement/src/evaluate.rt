@@ -123,13 +123,18 @@ impl<'a> Evaluation<'a> {
 
     /// Whether there are factors, of any policy, that took few products.
     fn are_cheap(&self, nodes: usize) -> bool {
-        let few = nodes.saturating_mul(CHEAP_PRODUCTS);
-        self.factors.as_ref().is_some_and(|own| own.products < few)
+        match &self.factors {
+            Some(own) => own.products < nodes.saturating_mul(CHEAP_PRODUCTS),
+            None => false,
+        }
     }
 
     /// Whether the factors are those of the policy, with nothing dropped.
     fn is_exact(&self) -> bool {
-        self.is_fresh && self.factors.as_ref().is_some_and(|own| own.is_exact)
+        match &self.factors {
+            Some(own) => self.is_fresh && own.is_exact,
+            None => false,
+        }
     }
 
     /// How near values are at the end of a run that leaves rows wrong by so much, where they earn this.

@@ -5,7 +5,7 @@
 use crate::component::Component;
 use crate::lists::{
     add_over, append, flag_at, float_at, item_at, length_at, number, part_of, place_of, put,
-    sum_over,
+    sum_over, target_of,
 };
 use std::alloc::{AllocError, Global};
 use std::cmp::{OrderedFloat, Reverse};
@@ -90,7 +90,7 @@ fn push_at(lists: &mut [Vec<u32>], place: u32, item: u32) -> Result<(), AllocErr
 
 /// Takes the entry to a target out of a row, which is ordered by target. Its probability, if there is one.
 fn take_entry(row: &mut Entries, target: u32) -> Option<f64> {
-    match row.binary_search_by_key(&target, |entry| entry.0) {
+    match row.binary_search_by_key(&target, target_of) {
         Ok(place) => Some(row.remove(place).1),
         Err(_) => None,
     }
@@ -131,7 +131,7 @@ fn keep_greatest(row: &mut Entries, most: usize) -> bool {
     }
     row.sort_unstable_by_key(|entry| Reverse(OrderedFloat(entry.1)));
     row.truncate(most);
-    row.sort_unstable_by_key(|entry| entry.0);
+    row.sort_unstable_by_key(target_of);
     true
 }
 

@@ -98,11 +98,6 @@ fn times(a: i128, b: i128) -> Option<i128> {
 }
 
 impl Rows {
-    /// No row yet, of so many nodes.
-    pub fn empty(alloc: Global, nodes: u32, scale: Scale) -> Result<Rows, AllocError> {
-        Rows::with_capacity(alloc, nodes, 0, 0, scale)
-    }
-
     /// No row yet, of so many nodes, with memory for so many rows and so many entries.
     pub fn with_capacity(
         alloc: Global,
@@ -336,8 +331,13 @@ impl Rows {
         alloc: Global,
         picks: &[Option<usize>],
     ) -> Result<Vec<u32>, AllocError> {
-        let choice_of = |pick: &Option<usize>| self.picked(*pick).map_or(0, |row| row.choice);
-        picks.iter().map(choice_of).collect(alloc)
+        let mut choices = vec![in alloc; 0; picks.len()]?;
+        for place in 0..picks.len() {
+            if let Some(row) = self.picked(picks[place]) {
+                choices[place] = row.choice;
+            }
+        }
+        Ok(choices)
     }
 
     /// The rows of a node.

@@ -61,10 +61,23 @@ impl Solver<'_> {
     /// Whether a row of a node leads out of its component to a value that isn't known.
     fn misses_value(&self, node: u32) -> bool {
         let own = self.components.of(node);
-        self.rows.edges_of(node).iter().any(|entry| {
-            self.components.of(entry.node) != own
-                && value_at(&self.solution.values, entry.node).is_none()
-        })
+        for entry in self.rows.edges_of(node) {
+            let is_outside = self.components.of(entry.node) != own;
+            if is_outside && value_at(&self.solution.values, entry.node).is_none() {
+                return true;
+            }
+        }
+        false
+    }
+
+    /// Whether a row of one of these nodes does.
+    fn miss_value(&self, nodes: &[u32]) -> bool {
+        for node in nodes {
+            if self.misses_value(*node) {
+                return true;
+            }
+        }
+        false
     }
 
     /// A component with one node, exactly.
@@ -151,7 +164,7 @@ impl Solver<'_> {
     fn solve_component(&mut self, alloc: Global, number: usize) -> Result<(), AllocError> {
         let components = self.components;
         let nodes = components.nodes_of(number);
-        if self.task.is_each() && nodes.iter().any(|node| self.misses_value(*node)) {
+        if self.task.is_each() && self.miss_value(nodes) {
             self.give_up(nodes);
             return Ok(());
         }
@@ -183,11 +196,13 @@ fn open_nodes(
     given: &[Value],
     task: Task,
 ) -> Result<Vec<bool>, AllocError> {
-    let is_open = |node: u32| {
+    let mut open = vec![in alloc; false; given.len()]?;
+    for node in 0..number(given.len()) {
         let is_kept = !(task.is_each() && rows.has_wide(node));
-        is_kept && value_at(given, node).is_none() && !rows.rows_of(node).is_empty()
-    };
-    (0..number(given.len())).map(is_open).collect(alloc)
+        let is_open = is_kept && value_at(given, node).is_none();
+        put(&mut open, node, is_open && !rows.rows_of(node).is_empty());
+    }
+    Ok(open)
 }
 
 /// The given values, and elsewhere those that hold anyway.
@@ -196,11 +211,14 @@ fn first_solution(
     given: &[Value],
     anyway: Option<i128>,
 ) -> Result<Solution, AllocError> {
-    let values = given
-        .iter()
-        .map(|value| Value::of(value.units().or(anyway)));
+    let mut values = vec![in alloc; Value::of(anyway); given.len()]?;
+    for place in 0..given.len() {
+        if given[place].units().is_some() {
+            values[place] = given[place];
+        }
+    }
     Ok(Solution {
-        values: values.collect(alloc)?,
+        values,
         picks: vec![in alloc; None; given.len()]?,
         is_full: true,
     })
