@@ -1,6 +1,6 @@
 use Rattle.std.proofs.Common.{sym, ◌∙◌}
 use Rattle.mdp_subsystem_rules.proofs.Counted.{value-goal, value-line, value-none}
-use Rattle.mdp_subsystem_rules.proofs.floor.Claimed.counted.Goals as goal
+use Rattle.mdp_subsystem_rules.proofs.floor.FloorClaim.counted.Goals as goal
 
 pub returns-then-at : goal.returns-then-at
 returns-then-at c =

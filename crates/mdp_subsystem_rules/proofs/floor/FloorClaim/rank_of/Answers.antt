@@ -1,6 +1,6 @@
 use Rattle.std.proofs.Common.{sym, ◌∙◌}
 use Rattle.mdp_subsystem_rules.proofs.Counted.{rank-line, rank-none}
-use Rattle.mdp_subsystem_rules.proofs.floor.Claimed.rank_of.Goals as goal
+use Rattle.mdp_subsystem_rules.proofs.floor.FloorClaim.rank_of.Goals as goal
 
 pub returns-in-Some : goal.returns-in-Some
 returns-in-Some c =

@@ -6,7 +6,7 @@ use Rattle.mdp_farkas.specs.Verdict.{objection_to}
 use Rattle.mdp_farkas.proofs.Objections.{halts, goes_on}
 use Rattle.mdp_subsystem_rules.specs.{FlowChecks.{kept_check, each_flow, sum_checks, checks_from}, Kept.{kept_marks}, Sums.{FlowSums, AreSums, after_flows}}
 use Rattle.mdp_subsystem_rules.proofs.Sizes.{sized_all}
-use Rattle.mdp_subsystem_rules.proofs.flow.Claimed.walk.Goals as goal
+use Rattle.mdp_subsystem_rules.proofs.flow.FlowClaim.walk.Goals as goal
 
 -- the sums after flows are of all states, and so each kept state has its place in them
 sized_end : (m : Mdp) (goals : List Bool) (before end : FlowSums) (flows : List Flow) → AreSums (states_of m) before → end ≡ after_flows m goals before flows → AreSums (states_of m) end

@@ -2,7 +2,7 @@ use Rattle.std.proofs.{Common.{◌≡◌, ℕ, ◌<◌, false, length, get_or, s
 use Rattle.std.specs.Prelude.{Option, MatchOption}
 use Rattle.mdp_subsystem_rules.specs.Kept.{is_listed}
 use Rattle.mdp_subsystem_rules.proofs.Kept.{ascends-le, place_of_search}
-use Rattle.mdp_subsystem_rules.proofs.floor.Claimed.line_of.Goals as goal
+use Rattle.mdp_subsystem_rules.proofs.floor.FloorClaim.line_of.Goals as goal
 
 pub returns : goal.returns
 returns c =
