@@ -2,8 +2,11 @@ pub mod Bellman
 pub mod Compare
 pub mod Laws
 pub mod Mean
+pub mod MeanClaim
 pub mod Reach
+pub mod ReachClaim
 pub mod Reward
+pub mod RewardClaim
 pub mod Spread
 pub mod Upper
 pub mod Verdict

@@ -1,6 +1,6 @@
-ghost use Rattle.std.specs.{Prelude.{◌≡◌, ◌<◌, length, [], ◌∷◌, All}, Result.{result_ok}};
+ghost use Rattle.std.specs.{Prelude.{◌≡◌, ◌<◌, length, All}, Result.{result_ok}};
 ghost use Rattle.mdp_spec.specs.{Mdp.{states_of, choices_at}, Row.{entries}};
-ghost use Rattle.mdp_farkas.specs.{Bellman.{stands, sum_stands, stands_at}, Reach.{policy_check}, Verdict.{at_choice, objection_to}};
+ghost use Rattle.mdp_farkas.specs.{Bellman.{stands, sum_stands}, Verdict.{at_choice, objection_to}};
 
 use crate::compare::{at_least, at_most};
 use crate::reach::reversed;
@@ -48,9 +48,11 @@ pub(crate) struct Held<'a> {
 }
 
 impl OneCheck for Held<'_> {
+    ghost use Rattle.mdp_farkas.specs.ReachClaim.{row_stands};
+
     ghost count = { λ h. length (choices_at h.model.now h.state) };
 
-    ghost check = { λ h c. at_choice h.rule h.state c (stands_at h.dir h.model.now h.values.now h.state c) };
+    ghost check = { λ h c. at_choice h.rule h.state c (row_stands h.dir h c) };
 
     /// Bellman's inequality at choice `c`, as the rule asks it.
     fn check_at(self, c: u32) -> Result<(), Objection> {
@@ -59,10 +61,12 @@ impl OneCheck for Held<'_> {
 }
 
 impl Held<'_> {
+    ghost use Rattle.mdp_farkas.specs.ReachClaim.{row_stands, policy_checks};
+
     /// Whether the value is at least, or for the least values at most, the sum over the row of choice `c`.
     fn stands(self, dir: Dir, c: u32) -> Result<bool, Wide>
         requires { c < length (choices_at self.model.now self.state) }
-        ensures { result_ok result ≡ stands_at dir self.entry.model.now self.entry.values.now self.entry.state c }
+        ensures { result_ok result ≡ row_stands dir self.entry c }
     {
         row_stands(
             self.model.row(self.state, c),
@@ -76,7 +80,7 @@ impl Held<'_> {
     /// The inequality the other way round, for the choice of the policy.
     pub(crate) fn meets_on_policy(self, choice: u32) -> Result<(), Objection>
         requires { choice < length (choices_at self.model.now self.state) }
-        ensures { result ≡ objection_to (policy_check self.entry.dir self.entry.model.now self.entry.values.now self.entry.state choice ∷ []) }
+        ensures { result ≡ objection_to (policy_checks self.entry choice) }
     {
         judged(
             self.stands(reversed(self.dir), choice),

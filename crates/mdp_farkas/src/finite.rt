@@ -1,5 +1,6 @@
 ghost use Rattle.std.specs.{Prelude.{◌≡◌, ◌<◌, length, All, not}, Result.{result_ok}};
-ghost use Rattle.mdp_spec.specs.{Bounds.{finite_part, infinite}, Mdp.{states_of, choices_at, value_at}, Row.{entries}, Tree.{is_marked}, Written.{written_sum}};
+ghost use Rattle.mdp_spec.specs.{Bounds.{finite_part, infinite}, Mdp.{states_of, choices_at, value_at}};
+ghost use Rattle.mdp_spec.specs.{Row.{entries}, Tree.{is_marked}, Written.{written_sum}};
 ghost use Rattle.mdp_farkas.specs.Reward.{stays_finite};
 
 use crate::targets::{StateTest, each_target};

@@ -1,6 +1,7 @@
 ghost use Rattle.std.specs.Prelude.{◌≡◌, ◌<◌, ◌==◌, ◌&&◌, length, [], ◌∷◌, nat_lt, slice_index};
 ghost use Rattle.mdp_spec.specs.{Bounds.{infinite}, Tree.{is_marked}, Mdp.{states_of, choices_at}};
-ghost use Rattle.mdp_farkas.specs.{Reward.{falls_infinite, stays_infinite, miss_check, all_miss_check, infinite_checks}, Verdict.{objection_to}};
+ghost use Rattle.mdp_farkas.specs.Reward.{falls_infinite, stays_infinite, miss_check, all_miss_check, infinite_checks};
+ghost use Rattle.mdp_farkas.specs.Verdict.{objection_to};
 
 use crate::finite::is_infinite_at;
 use crate::targets::{StateTest, each_target, some_target};
@@ -23,9 +24,11 @@ struct Missing<'a> {
 }
 
 impl OneCheck for Missing<'_> {
+    ghost use Rattle.mdp_farkas.specs.RewardClaim.{asked_of};
+
     ghost count = { λ x. length (choices_at x.model.now x.state) };
 
-    ghost check = { λ x. all_miss_check x.model.now x.values.now x.ranks.now x.state };
+    ghost check = { λ x. asked_of x all_miss_check };
 
     /// An entry of the row of choice `c` leads to an infinite value of smaller rank, or each entry to one of this rank.
     fn check_at(self, c: u32) -> Result<(), Objection> {
@@ -54,7 +57,8 @@ struct Staying<'a> {
 impl StateTest for Staying<'_> {
     ghost states = { λ x. states_of x.missing.model.now };
 
-    ghost test = { λ x t. is_marked (infinite x.missing.values.now) t && (slice_index x.missing.ranks.now t == slice_index x.missing.ranks.now x.missing.state) };
+    ghost test = { λ y t. let x = y.missing in
+        is_marked (infinite x.values.now) t && (slice_index x.ranks.now t == slice_index x.ranks.now x.state) };
 
     /// Whether state `t` has an infinite value and the rank of the state.
     fn passes(self, t: u32) -> bool {
@@ -64,10 +68,12 @@ impl StateTest for Staying<'_> {
 }
 
 impl Missing<'_> {
+    ghost use Rattle.mdp_farkas.specs.RewardClaim.{asked_of};
+
     /// Whether an entry of the row of choice `c` leads to an infinite value of smaller rank.
     fn falls(self, c: u32) -> bool
         requires { c < length (choices_at self.model.now self.state) }
-        ensures { result ≡ falls_infinite self.entry.model.now self.entry.values.now self.entry.ranks.now self.entry.state c }
+        ensures { result ≡ asked_of self.entry falls_infinite c }
     {
         some_target(self.model, self.state, c, self)
     }
@@ -75,7 +81,7 @@ impl Missing<'_> {
     /// Whether each entry of the row of choice `c` leads to an infinite value of the rank of the state.
     fn stays(self, c: u32) -> bool
         requires { c < length (choices_at self.model.now self.state) }
-        ensures { result ≡ stays_infinite self.entry.model.now self.entry.values.now self.entry.ranks.now self.entry.state c }
+        ensures { result ≡ asked_of self.entry stays_infinite c }
     {
         each_target(self.model, self.state, c, Staying { missing: self })
     }
@@ -84,7 +90,7 @@ impl Missing<'_> {
     /// value of rank 0.
     fn policy_misses(self, choice: u32) -> Result<(), Objection>
         requires { choice < length (choices_at self.model.now self.state) }
-        ensures { result ≡ objection_to (miss_check self.entry.model.now self.entry.values.now self.entry.ranks.now self.entry.state choice ∷ []) }
+        ensures { result ≡ objection_to (asked_of self.entry miss_check choice ∷ []) }
     {
         let misses = self.falls(choice)
             || (self.ranks[self.state as usize] == 0 && self.stays(choice));

@@ -1,6 +1,7 @@
 ghost use Rattle.mdp_farkas.specs.Laws.{WideIsFirst, NoIsFirst};
 ghost use Rattle.mdp_farkas.specs.Laws.{NoIsFalse, UpperNeverNo, ReachNeverNo, RewardNeverNo, MeanNeverNo};
-ghost use Rattle.mdp_farkas.specs.Laws.{UpperNoRefutes, ReachNoRefutes, RewardNoRefutes, MeanNoRefutes, UpperSaysAll, ReachSaysAll, RewardSaysAll, MeanSaysAll};
+ghost use Rattle.mdp_farkas.specs.Laws.{UpperNoRefutes, ReachNoRefutes, RewardNoRefutes, MeanNoRefutes};
+ghost use Rattle.mdp_farkas.specs.Laws.{UpperSaysAll, ReachSaysAll, RewardSaysAll, MeanSaysAll};
 
 /// What a no means: a check of the named rule at the named place is false; and a certificate that meets its rules in exact numbers is never
 /// answered no, but with yes or with a term past width.

@@ -1,7 +1,7 @@
 ghost use Rattle.std.specs.{Prelude.{◌≡◌, ◌<◌, ◌↔◌, length, slice_index, [], ◌∷◌, ◌++◌}, Result.{result_ok}};
 ghost use Rattle.mdp_spec.specs.{Mdp.{states_of, choices_at}, Bounds.{MeanMax, MeanMin}};
-ghost use Rattle.mdp_farkas.specs.Mean.{gain_check, written_step, bound_stands, relative_check, keeps_gain, policy_gain_check, earns_gain, policy_bias_check};
-ghost use Rattle.mdp_farkas.specs.{Mean.{spread_check, mean_checks_at, mean_checks, IsMean}, Verdict.{objection_to, verdict_of, at_choices, IsYes, IfYes}};
+ghost use Rattle.mdp_farkas.specs.Mean.{written_step, keeps_gain, earns_gain, spread_check, mean_checks_at, mean_checks, IsMean};
+ghost use Rattle.mdp_farkas.specs.Verdict.{objection_to, verdict_of, IsYes, IfYes};
 ghost use Rattle.mdp_rows.specs.declared.dir.Dir.TheVariants.{Max, Min};
 
 use crate::bellman::{Held, row_stands};
@@ -16,7 +16,7 @@ use mdp_rows::{Dir, Model};
 
 /// Gains, a policy and two relative values that are held against a model.
 #[derive(Clone, Copy)]
-struct Claimed<'a> {
+struct MeanClaim<'a> {
     dir: Dir,
     model: &'a Model,
     name: u32,
@@ -31,7 +31,7 @@ struct Claimed<'a> {
     ghost choices_each: { length choices.now ≡ states_of model.now },
 }
 
-impl Checks for Claimed<'_> {
+impl Checks for MeanClaim<'_> {
     ghost count = { λ x. states_of x.model.now };
 
     ghost checks = { λ x s. mean_checks_at x.dir x.model.now x.name x.gains.now x.bound.now x.bias.now s (slice_index x.choices.now s) };
@@ -46,20 +46,22 @@ impl Checks for Claimed<'_> {
 
 /// The same at one state.
 #[derive(Clone, Copy)]
-struct Bounds<'a> {
-    claimed: Claimed<'a>,
+struct MeanAtState<'a> {
+    claim: MeanClaim<'a>,
     state: u32,
-    ghost in_model: { state < states_of claimed.model.now },
+    ghost in_model: { state < states_of claim.model.now },
 }
 
-impl OneCheck for Bounds<'_> {
-    ghost count = { λ x. length (choices_at x.claimed.model.now x.state) };
+impl OneCheck for MeanAtState<'_> {
+    ghost use Rattle.mdp_farkas.specs.MeanClaim.{bound_at};
 
-    ghost check = { λ x. relative_check x.claimed.dir x.claimed.model.now x.claimed.name x.claimed.gains.now x.claimed.bound.now x.state };
+    ghost count = { λ x. length (choices_at x.claim.model.now x.state) };
+
+    ghost check = { λ x. bound_at x.claim x.state };
 
     /// The bound at choice `c`.
     fn check_at(self, c: u32) -> Result<(), Objection> {
-        let stands = self.claimed.bound_stands(self.state, c);
+        let stands = self.claim.bound_stands(self.state, c);
         judged(stands, Rule::BoundOnEachChoice, self.state, Some(c))
     }
 }
@@ -73,11 +75,13 @@ fn step_at(gains: &[Frac], relative: &[Frac], s: u32) -> Result<Frac, Wide>
     gains[s as usize].add(&relative[s as usize])
 }
 
-impl Claimed<'_> {
+impl MeanClaim<'_> {
+    ghost use Rattle.mdp_farkas.specs.MeanClaim.{gains_at, bound_at, bounds_at, policy_at, rules_at, each_state};
+
     /// The gain of state `s` is at least, or for the least mean payoff at most, the sum of the gains over the row of each choice.
     fn gains_at(self, s: u32) -> Result<(), Objection>
         requires { s < states_of self.model.now }
-        ensures { result ≡ objection_to (at_choices self.entry.model.now s (gain_check self.entry.dir self.entry.model.now self.entry.gains.now s)) }
+        ensures { result ≡ objection_to (gains_at self.entry s) }
     {
         let held = Held {
             dir: self.dir,
@@ -94,7 +98,7 @@ impl Claimed<'_> {
     fn bound_stands(self, s: u32, c: u32) -> Result<bool, Wide>
         requires state { s < states_of self.model.now }
         requires choice { c < length (choices_at self.model.now s) }
-        ensures { result_ok result ≡ bound_stands self.entry.dir self.entry.model.now self.entry.name self.entry.gains.now self.entry.bound.now s c }
+        ensures { result_ok result ≡ (bound_at self.entry s c).holds }
     {
         let step = step_at(self.gains, self.bound, s)?;
         let reward = self.model.reward(self.name, s, c);
@@ -104,13 +108,13 @@ impl Claimed<'_> {
     /// The bound at each choice of state `s`.
     fn bounds_at(self, s: u32) -> Result<(), Objection>
         requires { s < states_of self.model.now }
-        ensures { result ≡ objection_to (at_choices self.entry.model.now s (relative_check self.entry.dir self.entry.model.now self.entry.name self.entry.gains.now self.entry.bound.now s)) }
+        ensures { result ≡ objection_to (bounds_at self.entry s) }
     {
-        let bounds = Bounds {
-            claimed: self,
+        let at = MeanAtState {
+            claim: self,
             state: s,
         };
-        each_choice(self.model, s, bounds)
+        each_choice(self.model, s, at)
     }
 
     /// Whether the gain of state `s` is the sum of the gains over the row of its choice `c`.
@@ -139,8 +143,7 @@ impl Claimed<'_> {
     fn policy_at(self, s: u32, choice: u32) -> Result<(), Objection>
         requires state { s < states_of self.model.now }
         requires choice { choice < length (choices_at self.model.now s) }
-        ensures { result ≡ objection_to (policy_gain_check self.entry.model.now self.entry.gains.now s choice
-            ∷ policy_bias_check self.entry.model.now self.entry.name self.entry.gains.now self.entry.bias.now s choice ∷ []) }
+        ensures { result ≡ objection_to (policy_at self.entry s choice) }
     {
         judged(
             self.keeps_gain(s, choice),
@@ -157,12 +160,11 @@ impl Claimed<'_> {
     }
 
     /// The rules for gain, bound and bias of state `s`.
+    #[tactic(auto, using(crate::proofs::Objections::walked))]
     fn rules_at(self, s: u32, choice: u32) -> Result<(), Objection>
         requires state { s < states_of self.model.now }
         requires choice { choice < length (choices_at self.model.now s) }
-        ensures { result ≡ objection_to (at_choices self.entry.model.now s (gain_check self.entry.dir self.entry.model.now self.entry.gains.now s)
-            ++ (at_choices self.entry.model.now s (relative_check self.entry.dir self.entry.model.now self.entry.name self.entry.gains.now self.entry.bound.now s)
-            ++ policy_gain_check self.entry.model.now self.entry.gains.now s choice ∷ policy_bias_check self.entry.model.now self.entry.name self.entry.gains.now self.entry.bias.now s choice ∷ [])) }
+        ensures { result ≡ objection_to (rules_at self.entry s choice) }
     {
         self.gains_at(s)?;
         self.bounds_at(s)?;
@@ -171,7 +173,7 @@ impl Claimed<'_> {
 
     /// All rules: those at each state, and that of the spread.
     fn walk(self, spread: &Frac) -> Result<(), Objection>
-        ensures { result ≡ objection_to (mean_checks self.entry.dir self.entry.model.now self.entry.name self.entry.gains.now self.entry.bound.now self.entry.bias.now spread.now self.entry.choices.now) }
+        ensures { result ≡ objection_to (each_state self.entry ++ spread_check self.entry.bound.now self.entry.bias.now spread.now ∷ []) }
     {
         each_below(self.model.states(), self)?;
         let holds = spread_holds(self.bound, self.bias, spread);
@@ -196,13 +198,16 @@ pub fn holds_mean(model: &Model, m: u32, dir: Dir, cert: &MeanCert) -> Verdict
     requires bound { length cert.now.bound.items ≡ states_of model.now }
     requires bias { length cert.now.bias.items ≡ states_of model.now }
     requires choices { length cert.now.choices.items ≡ states_of model.now }
-    ensures verdict { result ≡ verdict_of (mean_checks dir model.now m cert.now.gains.items cert.now.bound.items cert.now.bias.items cert.now.spread cert.now.choices.items) }
-    ensures rules { IsYes result ↔ IsMean dir model.now m cert.now.gains.items cert.now.bound.items cert.now.bias.items cert.now.spread cert.now.choices.items }
+    ensures verdict { result
+        ≡ verdict_of (mean_checks dir model.now m cert.now.gains.items cert.now.bound.items cert.now.bias.items cert.now.spread
+        cert.now.choices.items) }
+    ensures rules { IsYes result
+        ↔ IsMean dir model.now m cert.now.gains.items cert.now.bound.items cert.now.bias.items cert.now.spread cert.now.choices.items }
     ensures max { dir ≡ Max → IfYes result (MeanMax model.now m cert.now.gains.items cert.now.spread cert.now.choices.items) }
     ensures min { dir ≡ Min → IfYes result (MeanMin model.now m cert.now.gains.items cert.now.spread cert.now.choices.items) }
 {
     model.known();
-    let claimed = Claimed {
+    let claim = MeanClaim {
         dir,
         model,
         name: m,
@@ -211,5 +216,5 @@ pub fn holds_mean(model: &Model, m: u32, dir: Dir, cert: &MeanCert) -> Verdict
         bias: cert.bias.as_slice(),
         choices: cert.choices.as_slice(),
     };
-    verdict_after(claimed.walk(&cert.spread))
+    verdict_after(claim.walk(&cert.spread))
 }

@@ -1,6 +1,6 @@
-ghost use Rattle.std.specs.Prelude.{◌≡◌, ◌<◌, ◌↔◌, length, slice_index, [], ◌∷◌, ◌++◌};
+ghost use Rattle.std.specs.Prelude.{◌≡◌, ◌<◌, ◌↔◌, length, slice_index, [], ◌∷◌};
 ghost use Rattle.mdp_spec.specs.{Mdp.{states_of, choices_at}, Bounds.{ReachMax, ReachMin}};
-ghost use Rattle.mdp_farkas.specs.Reach.{choice_exists, other, value_checks, rank_checks, reach_at, reach_checks, IsReach};
+ghost use Rattle.mdp_farkas.specs.Reach.{choice_exists, other, reach_at, reach_checks, IsReach};
 ghost use Rattle.mdp_farkas.specs.Verdict.{objection_to, verdict_of, IsYes, IfYes};
 ghost use Rattle.mdp_rows.specs.declared.dir.Dir.TheVariants.{Max, Min};
 
@@ -38,7 +38,7 @@ pub fn choice_at(model: &Model, s: u32, choice: u32) -> Result<(), Objection>
 
 /// Values, a policy and ranks that are held against a model.
 #[derive(Clone, Copy)]
-struct Claimed<'a> {
+struct ReachClaim<'a> {
     dir: Dir,
     model: &'a Model,
     goals: &'a Marks,
@@ -51,7 +51,7 @@ struct Claimed<'a> {
     ghost ranks_each: { length ranks.now ≡ states_of model.now },
 }
 
-impl Checks for Claimed<'_> {
+impl Checks for ReachClaim<'_> {
     ghost count = { λ x. states_of x.model.now };
 
     ghost checks = { λ x s. reach_at x.dir x.model.now x.goals.now x.values.now x.ranks.now s (slice_index x.choices.now s) };
@@ -65,13 +65,15 @@ impl Checks for Claimed<'_> {
     }
 }
 
-impl Claimed<'_> {
+impl ReachClaim<'_> {
+    ghost use Rattle.mdp_farkas.specs.ReachClaim.{values_at, places_at};
+
     /// The value of state `s` is 1 at a goal. Elsewhere Bellman's inequality holds at each choice, and the other way round for the policy's.
     #[tactic(auto, using(crate::proofs::Objections::walked))]
     fn value_at(self, s: u32, choice: u32) -> Result<(), Objection>
         requires state { s < states_of self.model.now }
         requires choice { choice < length (choices_at self.model.now s) }
-        ensures { result ≡ objection_to (value_checks self.entry.dir self.entry.model.now self.entry.goals.now self.entry.values.now s choice) }
+        ensures { result ≡ objection_to (values_at self.entry s choice) }
     {
         if self.goals.at(s) {
             goal_at(self.values, s)
@@ -93,8 +95,7 @@ impl Claimed<'_> {
     fn place_at(self, s: u32, choice: u32) -> Result<(), Objection>
         requires state { s < states_of self.model.now }
         requires choice { choice < length (choices_at self.model.now s) }
-        ensures { result ≡ objection_to (value_checks self.entry.dir self.entry.model.now self.entry.goals.now self.entry.values.now s choice
-            ++ rank_checks self.entry.dir self.entry.model.now self.entry.goals.now self.entry.values.now self.entry.ranks.now s choice) }
+        ensures { result ≡ objection_to (places_at self.entry s choice) }
     {
         self.value_at(s, choice)?;
         rank_at_state(
@@ -123,7 +124,7 @@ pub fn holds_reach(model: &Model, goals: &Marks, dir: Dir, cert: &ReachCert) -> 
     ensures min { dir ≡ Min → IfYes result (ReachMin model.now goals.now cert.now.values.items cert.now.choices.items) }
 {
     model.known();
-    let claimed = Claimed {
+    let claim = ReachClaim {
         dir,
         model,
         goals,
@@ -131,5 +132,5 @@ pub fn holds_reach(model: &Model, goals: &Marks, dir: Dir, cert: &ReachCert) -> 
         choices: cert.choices.as_slice(),
         ranks: cert.ranks.as_slice(),
     };
-    verdict_after(each_below(model.states(), claimed))
+    verdict_after(each_below(model.states(), claim))
 }

@@ -1,8 +1,8 @@
-ghost use Rattle.std.specs.{Prelude.{◌≡◌, ◌<◌, ◌↔◌, length, slice_index, [], ◌∷◌, ◌++◌, if◌then◌else◌}, Result.{result_ok}};
+ghost use Rattle.std.specs.{Prelude.{◌≡◌, ◌<◌, ◌↔◌, length, slice_index, [], ◌∷◌}, Result.{result_ok}};
 ghost use Rattle.mdp_spec.specs.{Mdp.{states_of, choices_at}, Bounds.{RewardMax, RewardMin}};
-ghost use Rattle.mdp_farkas.specs.Reward.{is_nonneg, is_zero, nonneg_check, goal_checks, place_checks, sign_check, sign_checks};
-ghost use Rattle.mdp_farkas.specs.Reward.{earning_stands, is_looked_at, earning_check, earning_checks, policy_earning_check, rank_fall_checks};
-ghost use Rattle.mdp_farkas.specs.{Reward.{transient_checks, reward_checks_at, reward_checks, IsReward}, Verdict.{objection_to, verdict_of, IsYes, IfYes}};
+ghost use Rattle.mdp_farkas.specs.Reward.{is_nonneg, is_zero, nonneg_check, goal_checks, sign_check, sign_checks, earning_stands, earning_checks};
+ghost use Rattle.mdp_farkas.specs.Reward.{reward_checks_at, reward_checks, IsReward};
+ghost use Rattle.mdp_farkas.specs.Verdict.{objection_to, verdict_of, IsYes, IfYes};
 ghost use Rattle.mdp_rows.specs.declared.dir.Dir.TheVariants.{Max, Min};
 
 use crate::bellman::value_stands;
@@ -39,7 +39,7 @@ fn equal_to_zero(value: Option<Frac>) -> Result<bool, Wide>
 
 /// Rewards, a policy and ranks that are held against a model.
 #[derive(Clone, Copy)]
-struct Claimed<'a> {
+struct RewardClaim<'a> {
     dir: Dir,
     model: &'a Model,
     name: u32,
@@ -54,7 +54,7 @@ struct Claimed<'a> {
     ghost ranks_each: { length ranks.now ≡ states_of model.now },
 }
 
-impl Checks for Claimed<'_> {
+impl Checks for RewardClaim<'_> {
     ghost count = { λ x. states_of x.model.now };
 
     ghost checks = { λ x s. reward_checks_at x.dir x.model.now x.name x.goals.now x.values.now x.ranks.now s (slice_index x.choices.now s) };
@@ -70,44 +70,47 @@ impl Checks for Claimed<'_> {
 
 /// The same at one state.
 #[derive(Clone, Copy)]
-struct AtState<'a> {
-    claimed: Claimed<'a>,
+struct RewardAtState<'a> {
+    claim: RewardClaim<'a>,
     state: u32,
-    ghost in_model: { state < states_of claimed.model.now },
+    ghost in_model: { state < states_of claim.model.now },
 }
 
-impl Checks for AtState<'_> {
-    ghost count = { λ x. length (choices_at x.claimed.model.now x.state) };
+impl Checks for RewardAtState<'_> {
+    ghost use Rattle.mdp_farkas.specs.RewardClaim.{earns_at};
 
-    ghost checks = { λ x c. if is_looked_at x.claimed.dir x.claimed.model.now x.claimed.values.now x.state c
-        then earning_check x.claimed.dir x.claimed.model.now x.claimed.name x.claimed.values.now x.state c ∷ [] else [] };
+    ghost count = { λ x. length (choices_at x.claim.model.now x.state) };
+
+    ghost checks = { λ x. earns_at x.claim x.state };
 
     /// Bellman's inequality at choice `c`, where that counts.
     fn check(self, c: u32) -> Result<(), Objection> {
-        let claimed = self.claimed;
-        if !is_held_against(claimed.model, claimed.dir, claimed.values, self.state, c) {
+        let claim = self.claim;
+        if !is_held_against(claim.model, claim.dir, claim.values, self.state, c) {
             return Ok(());
         }
-        let stands = claimed.earning_stands(claimed.dir, self.state, c);
+        let stands = claim.earning_stands(claim.dir, self.state, c);
         judged(stands, Rule::RewardOnEachChoice, self.state, Some(c))
     }
 }
 
-impl OneCheck for AtState<'_> {
-    ghost count = { λ x. length (choices_at x.claimed.model.now x.state) };
+impl OneCheck for RewardAtState<'_> {
+    ghost count = { λ x. length (choices_at x.claim.model.now x.state) };
 
-    ghost check = { λ x. sign_check x.claimed.model.now x.claimed.name x.state };
+    ghost check = { λ x. sign_check x.claim.model.now x.claim.name x.state };
 
     /// The reward of choice `c` is at least 0.
     fn check_at(self, c: u32) -> Result<(), Objection> {
-        let claimed = self.claimed;
-        let reward = claimed.model.reward(claimed.name, self.state, c);
+        let claim = self.claim;
+        let reward = claim.model.reward(claim.name, self.state, c);
         let nonneg = at_least(&reward, &Frac::whole(0));
         judged(nonneg, Rule::RewardNotNegative, self.state, Some(c))
     }
 }
 
-impl Claimed<'_> {
+impl RewardClaim<'_> {
+    ghost use Rattle.mdp_farkas.specs.RewardClaim.{asked_of_values, policy_at, transient_at, places_at, rules_at};
+
     /// The value of state `s` is at least 0.
     fn nonneg_at(self, s: u32) -> Result<(), Objection>
         requires { s < states_of self.model.now }
@@ -141,10 +144,10 @@ impl Claimed<'_> {
     /// The inequality at each choice of state `s` that counts.
     fn earnings_at(self, s: u32) -> Result<(), Objection>
         requires { s < states_of self.model.now }
-        ensures { result ≡ objection_to (earning_checks self.entry.dir self.entry.model.now self.entry.name self.entry.values.now s) }
+        ensures { result ≡ objection_to (asked_of_values self.entry earning_checks s) }
     {
-        let at = AtState {
-            claimed: self,
+        let at = RewardAtState {
+            claim: self,
             state: s,
         };
         each_below(self.model.choices(s), at)
@@ -154,8 +157,7 @@ impl Claimed<'_> {
     fn policy_at(self, s: u32, choice: u32) -> Result<(), Objection>
         requires state { s < states_of self.model.now }
         requires choice { choice < length (choices_at self.model.now s) }
-        ensures { result ≡ objection_to (policy_earning_check self.entry.dir self.entry.model.now self.entry.name self.entry.values.now s choice
-            ∷ rank_fall_checks self.entry.dir self.entry.model.now self.entry.ranks.now s choice) }
+        ensures { result ≡ objection_to (policy_at self.entry s choice) }
     {
         let stands = self.earning_stands(reversed(self.dir), s, choice);
         judged(stands, Rule::RewardOnPolicy, s, Some(choice))?;
@@ -167,7 +169,7 @@ impl Claimed<'_> {
     fn transient_at(self, s: u32, choice: u32) -> Result<(), Objection>
         requires state { s < states_of self.model.now }
         requires choice { choice < length (choices_at self.model.now s) }
-        ensures { result ≡ objection_to (transient_checks self.entry.dir self.entry.model.now self.entry.name self.entry.values.now self.entry.ranks.now s choice) }
+        ensures { result ≡ objection_to (transient_at self.entry s choice) }
     {
         stays_at_state(self.model, self.dir, self.values, s, choice)?;
         self.earnings_at(s)?;
@@ -178,7 +180,7 @@ impl Claimed<'_> {
     fn place_at(self, s: u32, choice: u32) -> Result<(), Objection>
         requires state { s < states_of self.model.now }
         requires choice { choice < length (choices_at self.model.now s) }
-        ensures { result ≡ objection_to (place_checks self.entry.dir self.entry.model.now self.entry.name self.entry.goals.now self.entry.values.now self.entry.ranks.now s choice) }
+        ensures { result ≡ objection_to (places_at self.entry s choice) }
     {
         if self.goals.at(s) {
             self.goal_at(s)
@@ -194,8 +196,8 @@ impl Claimed<'_> {
         requires { s < states_of self.model.now }
         ensures { result ≡ objection_to (sign_checks self.entry.model.now self.entry.name s) }
     {
-        let at = AtState {
-            claimed: self,
+        let at = RewardAtState {
+            claim: self,
             state: s,
         };
         each_choice(self.model, s, at)
@@ -206,8 +208,7 @@ impl Claimed<'_> {
     fn rules_at(self, s: u32, choice: u32) -> Result<(), Objection>
         requires state { s < states_of self.model.now }
         requires choice { choice < length (choices_at self.model.now s) }
-        ensures { result ≡ objection_to (place_checks self.entry.dir self.entry.model.now self.entry.name self.entry.goals.now self.entry.values.now self.entry.ranks.now s choice
-            ++ sign_checks self.entry.model.now self.entry.name s) }
+        ensures { result ≡ objection_to (rules_at self.entry s choice) }
     {
         self.place_at(s, choice)?;
         self.signs_at(s)
@@ -223,13 +224,14 @@ pub fn holds_reward(model: &Model, m: u32, goals: &Marks, dir: Dir, cert: &Rewar
     requires values { length cert.now.values.items ≡ states_of model.now }
     requires choices { length cert.now.choices.items ≡ states_of model.now }
     requires ranks { length cert.now.ranks.items ≡ states_of model.now }
-    ensures verdict { result ≡ verdict_of (reward_checks dir model.now m goals.now cert.now.values.items cert.now.choices.items cert.now.ranks.items) }
+    ensures verdict { result
+        ≡ verdict_of (reward_checks dir model.now m goals.now cert.now.values.items cert.now.choices.items cert.now.ranks.items) }
     ensures rules { IsYes result ↔ IsReward dir model.now m goals.now cert.now.values.items cert.now.choices.items cert.now.ranks.items }
     ensures max { dir ≡ Max → IfYes result (RewardMax model.now m goals.now cert.now.choices.items cert.now.values.items) }
     ensures min { dir ≡ Min → IfYes result (RewardMin model.now m goals.now cert.now.choices.items cert.now.values.items) }
 {
     model.known();
-    let claimed = Claimed {
+    let claim = RewardClaim {
         dir,
         model,
         name: m,
@@ -238,5 +240,5 @@ pub fn holds_reward(model: &Model, m: u32, goals: &Marks, dir: Dir, cert: &Rewar
         choices: cert.choices.as_slice(),
         ranks: cert.ranks.as_slice(),
     };
-    verdict_after(each_below(model.states(), claimed))
+    verdict_after(each_below(model.states(), claim))
 }

@@ -1,6 +1,7 @@
 ghost use Rattle.std.specs.Prelude.{◌≡◌, ◌<◌, ◌↔◌, length, [], ◌∷◌};
 ghost use Rattle.mdp_spec.specs.{Mdp.{states_of}, Bounds.{Above}};
-ghost use Rattle.mdp_farkas.specs.{Upper.{probability_checks, goal_check, upper_at, upper_checks, IsUpper}, Verdict.{objection_to, verdict_of, IsYes, IfYes}};
+ghost use Rattle.mdp_farkas.specs.Upper.{probability_checks, goal_check, upper_at, upper_checks, IsUpper};
+ghost use Rattle.mdp_farkas.specs.Verdict.{objection_to, verdict_of, IsYes, IfYes};
 
 use crate::bellman::Held;
 use crate::compare::{at_least, at_most, equal};
@@ -40,7 +41,7 @@ pub(crate) fn goal_at(values: &[Frac], s: u32) -> Result<(), Objection>
 
 /// Values that are held against a model.
 #[derive(Clone, Copy)]
-struct Claimed<'a> {
+struct UpperClaim<'a> {
     model: &'a Model,
     goals: &'a Marks,
     values: &'a [Frac],
@@ -48,7 +49,7 @@ struct Claimed<'a> {
     ghost values_each: { length values.now ≡ states_of model.now },
 }
 
-impl Checks for Claimed<'_> {
+impl Checks for UpperClaim<'_> {
     ghost count = { λ x. states_of x.model.now };
 
     ghost checks = { λ x. upper_at x.model.now x.goals.now x.values.now };
@@ -77,12 +78,12 @@ fn upper_at_states(model: &Model, goals: &Marks, values: &[Frac]) -> Result<(), 
     requires values { length values.now ≡ states_of model.now }
     ensures { result ≡ objection_to (upper_checks model.now goals.now values.now) }
 {
-    let claimed = Claimed {
+    let claim = UpperClaim {
         model,
         goals,
         values,
     };
-    each_below(model.states(), claimed)
+    each_below(model.states(), claim)
 }
 
 /// Whether the values are a Farkas certificate of upper bounds: what rules 3, 4 and 5 say of them. Yes, the first rule that is false with

@@ -1,8 +1,10 @@
 pub mod Fewer
 pub mod Floor
 pub mod FloorChecks
+pub mod FloorClaim
 pub mod Flow
 pub mod FlowChecks
+pub mod FlowClaim
 pub mod Kept
 pub mod Laws
 pub mod Listed

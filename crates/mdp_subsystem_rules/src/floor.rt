@@ -1,10 +1,10 @@
-ghost use Rattle.std.specs.{Prelude.{◌≡◌, ◌<◌, ◌↔◌, ◌||◌, not, length, [], ◌∷◌, All, MatchOption, nat_lt, slice_index, false}, Result.{result_ok}};
+ghost use Rattle.std.specs.Prelude.{◌≡◌, ◌<◌, ◌↔◌, ◌||◌, not, length, [], ◌∷◌, All, MatchOption, nat_lt, slice_index, false};
+ghost use Rattle.std.specs.Result.{result_ok};
 ghost use Rattle.mdp_math.specs.Rational.{lt_ℚ};
-ghost use Rattle.mdp_spec.specs.{Bounds.{SubMin}, Mdp.{states_of, choices_at, value_at}, Row.{entries}, Tree.{is_marked}, Written.{written_sum}};
+ghost use Rattle.mdp_spec.specs.{Bounds.{SubMin}, Mdp.{states_of, choices_at, value_at}, Row.{entries}, Tree.{is_marked}};
 ghost use Rattle.mdp_farkas.specs.{Bellman.{sum_stands}, Compare.{0ℚ}, Verdict.{verdict_of, IsYes, IfYes, objection_to}};
 ghost use Rattle.mdp_rows.specs.declared.dir.Dir.TheVariants.{Min};
-ghost use Rattle.mdp_subsystem_rules.specs.FloorChecks.{line_rank, line_values, value_checks, cover_check, cover_checks, fall_check};
-ghost use Rattle.mdp_subsystem_rules.specs.FloorChecks.{rank_checks, line_checks, checks_of_line, each_line, floor_checks, HoldsFloor};
+ghost use Rattle.mdp_subsystem_rules.specs.FloorChecks.{value_checks, fall_check, floor_checks, HoldsFloor};
 ghost use Rattle.mdp_subsystem_rules.specs.{Kept.{is_listed, kept_marks}, Shape.{IsFloorShape}};
 
 use crate::flow::kept_at;
@@ -18,7 +18,7 @@ use mdp_rows::{Marks, Model, Row, ValuesOf};
 
 /// Values and ranks of kept states that are held against a model.
 #[derive(Clone, Copy)]
-struct Claimed<'a> {
+struct FloorClaim<'a> {
     model: &'a Model,
     goals: &'a Marks,
     cert: &'a FloorCert,
@@ -26,8 +26,10 @@ struct Claimed<'a> {
     ghost shape: { IsFloorShape model.now cert.now.kept.items cert.now.wide.items cert.now.values.items cert.now.ranks.items },
 }
 
-impl ValuesOf for Claimed<'_> {
-    ghost values = { λ c. line_values c.model.now c.goals.now c.cert.now.kept.items c.cert.now.values.items };
+impl ValuesOf for FloorClaim<'_> {
+    ghost use Rattle.mdp_subsystem_rules.specs.FloorClaim.{counted_values};
+
+    ghost values = { counted_values };
 
     fn value_of(&self, t: u32) -> Frac {
         self.counted(t)
@@ -37,58 +39,65 @@ impl ValuesOf for Claimed<'_> {
 /// The value of a kept state, which is held against the rows of its choices.
 #[derive(Clone, Copy)]
 struct Covers<'a> {
-    claimed: Claimed<'a>,
+    claim: FloorClaim<'a>,
     state: u32,
     value: &'a Frac,
-    ghost in_model: { state < states_of claimed.model.now },
+    ghost in_model: { state < states_of claim.model.now },
 }
 
 impl OneCheck for Covers<'_> {
-    ghost count = { λ x. length (choices_at x.claimed.model.now x.state) };
+    ghost use Rattle.mdp_subsystem_rules.specs.FloorClaim.{cover_at};
 
-    ghost check = { λ x. cover_check x.claimed.model.now
-        (line_values x.claimed.model.now x.claimed.goals.now x.claimed.cert.now.kept.items x.claimed.cert.now.values.items) x.state x.value.now };
+    ghost count = { λ x. length (choices_at x.claim.model.now x.state) };
+
+    ghost check = { λ x. cover_at x.claim x.state x.value.now };
 
     /// The value is at most the sum over the row of choice `c`.
     fn check_at(self, c: u32) -> Result<(), Objection> {
-        self.claimed.cover_at(self.state, self.value, c)
+        self.claim.cover_at(self.state, self.value, c)
     }
 }
 
 /// The rank of a kept state, which is held against those of its targets.
 #[derive(Clone, Copy)]
 struct Falls<'a> {
-    claimed: Claimed<'a>,
+    claim: FloorClaim<'a>,
     state: u32,
     rank: u32,
-    ghost in_model: { state < states_of claimed.model.now },
+    ghost in_model: { state < states_of claim.model.now },
 }
 
 impl StateTest for Falls<'_> {
-    ghost states = { λ x. states_of x.claimed.model.now };
+    ghost use Rattle.mdp_subsystem_rules.specs.FloorClaim.{rank_of};
 
-    ghost test = { λ x t. nat_lt (line_rank x.claimed.model.now x.claimed.goals.now x.claimed.cert.now.kept.items x.claimed.cert.now.ranks.items t) x.rank };
+    ghost states = { λ x. states_of x.claim.model.now };
+
+    ghost test = { λ x t. nat_lt (rank_of x.claim t) x.rank };
 
     /// Whether state `t` counts with a smaller rank.
     fn passes(self, t: u32) -> bool {
-        self.claimed.rank_of(t) < self.rank
+        self.claim.rank_of(t) < self.rank
     }
 }
 
 impl OneCheck for Falls<'_> {
-    ghost count = { λ x. length (choices_at x.claimed.model.now x.state) };
+    ghost use Rattle.mdp_subsystem_rules.specs.FloorClaim.{rank_of};
 
-    ghost check = { λ x. fall_check x.claimed.model.now
-        (line_rank x.claimed.model.now x.claimed.goals.now x.claimed.cert.now.kept.items x.claimed.cert.now.ranks.items) x.state x.rank };
+    ghost count = { λ x. length (choices_at x.claim.model.now x.state) };
+
+    ghost check = { λ x. fall_check x.claim.model.now (rank_of x.claim) x.state x.rank };
 
     /// An entry of the row of choice `c` leads to a smaller rank.
     fn check_at(self, c: u32) -> Result<(), Objection> {
-        let falls = some_target(self.claimed.model, self.state, c, self);
+        let falls = some_target(self.claim.model, self.state, c, self);
         judged(Ok(falls), Rule::RankFalls, self.state, Some(c))
     }
 }
 
-impl Claimed<'_> {
+impl FloorClaim<'_> {
+    ghost use Rattle.mdp_subsystem_rules.specs.FloorClaim.{counted_values, rank_of, cover_at, covers_at, falls_at, rules_at};
+    ghost use Rattle.mdp_subsystem_rules.specs.FloorClaim.{line_at, each_state, all_checks};
+
     /// On which line state `s` stands, if it is kept. It takes time in proportion to the logarithm of the number of lines.
     fn line_of(self, s: u32) -> Option<usize>
         ensures { MatchOption result (is_listed self.entry.cert.now.kept.items s ≡ false)
@@ -100,7 +109,7 @@ impl Claimed<'_> {
     /// What state `s` counts as: a goal as 1, a kept state as the value of its line, any other state as 0.
     fn counted(self, s: u32) -> Frac
         requires { s < states_of self.model.now }
-        ensures { result ≡ value_at (line_values self.entry.model.now self.entry.goals.now self.entry.cert.now.kept.items self.entry.cert.now.values.items) s }
+        ensures { result ≡ value_at (counted_values self.entry) s }
     {
         if self.goals.at(s) {
             return Frac::whole(1);
@@ -114,7 +123,7 @@ impl Claimed<'_> {
     /// Which rank it counts with: a kept state with that of its line, any other state and a goal with 0.
     fn rank_of(self, s: u32) -> u32
         requires { s < states_of self.model.now }
-        ensures { result ≡ line_rank self.entry.model.now self.entry.goals.now self.entry.cert.now.kept.items self.entry.cert.now.ranks.items s }
+        ensures { result ≡ rank_of self.entry s }
     {
         if self.goals.at(s) {
             return 0;
@@ -125,12 +134,11 @@ impl Claimed<'_> {
         }
     }
 
-    /// Whether a value is at most the sum over a row of its probabilities times what its targets count as, added in the order of the targets. `Wide` where
-    /// a written term of one of these operations is past width.
+    /// Whether a value is at most the sum over a row of its probabilities times what its targets count as, added in the order of the targets.
+    /// `Wide` where a written term of one of these operations is past width.
     fn row_covers(self, row: Row<'_>, value: &Frac) -> Result<bool, Wide>
         requires { All (λ t. t < states_of self.model.now) row.targets.now }
-        ensures { result_ok result ≡ sum_stands Min value.now (line_values self.entry.model.now self.entry.goals.now self.entry.cert.now.kept.items self.entry.cert.now.values.items)
-            0ℚ (entries row.entry.targets.now row.entry.probs.now) }
+        ensures { result_ok result ≡ sum_stands Min value.now (counted_values self.entry) 0ℚ (entries row.entry.targets.now row.entry.probs.now) }
     {
         let sum = row.sum_over(&Frac::whole(0), &self)?;
         at_most(value, &sum)
@@ -140,8 +148,7 @@ impl Claimed<'_> {
     fn cover_at(self, s: u32, value: &Frac, c: u32) -> Result<(), Objection>
         requires state { s < states_of self.model.now }
         requires choice { c < length (choices_at self.model.now s) }
-        ensures { result ≡ objection_to (cover_check self.entry.model.now
-            (line_values self.entry.model.now self.entry.goals.now self.entry.cert.now.kept.items self.entry.cert.now.values.items) s value.now c ∷ []) }
+        ensures { result ≡ objection_to (cover_at self.entry s value.now c ∷ []) }
     {
         let covers = self.row_covers(self.model.row(s, c), value);
         judged(covers, Rule::ValueOnEachChoice, s, Some(c))
@@ -150,14 +157,13 @@ impl Claimed<'_> {
     /// The same at each choice, where the state is no goal.
     fn covers_at(self, s: u32, value: &Frac) -> Result<(), Objection>
         requires { s < states_of self.model.now }
-        ensures { result ≡ objection_to (cover_checks self.entry.model.now self.entry.goals.now
-            (line_values self.entry.model.now self.entry.goals.now self.entry.cert.now.kept.items self.entry.cert.now.values.items) s value.now) }
+        ensures { result ≡ objection_to (covers_at self.entry s value.now) }
     {
         if self.goals.at(s) {
             return Ok(());
         }
         let covers = Covers {
-            claimed: self,
+            claim: self,
             state: s,
             value,
         };
@@ -167,14 +173,13 @@ impl Claimed<'_> {
     /// The kept state `s` has rank 0 where it is a goal or has value 0; else an entry of each row leads to a smaller rank.
     fn rank_at(self, s: u32, value: &Frac, rank: u32) -> Result<(), Objection>
         requires { s < states_of self.model.now }
-        ensures { result ≡ objection_to (rank_checks self.entry.model.now self.entry.goals.now
-            (line_rank self.entry.model.now self.entry.goals.now self.entry.cert.now.kept.items self.entry.cert.now.ranks.items) s value.now rank) }
+        ensures { result ≡ objection_to (falls_at self.entry s value.now rank) }
     {
         if ends_at(self.goals, s, value) {
             return judged(Ok(rank == 0), Rule::RankZero, s, None);
         }
         let falls = Falls {
-            claimed: self,
+            claim: self,
             state: s,
             rank,
         };
@@ -184,8 +189,7 @@ impl Claimed<'_> {
     /// The rules at the kept state `s` of this value and rank.
     fn state_at(self, s: u32, value: &Frac, rank: u32) -> Result<(), Objection>
         requires { s < states_of self.model.now }
-        ensures { result ≡ objection_to (line_checks self.entry.model.now self.entry.goals.now self.entry.cert.now.kept.items
-            self.entry.cert.now.values.items self.entry.cert.now.ranks.items s value.now rank) }
+        ensures { result ≡ objection_to (rules_at self.entry s value.now rank) }
     {
         probability_at(s, value)?;
         self.covers_at(s, value)?;
@@ -196,7 +200,7 @@ impl Claimed<'_> {
     /// The rules at the kept state of line `i`.
     fn line_at(self, i: usize) -> Result<(), Objection>
         requires { i < length self.cert.now.kept.items }
-        ensures { result ≡ objection_to (checks_of_line self.entry.model.now self.entry.goals.now self.entry.cert.now.kept.items self.entry.cert.now.values.items self.entry.cert.now.ranks.items i) }
+        ensures { result ≡ objection_to (line_at self.entry i) }
     {
         let cert = self.cert;
         self.state_at(cert.kept[i], &cert.values[i], cert.ranks[i])
@@ -204,7 +208,7 @@ impl Claimed<'_> {
 
     /// The rules at each kept state.
     fn each_line_at(self) -> Result<(), Objection>
-        ensures { result ≡ objection_to (each_line self.entry.model.now self.entry.goals.now self.entry.cert.now.kept.items self.entry.cert.now.values.items self.entry.cert.now.ranks.items) }
+        ensures { result ≡ objection_to (each_state self.entry) }
     {
         for i in 0..self.cert.kept.len() {
             self.line_at(i)?;
@@ -215,8 +219,7 @@ impl Claimed<'_> {
     /// All rules: those at each kept state, and that what the start counts as is at least the threshold.
     fn walk(self, start: u32, threshold: &Frac) -> Result<(), Objection>
         requires { start < states_of self.model.now }
-        ensures { result ≡ objection_to (floor_checks self.entry.model.now self.entry.goals.now start threshold.now
-            self.entry.cert.now.kept.items self.entry.cert.now.values.items self.entry.cert.now.ranks.items) }
+        ensures { result ≡ objection_to (all_checks self.entry start threshold.now) }
     {
         self.each_line_at()?;
         let reaches = at_least(&self.counted(start), threshold);
@@ -254,11 +257,12 @@ pub fn holds_floor(
     requires goals { length goals.now ≡ states_of model.now }
     requires start { start < states_of model.now }
     requires shape { IsFloorShape model.now cert.now.kept.items cert.now.wide.items cert.now.values.items cert.now.ranks.items }
-    ensures verdict { result ≡ verdict_of (floor_checks model.now goals.now start threshold cert.now.kept.items cert.now.values.items cert.now.ranks.items) }
+    ensures verdict { result
+        ≡ verdict_of (floor_checks model.now goals.now start threshold cert.now.kept.items cert.now.values.items cert.now.ranks.items) }
     ensures rules { IsYes result ↔ HoldsFloor model.now goals.now start threshold cert.now.kept.items cert.now.values.items cert.now.ranks.items }
     ensures sub_min { IfYes result (SubMin model.now goals.now (kept_marks (states_of model.now) cert.now.kept.items) start threshold) }
 {
     model.known();
-    let claimed = Claimed { model, goals, cert };
-    verdict_after(claimed.walk(start, &threshold))
+    let claim = FloorClaim { model, goals, cert };
+    verdict_after(claim.walk(start, &threshold))
 }

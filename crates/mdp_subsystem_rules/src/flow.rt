@@ -1,9 +1,9 @@
-ghost use Rattle.std.specs.Prelude.{◌≡◌, ◌<◌, ◌↔◌, length, [], ◌∷◌, ◌++◌, map, All, IfOk, OnOk};
+ghost use Rattle.std.specs.Prelude.{◌≡◌, ◌<◌, ◌↔◌, length, [], ◌∷◌, All, IfOk, OnOk};
 ghost use Rattle.mdp_spec.specs.{Bounds.{SubMax, SubMaxWithin}, Mdp.{states_of}};
 ghost use Rattle.mdp_farkas.specs.Verdict.{verdict_of, IsYes, IfYes, objection_to};
 ghost use Rattle.mdp_subsystem_rules.specs.Flow.{flow_total};
-ghost use Rattle.mdp_subsystem_rules.specs.FlowChecks.{kept_check, flow_check, checks_at, each_flow, balance_check, sum_checks, checks_from, flow_checks, HoldsFlow};
-ghost use Rattle.mdp_subsystem_rules.specs.{Kept.{kept_marks}, Shape.{IsFlowShape}, Sums.{AreSums, after_flow, after_flows}};
+ghost use Rattle.mdp_subsystem_rules.specs.FlowChecks.{kept_check, flow_check, balance_check, sum_checks, flow_checks, HoldsFlow};
+ghost use Rattle.mdp_subsystem_rules.specs.{Kept.{kept_marks}, Shape.{IsFlowShape}, Sums.{AreSums}};
 
 use crate::lines::kept_marks_of;
 use crate::sums::Sums;
@@ -87,7 +87,7 @@ fn sums_at(sums: &Sums, kept: &[u32], threshold: &Frac) -> Result<(), Objection>
 
 /// Kept states and flows that are held against a model, with a mark for each kept state.
 #[derive(Clone, Copy)]
-struct Claimed<'a> {
+struct FlowClaim<'a> {
     model: &'a Model,
     goals: &'a Marks,
     cert: &'a FlowCert,
@@ -98,13 +98,15 @@ struct Claimed<'a> {
     ghost marks_each: { length kept.now ≡ states_of model.now },
 }
 
-impl Claimed<'_> {
+impl FlowClaim<'_> {
+    ghost use Rattle.mdp_subsystem_rules.specs.FlowClaim.{flow_at, flows_at, sums_after, sums_after_all, all_checks};
+
     /// The rules at a flow, which is then added to the sums.
     fn flow_at(self, sums: &mut Sums, flow: &Flow) -> Result<(), Objection>
         requires sums { AreSums (states_of self.model.now) sums.old }
         requires state { flow.now.state < states_of self.model.now }
-        ensures verdict { result ≡ objection_to (checks_at self.entry.model.now self.entry.goals.now self.entry.kept.now sums.old flow.now) }
-        ensures sums { OnOk result (sums.new ≡ after_flow self.entry.model.now self.entry.goals.now sums.old flow.now) }
+        ensures verdict { result ≡ objection_to (flow_at self.entry sums.old flow.now) }
+        ensures sums { OnOk result (sums.new ≡ sums_after self.entry sums.old flow.now) }
     {
         choice_at(self.model, flow.state, flow.choice)?;
         amount_at(self.kept, flow)?;
@@ -121,8 +123,8 @@ impl Claimed<'_> {
     fn each_flow_at(self, sums: &mut Sums, flows: &[Flow]) -> Result<(), Objection>
         requires sums { AreSums (states_of self.model.now) sums.old }
         requires states { All (λ f. f.state < states_of self.model.now) flows.now }
-        ensures verdict { result ≡ objection_to (each_flow self.entry.model.now self.entry.goals.now self.entry.kept.now sums.old flows.now) }
-        ensures sums { OnOk result (sums.new ≡ after_flows self.entry.model.now self.entry.goals.now sums.old flows.now) }
+        ensures verdict { result ≡ objection_to (flows_at self.entry sums.old flows.now) }
+        ensures sums { OnOk result (sums.new ≡ sums_after_all self.entry sums.old flows.now) }
     {
         for flow in flows {
             self.flow_at(sums, flow)?;
@@ -133,8 +135,7 @@ impl Claimed<'_> {
     /// All rules: those at the kept states, at the flows and on their sums.
     fn walk(self, threshold: &Frac, sums: &mut Sums) -> Result<(), Objection>
         requires sums { AreSums (states_of self.model.now) sums.old }
-        ensures { result ≡ objection_to (map (kept_check self.entry.goals.now) self.entry.cert.now.kept.items
-            ++ checks_from self.entry.model.now self.entry.goals.now threshold.now self.entry.cert.now.kept.items self.entry.cert.now.flows.items sums.old) }
+        ensures { result ≡ objection_to (all_checks self.entry threshold.now sums.old) }
     {
         let goals = Goals { goals: self.goals };
         each_kept(self.cert.kept.as_slice(), goals)?;
@@ -161,17 +162,18 @@ pub fn holds_flow(
     ensures verdict { IfOk result (λ v. v ≡ verdict_of (flow_checks model.now goals.now start threshold cert.now.kept.items cert.now.flows.items)) }
     ensures rules { IfOk result (λ v. IsYes v ↔ HoldsFlow model.now goals.now start threshold cert.now.kept.items cert.now.flows.items) }
     ensures sub_max { IfOk result (λ v. IfYes v (SubMax model.now goals.now (kept_marks (states_of model.now) cert.now.kept.items) start threshold)) }
-    ensures within { IfOk result (λ v. IfYes v (SubMaxWithin model.now goals.now (kept_marks (states_of model.now) cert.now.kept.items) start threshold (flow_total cert.now.flows.items))) }
+    ensures within { IfOk result (λ v. IfYes v (SubMaxWithin model.now goals.now
+        (kept_marks (states_of model.now) cert.now.kept.items) start threshold (flow_total cert.now.flows.items))) }
 {
     model.known();
     let kept = kept_marks_of(alloc, model.states(), cert.kept.as_slice())?;
     let mut sums = Sums::new(alloc, model.states(), goals, start)?;
-    let claimed = Claimed {
+    let claim = FlowClaim {
         model,
         goals,
         cert,
         kept: &kept,
     };
-    let walk = claimed.walk(&threshold, &mut sums);
+    let walk = claim.walk(&threshold, &mut sums);
     Ok(verdict_after(walk))
 }

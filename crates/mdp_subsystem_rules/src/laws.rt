@@ -1,8 +1,10 @@
-ghost use Rattle.mdp_spec.specs.UntilLaws.{IsOneSubsystem, IsHitWhereKeptStay, UntilIsReach, ReachIsUntil, UntilBySub, SubByUntil, UntilLies, UntilIsUnique};
+ghost use Rattle.mdp_spec.specs.UntilLaws.{IsOneSubsystem, IsHitWhereKeptStay, UntilIsReach, ReachIsUntil};
+ghost use Rattle.mdp_spec.specs.UntilLaws.{UntilBySub, SubByUntil, UntilLies, UntilIsUnique};
 ghost use Rattle.mdp_subsystem_rules.specs.Until.{SubUntilMaxBySub, SubUntilMaxWithinBySub, SubUntilMinBySub};
 ghost use Rattle.mdp_subsystem_rules.specs.Laws.{FloorShows, FlowShows, PolicyShows, LeastIsFloor, VisitsAreFlow, VisitsBound, TreesReachMore};
-ghost use Rattle.mdp_subsystem_rules.specs.Laws.{WholeIsModel, GreatestGrows, LeastGrows, LeastFallsShort, PolicyFallsShort, VisitsFallShort, ShortIsNoFloor};
-ghost use Rattle.mdp_subsystem_rules.specs.Laws.{FlowNeverNo, FloorNeverNo, FlowNoRefutes, FloorNoRefutes, FlowSaysAll, FloorSaysAll};
+ghost use Rattle.mdp_subsystem_rules.specs.Laws.{WholeIsModel, GreatestGrows, LeastGrows, LeastFallsShort, PolicyFallsShort};
+ghost use Rattle.mdp_subsystem_rules.specs.Laws.{VisitsFallShort, ShortIsNoFloor, FlowNeverNo, FloorNeverNo, FlowNoRefutes, FloorNoRefutes};
+ghost use Rattle.mdp_subsystem_rules.specs.Laws.{FlowSaysAll, FloorSaysAll};
 ghost use Rattle.mdp_subsystem_rules.specs.Laws.{ListedAreMarks, ListedFlowShape, ListedFloorShape, ListedMeetsFloor};
 
 /// A floor that meets its rules bounds the least probability of meeting a goal on its subsystem from below.
@@ -33,11 +35,11 @@ pub fn fewer_law()
     ensures least { LeastGrows }
 {}
 
-/// Until by way of states that stay is reaching a goal on the subsystem that keeps them: each tree of the model has one of the subsystem that comes to
-/// the same, and the other way round. So values and a policy of the subsystem for reaching a goal are values and a policy of the model for until,
-/// and those of until are unique. A subsystem of that one whose kept states all stay is one of the model, and there each tree comes to the same
-/// for both. Whatever a subsystem of that one keeps, what it comes to for reaching a goal, the subsystem of the model with the same kept states
-/// comes to for until.
+/// Until by way of states that stay is reaching a goal on the subsystem that keeps them: each tree of the model has one of the subsystem that
+/// comes to the same, and the other way round. So values and a policy of the subsystem for reaching a goal are values and a policy of the model
+/// for until, and those of until are unique. A subsystem of that one whose kept states all stay is one of the model, and there each tree comes
+/// to the same for both. Whatever a subsystem of that one keeps, what it comes to for reaching a goal, the subsystem of the model with the same
+/// kept states comes to for until.
 pub fn stay_law()
     ensures there { UntilIsReach }
     ensures back { ReachIsUntil }

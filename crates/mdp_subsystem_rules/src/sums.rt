@@ -86,7 +86,8 @@ impl Sums {
         requires goals { target < length goals.now }
         requires inflows { target < length self.old.inflows }
         ensures { let x : Entry = record { target = target; prob = prob.now } in
-            MatchResult result (λ ok. with_entry goals.now amount.now self.old x ≡ Some self.new) (λ e. with_entry goals.now amount.now self.old x ≡ None) }
+            MatchResult result (λ ok. with_entry goals.now amount.now self.old x ≡ Some self.new)
+            (λ e. with_entry goals.now amount.now self.old x ≡ None) }
     {
         let term = amount.mul(prob)?;
         if goals.at(target) {
@@ -101,7 +102,8 @@ impl Sums {
         requires sums { AreSums (length goals.now) self.old }
         requires targets { All (λ t. t < length goals.now) row.targets.now }
         ensures { let xs = entries row.entry.targets.now row.entry.probs.now in
-            MatchResult result (λ ok. with_row goals.now amount.now self.old xs ≡ Some self.new) (λ e. with_row goals.now amount.now self.old xs ≡ None) }
+            MatchResult result (λ ok. with_row goals.now amount.now self.old xs ≡ Some self.new)
+            (λ e. with_row goals.now amount.now self.old xs ≡ None) }
     {
         for i in 0..row.targets.len() {
             self.add_entry(goals, amount, row.targets[i], &row.probs[i])?;
@@ -115,7 +117,8 @@ impl Sums {
         requires sums { AreSums (states_of model.now) self.old }
         requires state { flow.now.state < states_of model.now }
         requires choice { flow.now.choice < length (choices_at model.now flow.now.state) }
-        ensures { MatchResult result (λ ok. with_flow model.now goals.now self.old flow.now ≡ Some self.new) (λ e. with_flow model.now goals.now self.old flow.now ≡ None) }
+        ensures { MatchResult result (λ ok. with_flow model.now goals.now self.old flow.now ≡ Some self.new)
+            (λ e. with_flow model.now goals.now self.old flow.now ≡ None) }
     {
         self.add_outflow(flow.state, &flow.amount)?;
         self.add_row(goals, &flow.amount, model.row(flow.state, flow.choice))

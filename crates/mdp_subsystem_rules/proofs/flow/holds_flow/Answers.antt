@@ -5,14 +5,14 @@ use Rattle.mdp_subsystem_rules.specs.{FlowChecks.{kept_check, checks_from, flow_
 use Rattle.mdp_subsystem_rules.proofs.{Kept.{length-kept_marks}, Sizes.{sized_first}, FlowRules.{flow_rules, flow_sub_max, flow_within}}
 use Rattle.mdp_subsystem_rules.proofs.flow.holds_flow.Goals as goal
 
-pub invariant_of-claimed-clause-marks : goal.invariant_of-claimed-clause-marks
-invariant_of-claimed-clause-marks c =
+pub invariant_of-claim-clause-marks : goal.invariant_of-claim-clause-marks
+invariant_of-claim-clause-marks c =
     c.in_ok-kept.ensures {u = tt}
     ∙ ap (λ (n : ℕ). kept_marks n c.as_slice.result.now) c.states.ensures
     ∙ ap (λ (kept : List ℕ). kept_marks (states_of c.args.model.now) kept) c.as_slice.ensures.value
 
-pub invariant_of-claimed-clause-marks_each : goal.invariant_of-claimed-clause-marks_each
-invariant_of-claimed-clause-marks_each c =
+pub invariant_of-claim-clause-marks_each : goal.invariant_of-claim-clause-marks_each
+invariant_of-claim-clause-marks_each c =
     ap (λ (marks : List Bool). length marks) (c.in_ok-kept.ensures {u = tt}) ∙ length-kept_marks c.states.result c.as_slice.result.now ∙ c.states.ensures
 
 pub walk-walk-requires : goal.walk-walk-requires
