@@ -1,7 +1,7 @@
 ghost use Rattle.std.specs.{Prelude.{◌≡◌, ◌<◌, ◌↔◌, length, slice_index, [], ◌∷◌}, Result.{result_ok}};
 ghost use Rattle.mdp_spec.specs.{Mdp.{states_of, choices_at}, Between.{ReachMaxBetween, ReachMinBetween}};
-ghost use Rattle.mdp_bounds.specs.Reach.{covering, followed, probability_checks, goal_check, outermost, stands_at, bound_check};
-ghost use Rattle.mdp_bounds.specs.Reach.{cover_at, follow_at, bounds_at, bounds_checks, IsReachBounds, IsTrivialReach};
+ghost use Rattle.mdp_bounds.specs.Reach.{covering, probability_checks, goal_check, outermost, bound_check, bounds_at, bounds_checks};
+ghost use Rattle.mdp_bounds.specs.Reach.{IsReachBounds, IsTrivialReach};
 ghost use Rattle.mdp_farkas.specs.{Reach.{IsReach}, Verdict.{objection_to, verdict_of, IsYes, IfYes}};
 ghost use Rattle.mdp_rows.specs.declared.dir.Dir.TheVariants.{Max, Min};
 
@@ -60,7 +60,7 @@ fn outermost_value(dir: Dir) -> Frac
 
 /// The values of one column, which are held against a model at one state.
 #[derive(Clone, Copy)]
-struct Half<'a> {
+struct ReachHalf<'a> {
     dir: Dir,
     model: &'a Model,
     goals: &'a Marks,
@@ -71,7 +71,7 @@ struct Half<'a> {
     ghost in_model: { state < states_of model.now },
 }
 
-impl OneCheck for Half<'_> {
+impl OneCheck for ReachHalf<'_> {
     ghost count = { λ h. length (choices_at h.model.now h.state) };
 
     ghost check = { λ h. bound_check h.dir h.model.now h.values.now h.state };
@@ -87,12 +87,14 @@ impl OneCheck for Half<'_> {
     }
 }
 
-impl Half<'_> {
+impl ReachHalf<'_> {
+    ghost use Rattle.mdp_bounds.specs.ReachClaim.{row_stands, each_checks, policy_checks};
+
     /// Whether the upper value is at least, or the lower one at most, the sum over the row of choice `c`. The greatest upper value and the least
     /// lower one stand to any row: for them no sum is made.
     fn stands(self, dir: Dir, c: u32) -> Result<bool, Wide>
         requires { c < length (choices_at self.model.now self.state) }
-        ensures { result_ok result ≡ stands_at dir self.entry.model.now self.entry.values.now self.entry.state c }
+        ensures { result_ok result ≡ row_stands dir self.entry c }
     {
         let value = self.values[self.state as usize];
         if value == outermost_value(dir) {
@@ -104,7 +106,7 @@ impl Half<'_> {
 
     /// The value is a probability, and 1 at a goal; elsewhere it stands to the rows of all choices.
     fn on_each(self) -> Result<(), Objection>
-        ensures { result ≡ objection_to (cover_at self.entry.dir self.entry.model.now self.entry.goals.now self.entry.values.now self.entry.state) }
+        ensures { result ≡ objection_to (each_checks self.entry) }
     {
         probability_at(self.values, self.state)?;
         if self.goals.at(self.state) {
@@ -117,7 +119,7 @@ impl Half<'_> {
     /// The value is a probability, and 1 at a goal; elsewhere it stands to the row of the policy's choice `c`.
     fn on_policy(self, c: u32) -> Result<(), Objection>
         requires { c < length (choices_at self.model.now self.state) }
-        ensures { result ≡ objection_to (follow_at self.entry.dir self.entry.model.now self.entry.goals.now self.entry.values.now self.entry.state c) }
+        ensures { result ≡ objection_to (policy_checks self.entry c) }
     {
         probability_at(self.values, self.state)?;
         if self.goals.at(self.state) {
@@ -131,7 +133,7 @@ impl Half<'_> {
 
 /// Lower and upper values and ranks that are held against a model.
 #[derive(Clone, Copy)]
-struct Claimed<'a> {
+struct ReachBoundsClaim<'a> {
     dir: Dir,
     model: &'a Model,
     goals: &'a Marks,
@@ -146,24 +148,28 @@ struct Claimed<'a> {
 
 /// The same with a policy.
 #[derive(Clone, Copy)]
-struct States<'a> {
-    claimed: Claimed<'a>,
+struct ReachBoundsWithPolicy<'a> {
+    claim: ReachBoundsClaim<'a>,
     choices: &'a [u32],
-    ghost choices_each: { length choices.now ≡ states_of claimed.model.now },
+    ghost choices_each: { length choices.now ≡ states_of claim.model.now },
 }
 
-impl Checks for States<'_> {
-    ghost count = { λ x. states_of x.claimed.model.now };
+impl Checks for ReachBoundsWithPolicy<'_> {
+    ghost use Rattle.mdp_bounds.specs.ReachClaim.{rules_at};
 
-    ghost checks = { λ x s. bounds_at x.claimed.dir x.claimed.model.now x.claimed.goals.now x.claimed.lower.now x.claimed.upper.now x.claimed.ranks.now s (slice_index x.choices.now s) };
+    ghost count = { λ x. states_of x.claim.model.now };
+
+    ghost checks = { λ x s. rules_at x.claim s (slice_index x.choices.now s) };
 
     /// The rules at state `s`.
     fn check(self, s: u32) -> Result<(), Objection> {
-        self.claimed.state_at(s, self.choices[s as usize])
+        self.claim.state_at(s, self.choices[s as usize])
     }
 }
 
-impl<'a> Claimed<'a> {
+impl<'a> ReachBoundsClaim<'a> {
+    ghost use Rattle.mdp_bounds.specs.ReachClaim.{covers_at, follows_at, rules_at};
+
     /// The values that the half on each choice is asked of in this direction.
     fn covering(self, dir: Dir) -> &'a [Frac]
         ensures values { result.now ≡ covering dir self.entry.lower.now self.entry.upper.now }
@@ -178,9 +184,9 @@ impl<'a> Claimed<'a> {
     /// The half on each choice, at state `s`.
     fn covers(self, s: u32) -> Result<(), Objection>
         requires { s < states_of self.model.now }
-        ensures { result ≡ objection_to (cover_at self.entry.dir self.entry.model.now self.entry.goals.now (covering self.entry.dir self.entry.lower.now self.entry.upper.now) s) }
+        ensures { result ≡ objection_to (covers_at self.entry s) }
     {
-        let half = Half {
+        let half = ReachHalf {
             dir: self.dir,
             model: self.model,
             goals: self.goals,
@@ -194,9 +200,9 @@ impl<'a> Claimed<'a> {
     fn follows(self, s: u32, choice: u32) -> Result<(), Objection>
         requires state { s < states_of self.model.now }
         requires choice { choice < length (choices_at self.model.now s) }
-        ensures { result ≡ objection_to (follow_at self.entry.dir self.entry.model.now self.entry.goals.now (followed self.entry.dir self.entry.lower.now self.entry.upper.now) s choice) }
+        ensures { result ≡ objection_to (follows_at self.entry s choice) }
     {
-        let half = Half {
+        let half = ReachHalf {
             dir: self.dir,
             model: self.model,
             goals: self.goals,
@@ -209,7 +215,7 @@ impl<'a> Claimed<'a> {
     /// The rules at state `s`, where the policy takes this choice.
     fn state_at(self, s: u32, choice: u32) -> Result<(), Objection>
         requires { s < states_of self.model.now }
-        ensures { result ≡ objection_to (bounds_at self.entry.dir self.entry.model.now self.entry.goals.now self.entry.lower.now self.entry.upper.now self.entry.ranks.now s choice) }
+        ensures { result ≡ objection_to (rules_at self.entry s choice) }
     {
         choice_at(self.model, s, choice)?;
         self.covers(s)?;
@@ -238,7 +244,7 @@ pub fn reach_bounds_at_state(
     requires state { s < states_of model.now }
     ensures { result ≡ objection_to (bounds_at dir model.now goals.now lower.now upper.now ranks.now s choice) }
 {
-    let claimed = Claimed {
+    let claim = ReachBoundsClaim {
         dir,
         model,
         goals,
@@ -246,7 +252,7 @@ pub fn reach_bounds_at_state(
         upper,
         ranks,
     };
-    claimed.state_at(s, choice)
+    claim.state_at(s, choice)
 }
 
 /// Whether the greatest, or the least, probabilities lie between the values, and those of the policy too: what rules 2 to 8 say of the
@@ -259,15 +265,19 @@ pub fn holds_bounds_reach(model: &Model, goals: &Marks, dir: Dir, cert: &ReachBo
     requires upper { length cert.now.upper.items ≡ states_of model.now }
     requires choices { length cert.now.choices.items ≡ states_of model.now }
     requires ranks { length cert.now.ranks.items ≡ states_of model.now }
-    ensures verdict { result ≡ verdict_of (bounds_checks dir model.now goals.now cert.now.lower.items cert.now.upper.items cert.now.choices.items cert.now.ranks.items) }
-    ensures rules { IsYes result ↔ IsReachBounds dir model.now goals.now cert.now.lower.items cert.now.upper.items cert.now.choices.items cert.now.ranks.items }
+    ensures verdict { result
+        ≡ verdict_of (bounds_checks dir model.now goals.now cert.now.lower.items cert.now.upper.items cert.now.choices.items cert.now.ranks.items) }
+    ensures rules { IsYes result
+        ↔ IsReachBounds dir model.now goals.now cert.now.lower.items cert.now.upper.items cert.now.choices.items cert.now.ranks.items }
     ensures max { dir ≡ Max → IfYes result (ReachMaxBetween model.now goals.now cert.now.lower.items cert.now.upper.items cert.now.choices.items) }
     ensures min { dir ≡ Min → IfYes result (ReachMinBetween model.now goals.now cert.now.lower.items cert.now.upper.items cert.now.choices.items) }
-    ensures exact { cert.now.upper.items ≡ cert.now.lower.items → IsReach dir model.now goals.now cert.now.lower.items cert.now.choices.items cert.now.ranks.items → IsYes result }
-    ensures trivial { IsTrivialReach model.now goals.now cert.now.lower.items cert.now.upper.items cert.now.choices.items cert.now.ranks.items → IsYes result }
+    ensures exact { cert.now.upper.items ≡ cert.now.lower.items
+        → IsReach dir model.now goals.now cert.now.lower.items cert.now.choices.items cert.now.ranks.items → IsYes result }
+    ensures trivial { IsTrivialReach model.now goals.now cert.now.lower.items cert.now.upper.items cert.now.choices.items cert.now.ranks.items
+        → IsYes result }
 {
     model.known();
-    let claimed = Claimed {
+    let claim = ReachBoundsClaim {
         dir,
         model,
         goals,
@@ -275,9 +285,9 @@ pub fn holds_bounds_reach(model: &Model, goals: &Marks, dir: Dir, cert: &ReachBo
         upper: cert.upper.as_slice(),
         ranks: cert.ranks.as_slice(),
     };
-    let states = States {
-        claimed,
+    let with_policy = ReachBoundsWithPolicy {
+        claim,
         choices: cert.choices.as_slice(),
     };
-    verdict_after(each_below(model.states(), states))
+    verdict_after(each_below(model.states(), with_policy))
 }

@@ -3,7 +3,7 @@ use Rattle.mdp_math.specs.Rational.{ℚ}
 use Rattle.mdp_rows.specs.declared.dir.Dir.{Dir}
 use Rattle.mdp_farkas.specs.Verdict.{objection_to}
 use Rattle.mdp_bounds.specs.{Reach.{covering}, Mean.{gains_follow}}
-use Rattle.mdp_bounds.proofs.mean.Claimed.follows.Goals as goal
+use Rattle.mdp_bounds.proofs.mean.MeanBoundsClaim.follows.Goals as goal
 
 pub returns : goal.returns
 returns c =

@@ -1,7 +1,7 @@
 use Rattle.std.proofs.Common.{[], ◌∷◌, refl}
 use Rattle.mdp_bounds.specs.Mean.{spread_check, state_bounds_checks}
 use Rattle.mdp_bounds.proofs.Parts.{both, handed}
-use Rattle.mdp_bounds.proofs.mean.Claimed.walk.Goals as goal
+use Rattle.mdp_bounds.proofs.mean.MeanBoundsClaim.walk.Goals as goal
 
 pub returns-in_err-each_below : goal.returns-in_err-each_below
 returns-in_err-each_below c =

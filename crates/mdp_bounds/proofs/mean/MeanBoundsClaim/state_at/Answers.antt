@@ -7,7 +7,7 @@ use Rattle.mdp_farkas.specs.{Reach.{choice_exists}, Verdict.{objection_to}}
 use Rattle.mdp_claims.specs.declared.verdict.Objection.{Objection}
 use Rattle.mdp_bounds.specs.{Reach.{covering, followed}, Mean.{gains_cover, gains_follow, mean_bounds_at}}
 use Rattle.mdp_bounds.proofs.Parts.{both, handed}
-use Rattle.mdp_bounds.proofs.mean.Claimed.state_at.Goals as goal
+use Rattle.mdp_bounds.proofs.mean.MeanBoundsClaim.state_at.Goals as goal
 
 -- what stands against the rules at a state, by their parts
 parts : (dir : Dir) (m : Mdp) (r : ℕ) (lower upper a b : List ℚ) (s choice : ℕ) (exists covers follows : Result (Unit {0}) Objection)

@@ -2,7 +2,7 @@ use Rattle.std.proofs.Common.{Bool, refl, ap, ◌∙◌}
 use Rattle.mdp_farkas.specs.{Reward.{rank_fall_checks}, Verdict.{objection_to}}
 use Rattle.mdp_bounds.specs.Reward.{lower_on_each, finite_checks}
 use Rattle.mdp_bounds.proofs.Parts.{both, handed}
-use Rattle.mdp_bounds.proofs.column.Column.finite_lower.Goals as goal
+use Rattle.mdp_bounds.proofs.column.RewardColumn.finite_lower.Goals as goal
 
 pub returns-in_err-finite : goal.returns-in_err-finite
 returns-in_err-finite c =

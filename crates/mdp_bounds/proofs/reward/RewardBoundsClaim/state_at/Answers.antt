@@ -7,7 +7,7 @@ use Rattle.mdp_farkas.specs.{Reach.{choice_exists}, Verdict.{objection_to}}
 use Rattle.mdp_claims.specs.declared.verdict.Objection.{Objection}
 use Rattle.mdp_bounds.specs.Reward.{order_check, lower_checks, upper_value_checks, sign_checks, reward_bounds_at}
 use Rattle.mdp_bounds.proofs.Parts.{both, handed}
-use Rattle.mdp_bounds.proofs.reward.Claimed.state_at.Goals as goal
+use Rattle.mdp_bounds.proofs.reward.RewardBoundsClaim.state_at.Goals as goal
 
 -- what stands against the rules at a state, by their parts
 parts : (dir : Dir) (m : Mdp) (r : ℕ) (goals : List Bool) (lower upper : List (Option ℚ)) (ranks : List ℕ) (s choice : ℕ) (exists order below above signs : Result (Unit {0}) Objection)

@@ -1,7 +1,7 @@
 use Rattle.std.proofs.Common.{◌<◌, ℕ, sym, subst}
 use Rattle.mdp_bounds.proofs.MeanTrivial.{gain_trivial}
 use Rattle.mdp_spec.specs.Mdp.{value_at}
-use Rattle.mdp_bounds.proofs.mean.Half.gain_stands.Goals as goal
+use Rattle.mdp_bounds.proofs.mean.MeanHalf.gain_stands.Goals as goal
 
 pub returns-then-gains : goal.returns-then-gains
 returns-then-gains c =

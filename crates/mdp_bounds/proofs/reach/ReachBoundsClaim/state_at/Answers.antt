@@ -7,7 +7,7 @@ use Rattle.mdp_farkas.specs.{Reach.{choice_exists, rank_checks}, Verdict.{object
 use Rattle.mdp_claims.specs.declared.verdict.Objection.{Objection}
 use Rattle.mdp_bounds.specs.Reach.{covering, followed, cover_at, follow_at, bounds_at}
 use Rattle.mdp_bounds.proofs.Parts.{both, handed}
-use Rattle.mdp_bounds.proofs.reach.Claimed.state_at.Goals as goal
+use Rattle.mdp_bounds.proofs.reach.ReachBoundsClaim.state_at.Goals as goal
 
 -- what stands against the rules at a state, by their parts
 parts : (dir : Dir) (m : Mdp) (goals : List Bool) (lower upper : List ℚ) (ranks : List ℕ) (s choice : ℕ) (exists covers follows falls : Result (Unit {0}) Objection)

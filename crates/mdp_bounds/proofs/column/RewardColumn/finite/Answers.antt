@@ -2,7 +2,7 @@ use Rattle.std.proofs.Common.{refl}
 use Rattle.mdp_farkas.specs.Reward.{stay_checks}
 use Rattle.mdp_bounds.specs.Reward.{half_checks}
 use Rattle.mdp_bounds.proofs.Parts.{both, handed}
-use Rattle.mdp_bounds.proofs.column.Column.finite.Goals as goal
+use Rattle.mdp_bounds.proofs.column.RewardColumn.finite.Goals as goal
 
 pub returns-in_err-stays_at_state : goal.returns-in_err-stays_at_state
 returns-in_err-stays_at_state c =

@@ -2,7 +2,7 @@ use Rattle.std.proofs.Common.{refl}
 use Rattle.mdp_farkas.specs.Verdict.{at_choices}
 use Rattle.mdp_bounds.specs.Mean.{gain_check, relative_check}
 use Rattle.mdp_bounds.proofs.Parts.{both, handed}
-use Rattle.mdp_bounds.proofs.mean.Half.on_each.Goals as goal
+use Rattle.mdp_bounds.proofs.mean.MeanHalf.on_each.Goals as goal
 
 pub returns-in_err-each_choice : goal.returns-in_err-each_choice
 returns-in_err-each_choice c =
