@@ -1,6 +1,6 @@
 ghost use Rattle.std.specs.{Prelude.{◌≡◌, ◌<◌, ◌↔◌, IsTrue, length, slice_index}, List.{list_all}, Result.{result_ok}};
 ghost use Rattle.mdp_spec.specs.{Mdp.{states_of, choices_at}, Between.{MeanMaxBetween, MeanMinBetween}};
-ghost use Rattle.mdp_bounds.specs.{Reach.{covering}, Mean.{AreOne, gain_check, told_step, relative_check, spread_check}};
+ghost use Rattle.mdp_bounds.specs.{Reach.{covering}, Mean.{AreOne, gain_check, told_step, relative_check, gains_cover, gains_follow, spread_check}};
 ghost use Rattle.mdp_bounds.specs.Mean.{mean_bounds_at, mean_bounds_checks, IsMeanBounds, IsTrivialMean};
 ghost use Rattle.mdp_num.specs.Equal.{eq_ℚ};
 ghost use Rattle.mdp_farkas.specs.{Mean.{IsMean}, Verdict.{objection_to, verdict_of, IsYes, IfYes}};
@@ -126,9 +126,11 @@ struct BoundHalf<'a> {
 }
 
 impl OneCheck for BoundHalf<'_> {
+    ghost use Rattle.mdp_bounds.specs.MeanClaim.{asked_of};
+
     ghost count = { λ x. length (choices_at x.half.model.now x.half.state) };
 
-    ghost check = { λ x. relative_check x.half.dir x.half.model.now x.half.name x.half.gains.values.now x.half.relative.now x.half.state };
+    ghost check = { λ x. asked_of x.half relative_check };
 
     /// The bound at choice `c`.
     fn check_at(self, c: u32) -> Result<(), Objection> {
@@ -138,7 +140,7 @@ impl OneCheck for BoundHalf<'_> {
 }
 
 impl MeanHalf<'_> {
-    ghost use Rattle.mdp_bounds.specs.MeanClaim.{sum_stands, earning_stands, each_checks, policy_checks};
+    ghost use Rattle.mdp_bounds.specs.MeanClaim.{sum_stands, step_stands, asked_of};
 
     /// Whether the upper gain is at least, or the lower one at most, the sum of the gains over the row of choice `c`.
     fn sum_stands(self, dir: Dir, c: u32) -> Result<bool, Wide>
@@ -168,7 +170,7 @@ impl MeanHalf<'_> {
     /// reward and the sum over its row.
     fn bound_stands(self, dir: Dir, c: u32) -> Result<bool, Wide>
         requires { c < length (choices_at self.model.now self.state) }
-        ensures { result_ok result ≡ earning_stands dir self.entry c }
+        ensures { result_ok result ≡ step_stands dir self.entry c }
     {
         let step = step_at(self.gains, self.relative, self.state)?;
         let reward = self.model.reward(self.name, self.state, c);
@@ -178,7 +180,7 @@ impl MeanHalf<'_> {
 
     /// The rules of each choice.
     fn on_each(self) -> Result<(), Objection>
-        ensures { result ≡ objection_to (each_checks self.entry) }
+        ensures { result ≡ objection_to (asked_of self.entry gains_cover) }
     {
         each_choice(self.model, self.state, GainHalf { half: self })?;
         each_choice(self.model, self.state, BoundHalf { half: self })
@@ -187,7 +189,7 @@ impl MeanHalf<'_> {
     /// The rules of the policy's choice `c`.
     fn on_policy(self, c: u32) -> Result<(), Objection>
         requires { c < length (choices_at self.model.now self.state) }
-        ensures { result ≡ objection_to (policy_checks self.entry c) }
+        ensures { result ≡ objection_to (asked_of self.entry gains_follow c) }
     {
         let keeps = self.gain_stands(reversed(self.dir), c);
         judged(keeps, Rule::GainOnPolicy, self.state, Some(c))?;

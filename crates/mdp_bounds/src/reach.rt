@@ -1,7 +1,7 @@
 ghost use Rattle.std.specs.{Prelude.{◌≡◌, ◌<◌, ◌↔◌, length, slice_index, [], ◌∷◌}, Result.{result_ok}};
 ghost use Rattle.mdp_spec.specs.{Mdp.{states_of, choices_at}, Between.{ReachMaxBetween, ReachMinBetween}};
-ghost use Rattle.mdp_bounds.specs.Reach.{covering, probability_checks, goal_check, outermost, bound_check, bounds_at, bounds_checks};
-ghost use Rattle.mdp_bounds.specs.Reach.{IsReachBounds, IsTrivialReach};
+ghost use Rattle.mdp_bounds.specs.Reach.{covering, probability_checks, goal_check, outermost, stands_at, bound_check, cover_at, follow_at};
+ghost use Rattle.mdp_bounds.specs.Reach.{bounds_at, bounds_checks, IsReachBounds, IsTrivialReach};
 ghost use Rattle.mdp_farkas.specs.{Reach.{IsReach}, Verdict.{objection_to, verdict_of, IsYes, IfYes}};
 ghost use Rattle.mdp_rows.specs.declared.dir.Dir.TheVariants.{Max, Min};
 
@@ -88,13 +88,13 @@ impl OneCheck for ReachHalf<'_> {
 }
 
 impl ReachHalf<'_> {
-    ghost use Rattle.mdp_bounds.specs.ReachClaim.{row_stands, each_checks, policy_checks};
+    ghost use Rattle.mdp_bounds.specs.ReachClaim.{asked_of};
 
     /// Whether the upper value is at least, or the lower one at most, the sum over the row of choice `c`. The greatest upper value and the least
     /// lower one stand to any row: for them no sum is made.
     fn stands(self, dir: Dir, c: u32) -> Result<bool, Wide>
         requires { c < length (choices_at self.model.now self.state) }
-        ensures { result_ok result ≡ row_stands dir self.entry c }
+        ensures { result_ok result ≡ stands_at dir self.entry.model.now self.entry.values.now self.entry.state c }
     {
         let value = self.values[self.state as usize];
         if value == outermost_value(dir) {
@@ -106,7 +106,7 @@ impl ReachHalf<'_> {
 
     /// The value is a probability, and 1 at a goal; elsewhere it stands to the rows of all choices.
     fn on_each(self) -> Result<(), Objection>
-        ensures { result ≡ objection_to (each_checks self.entry) }
+        ensures { result ≡ objection_to (asked_of self.entry cover_at) }
     {
         probability_at(self.values, self.state)?;
         if self.goals.at(self.state) {
@@ -119,7 +119,7 @@ impl ReachHalf<'_> {
     /// The value is a probability, and 1 at a goal; elsewhere it stands to the row of the policy's choice `c`.
     fn on_policy(self, c: u32) -> Result<(), Objection>
         requires { c < length (choices_at self.model.now self.state) }
-        ensures { result ≡ objection_to (policy_checks self.entry c) }
+        ensures { result ≡ objection_to (asked_of self.entry follow_at c) }
     {
         probability_at(self.values, self.state)?;
         if self.goals.at(self.state) {
@@ -257,8 +257,8 @@ pub fn reach_bounds_at_state(
 
 /// Whether the greatest, or the least, probabilities lie between the values, and those of the policy too: what rules 2 to 8 say of the
 /// values, the policy and the ranks. Yes, the first rule that is false with its place, or the place of the first sum past width where that
-/// comes before. The bounds 0 and 1 get yes on every model, and so
-/// do exact values that `holds_reach` says yes of, as lower and upper values. It takes no memory.
+/// comes before. The bounds 0 and 1 get yes on every model, and so do exact values that `holds_reach` says yes of, as lower and upper values.
+/// It takes no memory.
 pub fn holds_bounds_reach(model: &Model, goals: &Marks, dir: Dir, cert: &ReachBoundsCert) -> Verdict
     requires goals { length goals.now ≡ states_of model.now }
     requires lower { length cert.now.lower.items ≡ states_of model.now }
