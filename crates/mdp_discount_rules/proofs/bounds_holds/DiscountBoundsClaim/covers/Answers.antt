@@ -2,7 +2,7 @@ use Rattle.std.proofs.Common.{List, Option, ap, ◌∙◌}
 use Rattle.mdp_math.specs.Rational.{ℚ}
 use Rattle.mdp_farkas.specs.Verdict.{at_choices, objection_to}
 use Rattle.mdp_discount_rules.specs.BoundsChecks.{each_check}
-use Rattle.mdp_discount_rules.proofs.bounds_holds.Claimed.covers.Goals as goal
+use Rattle.mdp_discount_rules.proofs.bounds_holds.DiscountBoundsClaim.covers.Goals as goal
 
 pub returns : goal.returns
 returns c =

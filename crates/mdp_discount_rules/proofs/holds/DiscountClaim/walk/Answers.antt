@@ -4,7 +4,7 @@ use Rattle.mdp_farkas.specs.Verdict.{Check, objection_to}
 use Rattle.mdp_claims.specs.declared.rule.Rule.TheVariants.{RemainderIsGreatest}
 use Rattle.mdp_farkas.proofs.Objections.{halts, goes_on}
 use Rattle.mdp_discount_rules.specs.Checks.{checks_at, state_checks, remainder_check}
-use Rattle.mdp_discount_rules.proofs.holds.Claimed.walk.Goals as goal
+use Rattle.mdp_discount_rules.proofs.holds.DiscountClaim.walk.Goals as goal
 
 pub returns-in_err-each_below : goal.returns-in_err-each_below
 returns-in_err-each_below c =

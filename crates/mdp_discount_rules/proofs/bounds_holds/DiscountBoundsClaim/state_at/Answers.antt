@@ -8,7 +8,7 @@ use Rattle.mdp_claims.specs.declared.verdict.Objection.{Objection}
 use Rattle.mdp_bounds.specs.Says.{covering_rewards}
 use Rattle.mdp_bounds.proofs.Parts.{both, handed}
 use Rattle.mdp_discount_rules.specs.BoundsChecks.{each_check, policy_check, bounds_at}
-use Rattle.mdp_discount_rules.proofs.bounds_holds.Claimed.state_at.Goals as goal
+use Rattle.mdp_discount_rules.proofs.bounds_holds.DiscountBoundsClaim.state_at.Goals as goal
 
 -- what stands against the rules at a state, by their parts
 parts : (dir : Dir) (m : Mdp) (r : ℕ) (f : ℚ) (lower upper : List (Option ℚ)) (s choice : ℕ) (exists covers follows : Result (Unit {0}) Objection)

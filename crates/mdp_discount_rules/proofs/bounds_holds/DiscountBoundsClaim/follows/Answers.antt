@@ -5,7 +5,7 @@ use Rattle.mdp_farkas.specs.{Reach.{other}, Verdict.{at_choice, objection_to}}
 use Rattle.mdp_claims.specs.declared.rule.Rule.TheVariants.{DiscountedOnPolicy}
 use Rattle.mdp_bounds.specs.Says.{covering_rewards}
 use Rattle.mdp_discount_rules.specs.BoundsChecks.{policy_check}
-use Rattle.mdp_discount_rules.proofs.bounds_holds.Claimed.follows.Goals as goal
+use Rattle.mdp_discount_rules.proofs.bounds_holds.DiscountBoundsClaim.follows.Goals as goal
 
 pub returns : goal.returns
 returns c =

@@ -3,7 +3,7 @@ use Rattle.std.specs.List.{slice_index, flat_map, range_with_len}
 use Rattle.mdp_farkas.specs.Verdict.{objection_to}
 use Rattle.mdp_bounds.proofs.Parts.{both, handed}
 use Rattle.mdp_discount_rules.specs.BoundsChecks.{bounds_at, remainder_check, state_checks}
-use Rattle.mdp_discount_rules.proofs.bounds_holds.Claimed.walk.Goals as goal
+use Rattle.mdp_discount_rules.proofs.bounds_holds.DiscountBoundsClaim.walk.Goals as goal
 
 pub returns-in_err-each_below : goal.returns-in_err-each_below
 returns-in_err-each_below c =

@@ -3,7 +3,7 @@ use Rattle.mdp_farkas.specs.{Reach.{choice_exists}, Verdict.{Check, at_choice, a
 use Rattle.mdp_claims.specs.declared.rule.Rule.TheVariants.{DiscountedOnPolicy}
 use Rattle.mdp_farkas.proofs.Objections.{halts, goes_on}
 use Rattle.mdp_discount_rules.specs.Checks.{covers_check, reached_check}
-use Rattle.mdp_discount_rules.proofs.holds.Claimed.state_at.Goals as goal
+use Rattle.mdp_discount_rules.proofs.holds.DiscountClaim.state_at.Goals as goal
 
 pub returns-in_err-choice_at : goal.returns-in_err-choice_at
 returns-in_err-choice_at c =
