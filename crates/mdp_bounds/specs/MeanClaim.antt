@@ -31,6 +31,6 @@ follows_at x s choice = gains_follow x.dir x.model.now x.name (followed x.dir x.
 abbrev pub rules_at : MeanBoundsClaim → ℕ → ℕ → List Check
 rules_at x s choice = mean_bounds_at x.dir x.model.now x.name x.lower.values.now x.upper.values.now x.bound.now x.bias.now s choice
 
--- all rules, with this spread and policy
-abbrev pub all_checks : MeanBoundsClaim → ℚ → List ℕ → List Check
-all_checks x spread policy = mean_bounds_checks x.dir x.model.now x.name x.lower.values.now x.upper.values.now x.bound.now x.bias.now spread policy
+-- all rules, with this spread
+abbrev pub all_checks : MeanBoundsClaim → ℚ → List Check
+all_checks x spread = mean_bounds_checks x.dir x.model.now x.name x.lower.values.now x.upper.values.now x.bound.now x.bias.now spread x.choices.now

@@ -198,7 +198,7 @@ impl MeanHalf<'_> {
     }
 }
 
-/// Lower and upper gains, a bound and a bias that are held against a model.
+/// Lower and upper gains, a bound, a bias and a policy that are held against a model.
 #[derive(Clone, Copy)]
 struct MeanBoundsClaim<'a> {
     dir: Dir,
@@ -208,31 +208,25 @@ struct MeanBoundsClaim<'a> {
     upper: Gains<'a>,
     bound: &'a [Frac],
     bias: &'a [Frac],
+    choices: &'a [u32],
     ghost named: { name < length model.now.names },
     ghost lower_each: { length lower.values.now ≡ states_of model.now },
     ghost upper_each: { length upper.values.now ≡ states_of model.now },
     ghost bound_each: { length bound.now ≡ states_of model.now },
     ghost bias_each: { length bias.now ≡ states_of model.now },
+    ghost choices_each: { length choices.now ≡ states_of model.now },
 }
 
-/// The same with a policy.
-#[derive(Clone, Copy)]
-struct MeanBoundsWithPolicy<'a> {
-    claim: MeanBoundsClaim<'a>,
-    choices: &'a [u32],
-    ghost choices_each: { length choices.now ≡ states_of claim.model.now },
-}
-
-impl Checks for MeanBoundsWithPolicy<'_> {
+impl Checks for MeanBoundsClaim<'_> {
     ghost use Rattle.mdp_bounds.specs.MeanClaim.{rules_at};
 
-    ghost count = { λ x. states_of x.claim.model.now };
+    ghost count = { λ x. states_of x.model.now };
 
-    ghost checks = { λ x s. rules_at x.claim s (slice_index x.choices.now s) };
+    ghost checks = { λ x s. rules_at x s (slice_index x.choices.now s) };
 
     /// The rules at state `s`.
     fn check(self, s: u32) -> Result<(), Objection> {
-        self.claim.state_at(s, self.choices[s as usize])
+        self.state_at(s, self.choices[s as usize])
     }
 }
 
@@ -294,51 +288,45 @@ impl<'a> MeanBoundsClaim<'a> {
     }
 
     /// All rules: those at each state, and that of the spread.
-    fn walk(self, choices: &[u32], spread: &Frac) -> Result<(), Objection>
-        requires { length choices.now ≡ states_of self.model.now }
-        ensures { result ≡ objection_to (all_checks self.entry spread.now choices.now) }
+    fn walk(self, spread: &Frac) -> Result<(), Objection>
+        ensures { result ≡ objection_to (all_checks self.entry spread.now) }
     {
-        let with_policy = MeanBoundsWithPolicy {
-            claim: self,
-            choices,
-        };
-        each_below(self.model.states(), with_policy)?;
+        each_below(self.model.states(), self)?;
         let holds = spread_holds(self.bound, self.bias, spread);
         judged_at(holds, Rule::SpreadIsGreatest, None, None)
     }
 }
 
-/// The rules at state `s`, where the policy takes this choice: the first that fails, or the first sum past width. Gains and relative values are one
-/// per state.
+/// The rules at state `s` for this certificate: the first that fails, or the first sum past width.
 pub fn mean_bounds_at_state(
     model: &Model,
     m: u32,
     dir: Dir,
-    lower: &[Frac],
-    upper: &[Frac],
-    bound: &[Frac],
-    bias: &[Frac],
+    cert: &MeanBoundsCert,
     s: u32,
-    choice: u32,
 ) -> Result<(), Objection>
     requires name { m < length model.now.names }
-    requires lower { length lower.now ≡ states_of model.now }
-    requires upper { length upper.now ≡ states_of model.now }
-    requires bound { length bound.now ≡ states_of model.now }
-    requires bias { length bias.now ≡ states_of model.now }
+    requires lower { length cert.now.lower.items ≡ states_of model.now }
+    requires upper { length cert.now.upper.items ≡ states_of model.now }
+    requires bound { length cert.now.bound.items ≡ states_of model.now }
+    requires bias { length cert.now.bias.items ≡ states_of model.now }
+    requires choices { length cert.now.choices.items ≡ states_of model.now }
     requires state { s < states_of model.now }
-    ensures { result ≡ objection_to (mean_bounds_at dir model.now m lower.now upper.now bound.now bias.now s choice) }
+    ensures { result
+        ≡ objection_to (mean_bounds_at dir model.now m cert.now.lower.items cert.now.upper.items cert.now.bound.items cert.now.bias.items
+        s (slice_index cert.now.choices.items s)) }
 {
     let claim = MeanBoundsClaim {
         dir,
         model,
         name: m,
-        lower: Gains::any(lower),
-        upper: Gains::any(upper),
-        bound,
-        bias,
+        lower: Gains::any(&cert.lower),
+        upper: Gains::any(&cert.upper),
+        bound: &cert.bound,
+        bias: &cert.bias,
+        choices: &cert.choices,
     };
-    claim.state_at(s, choice)
+    claim.check(s)
 }
 
 /// Whether the greatest, or the least, mean payoffs of the reward name of place `m` lie between the gains, and those of the policy too: what
@@ -377,6 +365,7 @@ pub fn holds_bounds_mean(model: &Model, m: u32, dir: Dir, cert: &MeanBoundsCert)
         upper: Gains::new(cert.upper.as_slice()),
         bound: cert.bound.as_slice(),
         bias: cert.bias.as_slice(),
+        choices: cert.choices.as_slice(),
     };
-    verdict_after(claim.walk(cert.choices.as_slice(), &cert.spread))
+    verdict_after(claim.walk(&cert.spread))
 }

@@ -15,7 +15,7 @@ use mdp_farkas::{
 use mdp_num::Frac;
 use mdp_rows::{Dir, Marks, Model};
 
-/// Lower and upper values and ranks that are held against a model.
+/// Lower and upper values, a policy and ranks that are held against a model.
 #[derive(Clone, Copy)]
 struct RewardBoundsClaim<'a> {
     dir: Dir,
@@ -24,32 +24,26 @@ struct RewardBoundsClaim<'a> {
     goals: &'a Marks,
     lower: &'a [Option<Frac>],
     upper: &'a [Option<Frac>],
+    choices: &'a [u32],
     ranks: &'a [u32],
     ghost named: { name < length model.now.names },
     ghost goals_each: { length goals.now ≡ states_of model.now },
     ghost lower_each: { length lower.now ≡ states_of model.now },
     ghost upper_each: { length upper.now ≡ states_of model.now },
+    ghost choices_each: { length choices.now ≡ states_of model.now },
     ghost ranks_each: { length ranks.now ≡ states_of model.now },
 }
 
-/// The same with a policy.
-#[derive(Clone, Copy)]
-struct RewardBoundsWithPolicy<'a> {
-    claim: RewardBoundsClaim<'a>,
-    choices: &'a [u32],
-    ghost choices_each: { length choices.now ≡ states_of claim.model.now },
-}
-
-impl Checks for RewardBoundsWithPolicy<'_> {
+impl Checks for RewardBoundsClaim<'_> {
     ghost use Rattle.mdp_bounds.specs.RewardClaim.{rules_at};
 
-    ghost count = { λ x. states_of x.claim.model.now };
+    ghost count = { λ x. states_of x.model.now };
 
-    ghost checks = { λ x s. rules_at x.claim s (slice_index x.choices.now s) };
+    ghost checks = { λ x s. rules_at x s (slice_index x.choices.now s) };
 
     /// The rules at state `s`.
     fn check(self, s: u32) -> Result<(), Objection> {
-        self.claim.state_at(s, self.choices[s as usize])
+        self.state_at(s, self.choices[s as usize])
     }
 }
 
@@ -130,37 +124,37 @@ impl RewardBoundsClaim<'_> {
     }
 }
 
-/// The rules at state `s`, where the policy takes this choice: the first that fails, or the first sum past width. One value and one rank per
-/// state, none for an infinite value.
+/// The rules at state `s` for this certificate: the first that fails, or the first sum past width.
 pub fn reward_bounds_at_state(
     model: &Model,
     m: u32,
     goals: &Marks,
     dir: Dir,
-    lower: &[Option<Frac>],
-    upper: &[Option<Frac>],
-    ranks: &[u32],
+    cert: &RewardBoundsCert,
     s: u32,
-    choice: u32,
 ) -> Result<(), Objection>
     requires name { m < length model.now.names }
     requires goals { length goals.now ≡ states_of model.now }
-    requires lower { length lower.now ≡ states_of model.now }
-    requires upper { length upper.now ≡ states_of model.now }
-    requires ranks { length ranks.now ≡ states_of model.now }
+    requires lower { length cert.now.lower.items ≡ states_of model.now }
+    requires upper { length cert.now.upper.items ≡ states_of model.now }
+    requires choices { length cert.now.choices.items ≡ states_of model.now }
+    requires ranks { length cert.now.ranks.items ≡ states_of model.now }
     requires state { s < states_of model.now }
-    ensures { result ≡ objection_to (reward_bounds_at dir model.now m goals.now lower.now upper.now ranks.now s choice) }
+    ensures { result
+        ≡ objection_to (reward_bounds_at dir model.now m goals.now cert.now.lower.items cert.now.upper.items cert.now.ranks.items
+        s (slice_index cert.now.choices.items s)) }
 {
     let claim = RewardBoundsClaim {
         dir,
         model,
         name: m,
         goals,
-        lower,
-        upper,
-        ranks,
+        lower: &cert.lower,
+        upper: &cert.upper,
+        choices: &cert.choices,
+        ranks: &cert.ranks,
     };
-    claim.state_at(s, choice)
+    claim.check(s)
 }
 
 /// Whether the greatest, or the least, rewards of the name of place `m` until a goal lie between the values, and those of the policy too: what
@@ -200,11 +194,8 @@ pub fn holds_bounds_reward(
         goals,
         lower: cert.lower.as_slice(),
         upper: cert.upper.as_slice(),
+        choices: cert.choices.as_slice(),
         ranks: cert.ranks.as_slice(),
     };
-    let with_policy = RewardBoundsWithPolicy {
-        claim,
-        choices: cert.choices.as_slice(),
-    };
-    verdict_after(each_below(model.states(), with_policy))
+    verdict_after(each_below(model.states(), claim))
 }

@@ -24,6 +24,6 @@ follows_at x s choice = policy_check (other x.dir) x.model.now x.name x.factor.n
 abbrev pub rules_at : DiscountBoundsClaim → ℕ → ℕ → List Check
 rules_at x s choice = bounds_at x.dir x.model.now x.name x.factor.now x.lower.now x.upper.now s choice
 
--- all rules, with this remainder and policy
-abbrev pub all_checks : DiscountBoundsClaim → ℚ → List ℕ → List Check
-all_checks x remainder policy = discount_bounds_checks x.dir x.model.now x.name x.factor.now x.lower.now x.upper.now remainder policy
+-- all rules, with this remainder
+abbrev pub all_checks : DiscountBoundsClaim → ℚ → List Check
+all_checks x remainder = discount_bounds_checks x.dir x.model.now x.name x.factor.now x.lower.now x.upper.now remainder x.choices.now

@@ -17,7 +17,7 @@ use mdp_farkas::{
 use mdp_num::Frac;
 use mdp_rows::{Dir, Model};
 
-/// Lower and upper values that are held against a model.
+/// Lower and upper values and a policy that are held against a model.
 #[derive(Clone, Copy)]
 struct DiscountBoundsClaim<'a> {
     dir: Dir,
@@ -26,29 +26,23 @@ struct DiscountBoundsClaim<'a> {
     factor: &'a Frac,
     lower: &'a [Option<Frac>],
     upper: &'a [Option<Frac>],
+    choices: &'a [u32],
     ghost named: { name < length model.now.names },
     ghost lower_each: { length lower.now ≡ states_of model.now },
     ghost upper_each: { length upper.now ≡ states_of model.now },
+    ghost choices_each: { length choices.now ≡ states_of model.now },
 }
 
-/// The same with a policy.
-#[derive(Clone, Copy)]
-struct DiscountBoundsWithPolicy<'a> {
-    claim: DiscountBoundsClaim<'a>,
-    choices: &'a [u32],
-    ghost choices_each: { length choices.now ≡ states_of claim.model.now },
-}
-
-impl Checks for DiscountBoundsWithPolicy<'_> {
+impl Checks for DiscountBoundsClaim<'_> {
     ghost use Rattle.mdp_discount_rules.specs.BoundsClaim.{rules_at};
 
-    ghost count = { λ x. states_of x.claim.model.now };
+    ghost count = { λ x. states_of x.model.now };
 
-    ghost checks = { λ x s. rules_at x.claim s (slice_index x.choices.now s) };
+    ghost checks = { λ x s. rules_at x s (slice_index x.choices.now s) };
 
     /// The rules at state `s`.
     fn check(self, s: u32) -> Result<(), Objection> {
-        self.claim.state_at(s, self.choices[s as usize])
+        self.state_at(s, self.choices[s as usize])
     }
 }
 
@@ -124,46 +118,42 @@ impl<'a> DiscountBoundsClaim<'a> {
     }
 
     /// All rules: those at each state, from 0 on, and that of the remainder.
-    fn walk(self, choices: &[u32], remainder: &Frac) -> Result<(), Objection>
-        requires { length choices.now ≡ states_of self.model.now }
-        ensures { result ≡ objection_to (all_checks self.entry remainder.now choices.now) }
+    fn walk(self, remainder: &Frac) -> Result<(), Objection>
+        ensures { result ≡ objection_to (all_checks self.entry remainder.now) }
     {
-        let with_policy = DiscountBoundsWithPolicy {
-            claim: self,
-            choices,
-        };
-        each_below(self.model.states(), with_policy)?;
+        each_below(self.model.states(), self)?;
         self.remainder(remainder)
     }
 }
 
-/// The rules at state `s`, where the policy takes this choice: the first that fails, or the first written term past width. One value per
-/// state, none where nothing is claimed.
+/// The rules at state `s` for these bounds: the first that fails, or the first written term past width.
 pub fn discount_bounds_at_state(
     model: &Model,
     m: u32,
     dir: Dir,
     factor: &Frac,
-    lower: &[Option<Frac>],
-    upper: &[Option<Frac>],
+    bounds: &DiscountBounds,
     s: u32,
-    choice: u32,
 ) -> Result<(), Objection>
     requires name { m < length model.now.names }
-    requires lower { length lower.now ≡ states_of model.now }
-    requires upper { length upper.now ≡ states_of model.now }
+    requires lower { length bounds.now.lower.items ≡ states_of model.now }
+    requires upper { length bounds.now.upper.items ≡ states_of model.now }
+    requires choices { length bounds.now.choices.items ≡ states_of model.now }
     requires state { s < states_of model.now }
-    ensures { result ≡ objection_to (bounds_at dir model.now m factor.now lower.now upper.now s choice) }
+    ensures { result
+        ≡ objection_to (bounds_at dir model.now m factor.now bounds.now.lower.items bounds.now.upper.items
+        s (slice_index bounds.now.choices.items s)) }
 {
     let claim = DiscountBoundsClaim {
         dir,
         model,
         name: m,
         factor,
-        lower,
-        upper,
+        lower: &bounds.lower,
+        upper: &bounds.upper,
+        choices: &bounds.choices,
     };
-    claim.state_at(s, choice)
+    claim.check(s)
 }
 
 /// Whether the greatest, or the least, discounted rewards of the reward name of place `m` lie between the values, and those of the policy too: what
@@ -203,6 +193,7 @@ pub fn holds_bounds_discount(
         factor,
         lower: bounds.lower.as_slice(),
         upper: bounds.upper.as_slice(),
+        choices: bounds.choices.as_slice(),
     };
-    verdict_after(claim.walk(bounds.choices.as_slice(), &bounds.remainder))
+    verdict_after(claim.walk(&bounds.remainder))
 }
