@@ -13,7 +13,7 @@ use Rattle.mdp_claims.specs.{declared.verdict.Fault.{Fault}, declared.verdict.Ve
 use Rattle.mdp_farkas.proofs.{Holds.{Each, Holds}, Inequalities.{Stands}, ReachRules.{falls_max, falls_min}, Tests.{or-parts}}
 use Rattle.mdp_farkas.proofs.Telling.{refuted, Tells, tells_first, tells_one, tells_append, tells_if, tells_flat, tells_map}
 use Rattle.mdp_bounds.specs.Reach.{covering, followed, goal_check, values_at, bound_check, policy_check, cover_at, follow_at, bounds_at, bounds_checks}
-use Rattle.mdp_bounds.specs.Says.{Column, column, lower_column, upper_column, IsFalseOfOne, IsBound, IsChoice, LeadsOn, IsProbability, IsRowBound, ReachSays}
+use Rattle.mdp_bounds.specs.Says.{Column, column, lower_column, upper_column, IsFalseOfOne, IsBound, IsChoice, LeadsOn, IsRowBound, ReachSays}
 use Rattle.mdp_bounds.proofs.Values.{of_stands_at}
 
 pub stands_of_bound : (dir : Dir) (x y : ℚ) → IsBound dir x y → Stands dir x y

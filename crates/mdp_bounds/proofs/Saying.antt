@@ -8,7 +8,7 @@ use Rattle.mdp_claims.specs.declared.rule.Rule.TheVariants.{ChoiceExists, Probab
 use Rattle.mdp_claims.specs.declared.rule.Rule.TheVariants.{RewardValue, FiniteTargets, RewardOnEachChoice, RewardOnPolicy, FiniteRankFalls, PolicyMisses, EachChoiceMisses}
 use Rattle.mdp_claims.specs.declared.rule.Rule.TheVariants.{RewardNotNegative, GainOnEachChoice, BoundOnEachChoice, GainOnPolicy, BiasOnPolicy, SpreadIsGreatest}
 use Rattle.mdp_bounds.specs.{Reach.{MeetsReachBetween}, Reward.{NoneNegative, MeetsRewardBetween}, Mean.{MeetsMeanBetween}}
-use Rattle.mdp_bounds.specs.Says.{Column, column, lower_column, upper_column, IsRowBound, LeadsOn, IsRewardValue, IsEarningBound, IsStepBound, ReachSays, RewardSays, MeanSays}
+use Rattle.mdp_bounds.specs.Says.{Column, lower_column, upper_column, IsRowBound, LeadsOn, IsRewardValue, IsEarningBound, IsStepBound, ReachSays, RewardSays, MeanSays}
 
 -- what holds of the policy's choice holds of c, where the policy takes c
 taken : (P : ℕ → Type 0) (policy : List ℕ) (s c : ℕ) → c ≡ slice_index policy s → P (slice_index policy s) → P c

@@ -1,7 +1,10 @@
 pub mod Sum
 pub mod Reach
+pub mod ReachClaim
 pub mod Reward
+pub mod RewardClaim
 pub mod Mean
+pub mod MeanClaim
 pub mod Says
 pub mod Laws
 pub mod Order

@@ -1,6 +1,6 @@
 -- What a lower and an upper value for each state say of each other and of exact values, by their meaning alone: the lower one is at most the
 -- upper one, the exact value lies between the two, and where both lists are the same, they are exact.
-use Rattle.std.specs.Prelude.{◌≡◌, ℕ, ◌<◌, ◌⊎◌, Bool, List, Option}
+use Rattle.std.specs.Prelude.{ℕ, ◌<◌, ◌⊎◌, Bool, List, Option}
 use Rattle.mdp_math.specs.Rational.{ℚ, ◌≤ℚ◌}
 use Rattle.mdp_spec.specs.{Mdp.{Mdp, states_of, value_at}, Row.{IsMdp}, Bounds.{reward_at, ReachMax, ReachMin, RewardMax, RewardMin, MeanMax, MeanMin}}
 use Rattle.mdp_spec.specs.Between.{AtMost, ReachMaxBetween, ReachMinBetween, RewardMaxBetween, RewardMinBetween, MeanMaxBetween, MeanMinBetween}

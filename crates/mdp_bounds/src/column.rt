@@ -1,8 +1,9 @@
-ghost use Rattle.std.specs.{Prelude.{◌≡◌, ◌<◌, ◌++◌, length, [], ◌∷◌, if◌then◌else◌}, Result.{result_ok}};
+ghost use Rattle.std.specs.{Prelude.{◌≡◌, ◌<◌, length, [], ◌∷◌, if◌then◌else◌}, Result.{result_ok}};
 ghost use Rattle.mdp_spec.specs.Mdp.{states_of, choices_at};
-ghost use Rattle.mdp_farkas.specs.{Reward.{is_looked_at, rank_fall_checks}, Verdict.{objection_to}};
-ghost use Rattle.mdp_bounds.specs.Reward.{is_nonneg, is_zero, nonneg_check, goal_checks, is_least, earning_stands, earning_check, earning_checks, policy_earning_check};
-ghost use Rattle.mdp_bounds.specs.Reward.{lower_on_each, half_checks, finite_checks, lower_place_checks, lower_checks, upper_place_checks, upper_value_checks};
+ghost use Rattle.mdp_farkas.specs.{Reward.{is_looked_at}, Verdict.{objection_to}};
+ghost use Rattle.mdp_bounds.specs.Reward.{is_nonneg, is_zero, nonneg_check, goal_checks, is_least, earning_stands, earning_check, earning_checks};
+ghost use Rattle.mdp_bounds.specs.Reward.{policy_earning_check, lower_on_each, half_checks, finite_checks};
+ghost use Rattle.mdp_bounds.specs.Reward.{lower_place_checks, lower_checks, upper_place_checks, upper_value_checks};
 
 use crate::compare::{at_most, value_stands};
 use crate::finite::finite_row_sum;
@@ -55,7 +56,7 @@ fn lower_on_each(dir: Dir) -> bool
 
 /// The values of one column, which are held against a model with the ranks of the lower ones.
 #[derive(Clone, Copy)]
-pub(crate) struct Column<'a> {
+pub(crate) struct RewardColumn<'a> {
     pub dir: Dir,
     pub model: &'a Model,
     pub name: u32,
@@ -70,17 +71,19 @@ pub(crate) struct Column<'a> {
 
 /// A column at one state.
 #[derive(Clone, Copy)]
-struct AtState<'a> {
-    column: Column<'a>,
+struct RewardColumnAtState<'a> {
+    column: RewardColumn<'a>,
     state: u32,
     ghost in_model: { state < states_of column.model.now },
 }
 
-impl Checks for AtState<'_> {
+impl Checks for RewardColumnAtState<'_> {
+    ghost use Rattle.mdp_bounds.specs.RewardClaim.{asked_of};
+
     ghost count = { λ x. length (choices_at x.column.model.now x.state) };
 
     ghost checks = { λ x c. if is_looked_at x.column.dir x.column.model.now x.column.values.now x.state c
-        then earning_check x.column.dir x.column.model.now x.column.name x.column.values.now x.state c ∷ [] else [] };
+        then asked_of x.column earning_check x.state c ∷ [] else [] };
 
     /// What choice `c` earns stands to the value, where that counts.
     fn check(self, c: u32) -> Result<(), Objection> {
@@ -93,7 +96,9 @@ impl Checks for AtState<'_> {
     }
 }
 
-impl Column<'_> {
+impl RewardColumn<'_> {
+    ghost use Rattle.mdp_bounds.specs.RewardClaim.{asked_of, asked_of_all, finite_lower_checks};
+
     /// The value of state `s` is at least 0.
     fn nonneg(self, s: u32) -> Result<(), Objection>
         requires { s < states_of self.model.now }
@@ -132,9 +137,9 @@ impl Column<'_> {
     /// The inequality at each choice of state `s` that counts.
     fn on_each(self, s: u32) -> Result<(), Objection>
         requires { s < states_of self.model.now }
-        ensures { result ≡ objection_to (earning_checks self.entry.dir self.entry.model.now self.entry.name self.entry.values.now s) }
+        ensures { result ≡ objection_to (asked_of self.entry earning_checks s) }
     {
-        let at = AtState {
+        let at = RewardColumnAtState {
             column: self,
             state: s,
         };
@@ -145,7 +150,7 @@ impl Column<'_> {
     fn on_policy(self, s: u32, c: u32) -> Result<(), Objection>
         requires state { s < states_of self.model.now }
         requires choice { c < length (choices_at self.model.now s) }
-        ensures { result ≡ objection_to (policy_earning_check self.entry.dir self.entry.model.now self.entry.name self.entry.values.now s c ∷ []) }
+        ensures { result ≡ objection_to (asked_of self.entry policy_earning_check s c ∷ []) }
     {
         let stands = self.stands(reversed(self.dir), s, c);
         judged(stands, Rule::RewardOnPolicy, s, Some(c))
@@ -155,7 +160,7 @@ impl Column<'_> {
     fn half(self, each: bool, s: u32, c: u32) -> Result<(), Objection>
         requires state { s < states_of self.model.now }
         requires choice { c < length (choices_at self.model.now s) }
-        ensures { result ≡ objection_to (half_checks each self.entry.dir self.entry.model.now self.entry.name self.entry.values.now s c) }
+        ensures { result ≡ objection_to (asked_of self.entry (half_checks each) s c) }
     {
         if each {
             self.on_each(s)
@@ -168,7 +173,7 @@ impl Column<'_> {
     fn finite(self, each: bool, s: u32, c: u32) -> Result<(), Objection>
         requires state { s < states_of self.model.now }
         requires choice { c < length (choices_at self.model.now s) }
-        ensures { result ≡ objection_to (finite_checks each self.entry.dir self.entry.model.now self.entry.name self.entry.values.now s c) }
+        ensures { result ≡ objection_to (asked_of self.entry (finite_checks each) s c) }
     {
         stays_at_state(self.model, self.dir, self.values, s, c)?;
         self.half(each, s, c)
@@ -178,8 +183,7 @@ impl Column<'_> {
     fn finite_lower(self, s: u32, c: u32) -> Result<(), Objection>
         requires state { s < states_of self.model.now }
         requires choice { c < length (choices_at self.model.now s) }
-        ensures { result ≡ objection_to (finite_checks (lower_on_each self.entry.dir) self.entry.dir self.entry.model.now self.entry.name self.entry.values.now s c
-            ++ rank_fall_checks self.entry.dir self.entry.model.now self.entry.ranks.now s c) }
+        ensures { result ≡ objection_to (finite_lower_checks self.entry s c) }
     {
         self.finite(lower_on_each(self.dir), s, c)?;
         rank_falls_at_state(self.model, self.dir, self.ranks, s, c)
@@ -189,7 +193,7 @@ impl Column<'_> {
     fn lower_kind(self, s: u32, c: u32) -> Result<(), Objection>
         requires state { s < states_of self.model.now }
         requires choice { c < length (choices_at self.model.now s) }
-        ensures { result ≡ objection_to (lower_place_checks self.entry.dir self.entry.model.now self.entry.name self.entry.goals.now self.entry.values.now self.entry.ranks.now s c) }
+        ensures { result ≡ objection_to (asked_of_all self.entry lower_place_checks s c) }
     {
         if self.goals.at(s) {
             self.goal(s)
@@ -204,7 +208,7 @@ impl Column<'_> {
     pub(crate) fn lower(self, s: u32, c: u32) -> Result<(), Objection>
         requires state { s < states_of self.model.now }
         requires choice { c < length (choices_at self.model.now s) }
-        ensures { result ≡ objection_to (lower_checks self.entry.dir self.entry.model.now self.entry.name self.entry.goals.now self.entry.values.now self.entry.ranks.now s c) }
+        ensures { result ≡ objection_to (asked_of_all self.entry lower_checks s c) }
     {
         self.nonneg(s)?;
         self.lower_kind(s, c)
@@ -214,7 +218,7 @@ impl Column<'_> {
     fn upper_kind(self, s: u32, c: u32) -> Result<(), Objection>
         requires state { s < states_of self.model.now }
         requires choice { c < length (choices_at self.model.now s) }
-        ensures { result ≡ objection_to (upper_place_checks self.entry.dir self.entry.model.now self.entry.name self.entry.goals.now self.entry.values.now self.entry.ranks.now s c) }
+        ensures { result ≡ objection_to (asked_of_all self.entry upper_place_checks s c) }
     {
         if self.goals.at(s) {
             self.goal(s)
@@ -229,7 +233,7 @@ impl Column<'_> {
     pub(crate) fn upper(self, s: u32, c: u32) -> Result<(), Objection>
         requires state { s < states_of self.model.now }
         requires choice { c < length (choices_at self.model.now s) }
-        ensures { result ≡ objection_to (upper_value_checks self.entry.dir self.entry.model.now self.entry.name self.entry.goals.now self.entry.values.now self.entry.ranks.now s c) }
+        ensures { result ≡ objection_to (asked_of_all self.entry upper_value_checks s c) }
     {
         self.nonneg(s)?;
         self.upper_kind(s, c)

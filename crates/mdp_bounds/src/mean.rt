@@ -1,7 +1,6 @@
 ghost use Rattle.std.specs.{Prelude.{◌≡◌, ◌<◌, ◌↔◌, IsTrue, length, slice_index}, List.{list_all}, Result.{result_ok}};
 ghost use Rattle.mdp_spec.specs.{Mdp.{states_of, choices_at}, Between.{MeanMaxBetween, MeanMinBetween}};
-ghost use Rattle.mdp_bounds.specs.Reach.{covering, followed};
-ghost use Rattle.mdp_bounds.specs.Mean.{AreOne, gain_stands, gain_check, told_step, bound_stands, relative_check, spread_check, gains_cover, gains_follow};
+ghost use Rattle.mdp_bounds.specs.{Reach.{covering}, Mean.{AreOne, gain_check, told_step, relative_check, gains_cover, gains_follow, spread_check}};
 ghost use Rattle.mdp_bounds.specs.Mean.{mean_bounds_at, mean_bounds_checks, IsMeanBounds, IsTrivialMean};
 ghost use Rattle.mdp_num.specs.Equal.{eq_ℚ};
 ghost use Rattle.mdp_farkas.specs.{Mean.{IsMean}, Verdict.{objection_to, verdict_of, IsYes, IfYes}};
@@ -89,7 +88,7 @@ fn spread_holds(bound: &[Frac], bias: &[Frac], spread: &Frac) -> Result<bool, Wi
 
 /// The gains of one column with a bound or a bias, which are held against a model at one state.
 #[derive(Clone, Copy)]
-struct Half<'a> {
+struct MeanHalf<'a> {
     dir: Dir,
     model: &'a Model,
     name: u32,
@@ -105,7 +104,7 @@ struct Half<'a> {
 /// The gains of a half.
 #[derive(Clone, Copy)]
 struct GainHalf<'a> {
-    half: Half<'a>,
+    half: MeanHalf<'a>,
 }
 
 impl OneCheck for GainHalf<'_> {
@@ -123,13 +122,15 @@ impl OneCheck for GainHalf<'_> {
 /// The relative values of a half.
 #[derive(Clone, Copy)]
 struct BoundHalf<'a> {
-    half: Half<'a>,
+    half: MeanHalf<'a>,
 }
 
 impl OneCheck for BoundHalf<'_> {
+    ghost use Rattle.mdp_bounds.specs.MeanClaim.{asked_of};
+
     ghost count = { λ x. length (choices_at x.half.model.now x.half.state) };
 
-    ghost check = { λ x. relative_check x.half.dir x.half.model.now x.half.name x.half.gains.values.now x.half.relative.now x.half.state };
+    ghost check = { λ x. asked_of x.half relative_check };
 
     /// The bound at choice `c`.
     fn check_at(self, c: u32) -> Result<(), Objection> {
@@ -138,11 +139,13 @@ impl OneCheck for BoundHalf<'_> {
     }
 }
 
-impl Half<'_> {
+impl MeanHalf<'_> {
+    ghost use Rattle.mdp_bounds.specs.MeanClaim.{sum_stands, step_stands, asked_of};
+
     /// Whether the upper gain is at least, or the lower one at most, the sum of the gains over the row of choice `c`.
     fn sum_stands(self, dir: Dir, c: u32) -> Result<bool, Wide>
         requires { c < length (choices_at self.model.now self.state) }
-        ensures { result_ok result ≡ gain_stands dir self.entry.model.now self.entry.gains.values.now self.entry.state c }
+        ensures { result_ok result ≡ sum_stands dir self.entry c }
     {
         let gains = self.gains.values;
         let row = self.model.row(self.state, c);
@@ -153,7 +156,7 @@ impl Half<'_> {
     /// The same, without a sum where all gains are one number.
     fn gain_stands(self, dir: Dir, c: u32) -> Result<bool, Wide>
         requires { c < length (choices_at self.model.now self.state) }
-        ensures { result_ok result ≡ gain_stands dir self.entry.model.now self.entry.gains.values.now self.entry.state c }
+        ensures { result_ok result ≡ sum_stands dir self.entry c }
     {
         let gains = self.gains;
         if gains.are_one {
@@ -167,7 +170,7 @@ impl Half<'_> {
     /// reward and the sum over its row.
     fn bound_stands(self, dir: Dir, c: u32) -> Result<bool, Wide>
         requires { c < length (choices_at self.model.now self.state) }
-        ensures { result_ok result ≡ bound_stands dir self.entry.model.now self.entry.name self.entry.gains.values.now self.entry.relative.now self.entry.state c }
+        ensures { result_ok result ≡ step_stands dir self.entry c }
     {
         let step = step_at(self.gains, self.relative, self.state)?;
         let reward = self.model.reward(self.name, self.state, c);
@@ -177,7 +180,7 @@ impl Half<'_> {
 
     /// The rules of each choice.
     fn on_each(self) -> Result<(), Objection>
-        ensures { result ≡ objection_to (gains_cover self.entry.dir self.entry.model.now self.entry.name self.entry.gains.values.now self.entry.relative.now self.entry.state) }
+        ensures { result ≡ objection_to (asked_of self.entry gains_cover) }
     {
         each_choice(self.model, self.state, GainHalf { half: self })?;
         each_choice(self.model, self.state, BoundHalf { half: self })
@@ -186,7 +189,7 @@ impl Half<'_> {
     /// The rules of the policy's choice `c`.
     fn on_policy(self, c: u32) -> Result<(), Objection>
         requires { c < length (choices_at self.model.now self.state) }
-        ensures { result ≡ objection_to (gains_follow self.entry.dir self.entry.model.now self.entry.name self.entry.gains.values.now self.entry.relative.now self.entry.state c) }
+        ensures { result ≡ objection_to (asked_of self.entry gains_follow c) }
     {
         let keeps = self.gain_stands(reversed(self.dir), c);
         judged(keeps, Rule::GainOnPolicy, self.state, Some(c))?;
@@ -195,9 +198,9 @@ impl Half<'_> {
     }
 }
 
-/// Lower and upper gains, a bound and a bias that are held against a model.
+/// Lower and upper gains, a bound, a bias and a policy that are held against a model.
 #[derive(Clone, Copy)]
-struct Claimed<'a> {
+struct MeanBoundsClaim<'a> {
     dir: Dir,
     model: &'a Model,
     name: u32,
@@ -205,34 +208,31 @@ struct Claimed<'a> {
     upper: Gains<'a>,
     bound: &'a [Frac],
     bias: &'a [Frac],
+    choices: &'a [u32],
     ghost named: { name < length model.now.names },
     ghost lower_each: { length lower.values.now ≡ states_of model.now },
     ghost upper_each: { length upper.values.now ≡ states_of model.now },
     ghost bound_each: { length bound.now ≡ states_of model.now },
     ghost bias_each: { length bias.now ≡ states_of model.now },
+    ghost choices_each: { length choices.now ≡ states_of model.now },
 }
 
-/// The same with a policy.
-#[derive(Clone, Copy)]
-struct States<'a> {
-    claimed: Claimed<'a>,
-    choices: &'a [u32],
-    ghost choices_each: { length choices.now ≡ states_of claimed.model.now },
-}
+impl Checks for MeanBoundsClaim<'_> {
+    ghost use Rattle.mdp_bounds.specs.MeanClaim.{rules_at};
 
-impl Checks for States<'_> {
-    ghost count = { λ x. states_of x.claimed.model.now };
+    ghost count = { λ x. states_of x.model.now };
 
-    ghost checks = { λ x s. mean_bounds_at x.claimed.dir x.claimed.model.now x.claimed.name x.claimed.lower.values.now x.claimed.upper.values.now
-        x.claimed.bound.now x.claimed.bias.now s (slice_index x.choices.now s) };
+    ghost checks = { λ x s. rules_at x s (slice_index x.choices.now s) };
 
     /// The rules at state `s`.
     fn check(self, s: u32) -> Result<(), Objection> {
-        self.claimed.state_at(s, self.choices[s as usize])
+        self.state_at(s, self.choices[s as usize])
     }
 }
 
-impl<'a> Claimed<'a> {
+impl<'a> MeanBoundsClaim<'a> {
+    ghost use Rattle.mdp_bounds.specs.MeanClaim.{covers_at, follows_at, rules_at, all_checks};
+
     /// The gains that the half on each choice is asked of in this direction.
     fn covering(self, dir: Dir) -> Gains<'a>
         ensures values { result.values.now ≡ covering dir self.entry.lower.values.now self.entry.upper.values.now }
@@ -247,10 +247,9 @@ impl<'a> Claimed<'a> {
     /// The half on each choice, at state `s`.
     fn covers(self, s: u32) -> Result<(), Objection>
         requires { s < states_of self.model.now }
-        ensures { result ≡ objection_to (gains_cover self.entry.dir self.entry.model.now self.entry.name
-            (covering self.entry.dir self.entry.lower.values.now self.entry.upper.values.now) self.entry.bound.now s) }
+        ensures { result ≡ objection_to (covers_at self.entry s) }
     {
-        let half = Half {
+        let half = MeanHalf {
             dir: self.dir,
             model: self.model,
             name: self.name,
@@ -265,10 +264,9 @@ impl<'a> Claimed<'a> {
     fn follows(self, s: u32, choice: u32) -> Result<(), Objection>
         requires state { s < states_of self.model.now }
         requires choice { choice < length (choices_at self.model.now s) }
-        ensures { result ≡ objection_to (gains_follow self.entry.dir self.entry.model.now self.entry.name
-            (followed self.entry.dir self.entry.lower.values.now self.entry.upper.values.now) self.entry.bias.now s choice) }
+        ensures { result ≡ objection_to (follows_at self.entry s choice) }
     {
-        let half = Half {
+        let half = MeanHalf {
             dir: self.dir,
             model: self.model,
             name: self.name,
@@ -282,8 +280,7 @@ impl<'a> Claimed<'a> {
     /// The rules at state `s`, where the policy takes this choice.
     fn state_at(self, s: u32, choice: u32) -> Result<(), Objection>
         requires { s < states_of self.model.now }
-        ensures { result ≡ objection_to (mean_bounds_at self.entry.dir self.entry.model.now self.entry.name
-            self.entry.lower.values.now self.entry.upper.values.now self.entry.bound.now self.entry.bias.now s choice) }
+        ensures { result ≡ objection_to (rules_at self.entry s choice) }
     {
         choice_at(self.model, s, choice)?;
         self.covers(s)?;
@@ -291,52 +288,45 @@ impl<'a> Claimed<'a> {
     }
 
     /// All rules: those at each state, and that of the spread.
-    fn walk(self, choices: &[u32], spread: &Frac) -> Result<(), Objection>
-        requires { length choices.now ≡ states_of self.model.now }
-        ensures { result ≡ objection_to (mean_bounds_checks self.entry.dir self.entry.model.now self.entry.name
-            self.entry.lower.values.now self.entry.upper.values.now self.entry.bound.now self.entry.bias.now spread.now choices.now) }
+    fn walk(self, spread: &Frac) -> Result<(), Objection>
+        ensures { result ≡ objection_to (all_checks self.entry spread.now) }
     {
-        let states = States {
-            claimed: self,
-            choices,
-        };
-        each_below(self.model.states(), states)?;
+        each_below(self.model.states(), self)?;
         let holds = spread_holds(self.bound, self.bias, spread);
         judged_at(holds, Rule::SpreadIsGreatest, None, None)
     }
 }
 
-/// The rules at state `s`, where the policy takes this choice: the first that fails, or the first sum past width. Gains and relative values are one per
-/// state.
+/// The rules at state `s` for this certificate: the first that fails, or the first sum past width.
 pub fn mean_bounds_at_state(
     model: &Model,
     m: u32,
     dir: Dir,
-    lower: &[Frac],
-    upper: &[Frac],
-    bound: &[Frac],
-    bias: &[Frac],
+    cert: &MeanBoundsCert,
     s: u32,
-    choice: u32,
 ) -> Result<(), Objection>
     requires name { m < length model.now.names }
-    requires lower { length lower.now ≡ states_of model.now }
-    requires upper { length upper.now ≡ states_of model.now }
-    requires bound { length bound.now ≡ states_of model.now }
-    requires bias { length bias.now ≡ states_of model.now }
+    requires lower { length cert.now.lower.items ≡ states_of model.now }
+    requires upper { length cert.now.upper.items ≡ states_of model.now }
+    requires bound { length cert.now.bound.items ≡ states_of model.now }
+    requires bias { length cert.now.bias.items ≡ states_of model.now }
+    requires choices { length cert.now.choices.items ≡ states_of model.now }
     requires state { s < states_of model.now }
-    ensures { result ≡ objection_to (mean_bounds_at dir model.now m lower.now upper.now bound.now bias.now s choice) }
+    ensures { result
+        ≡ objection_to (mean_bounds_at dir model.now m cert.now.lower.items cert.now.upper.items cert.now.bound.items cert.now.bias.items
+        s (slice_index cert.now.choices.items s)) }
 {
-    let claimed = Claimed {
+    let claim = MeanBoundsClaim {
         dir,
         model,
         name: m,
-        lower: Gains::any(lower),
-        upper: Gains::any(upper),
-        bound,
-        bias,
+        lower: Gains::any(&cert.lower),
+        upper: Gains::any(&cert.upper),
+        bound: &cert.bound,
+        bias: &cert.bias,
+        choices: &cert.choices,
     };
-    claimed.state_at(s, choice)
+    claim.check(s)
 }
 
 /// Whether the greatest, or the least, mean payoffs of the reward name of place `m` lie between the gains, and those of the policy too: what
@@ -350,16 +340,24 @@ pub fn holds_bounds_mean(model: &Model, m: u32, dir: Dir, cert: &MeanBoundsCert)
     requires bound { length cert.now.bound.items ≡ states_of model.now }
     requires bias { length cert.now.bias.items ≡ states_of model.now }
     requires choices { length cert.now.choices.items ≡ states_of model.now }
-    ensures verdict { result ≡ verdict_of (mean_bounds_checks dir model.now m cert.now.lower.items cert.now.upper.items cert.now.bound.items cert.now.bias.items cert.now.spread cert.now.choices.items) }
-    ensures rules { IsYes result ↔ IsMeanBounds dir model.now m cert.now.lower.items cert.now.upper.items cert.now.bound.items cert.now.bias.items cert.now.spread cert.now.choices.items }
-    ensures max { dir ≡ Max → IfYes result (MeanMaxBetween model.now m cert.now.lower.items cert.now.upper.items cert.now.spread cert.now.choices.items) }
-    ensures min { dir ≡ Min → IfYes result (MeanMinBetween model.now m cert.now.lower.items cert.now.upper.items cert.now.spread cert.now.choices.items) }
+    ensures verdict { result
+        ≡ verdict_of (mean_bounds_checks dir model.now m cert.now.lower.items cert.now.upper.items
+        cert.now.bound.items cert.now.bias.items cert.now.spread cert.now.choices.items) }
+    ensures rules { IsYes result
+        ↔ IsMeanBounds dir model.now m cert.now.lower.items cert.now.upper.items
+        cert.now.bound.items cert.now.bias.items cert.now.spread cert.now.choices.items }
+    ensures max { dir ≡ Max
+        → IfYes result (MeanMaxBetween model.now m cert.now.lower.items cert.now.upper.items cert.now.spread cert.now.choices.items) }
+    ensures min { dir ≡ Min
+        → IfYes result (MeanMinBetween model.now m cert.now.lower.items cert.now.upper.items cert.now.spread cert.now.choices.items) }
     ensures exact { cert.now.upper.items ≡ cert.now.lower.items
         → IsMean dir model.now m cert.now.lower.items cert.now.bound.items cert.now.bias.items cert.now.spread cert.now.choices.items → IsYes result }
-    ensures trivial { IsTrivialMean model.now m cert.now.lower.items cert.now.upper.items cert.now.bound.items cert.now.bias.items cert.now.spread cert.now.choices.items → IsYes result }
+    ensures trivial { IsTrivialMean model.now m cert.now.lower.items cert.now.upper.items
+        cert.now.bound.items cert.now.bias.items cert.now.spread cert.now.choices.items
+        → IsYes result }
 {
     model.known();
-    let claimed = Claimed {
+    let claim = MeanBoundsClaim {
         dir,
         model,
         name: m,
@@ -367,6 +365,7 @@ pub fn holds_bounds_mean(model: &Model, m: u32, dir: Dir, cert: &MeanBoundsCert)
         upper: Gains::new(cert.upper.as_slice()),
         bound: cert.bound.as_slice(),
         bias: cert.bias.as_slice(),
+        choices: cert.choices.as_slice(),
     };
-    verdict_after(claimed.walk(cert.choices.as_slice(), &cert.spread))
+    verdict_after(claim.walk(&cert.spread))
 }

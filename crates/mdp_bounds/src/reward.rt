@@ -2,9 +2,10 @@ ghost use Rattle.std.specs.Prelude.{◌≡◌, ◌<◌, ◌↔◌, length, slice
 ghost use Rattle.mdp_spec.specs.{Mdp.{states_of, choices_at}, Between.{RewardMaxBetween, RewardMinBetween}};
 ghost use Rattle.mdp_farkas.specs.{Reward.{IsReward}, Verdict.{objection_to, verdict_of, IsYes, IfYes}};
 ghost use Rattle.mdp_rows.specs.declared.dir.Dir.TheVariants.{Max, Min};
-ghost use Rattle.mdp_bounds.specs.Reward.{order_check, sign_check, sign_checks, reward_bounds_at, reward_bounds_checks, IsRewardBounds, IsTrivialReward};
+ghost use Rattle.mdp_bounds.specs.Reward.{order_check, sign_check, sign_checks, reward_bounds_at, reward_bounds_checks};
+ghost use Rattle.mdp_bounds.specs.Reward.{IsRewardBounds, IsTrivialReward};
 
-use crate::column::Column;
+use crate::column::RewardColumn;
 use crate::compare::at_most;
 use mdp_claims::RewardBoundsCert;
 use mdp_farkas::{
@@ -14,39 +15,35 @@ use mdp_farkas::{
 use mdp_num::Frac;
 use mdp_rows::{Dir, Marks, Model};
 
-/// Lower and upper values and ranks that are held against a model.
+/// Lower and upper values, a policy and ranks that are held against a model.
 #[derive(Clone, Copy)]
-struct Claimed<'a> {
+struct RewardBoundsClaim<'a> {
     dir: Dir,
     model: &'a Model,
     name: u32,
     goals: &'a Marks,
     lower: &'a [Option<Frac>],
     upper: &'a [Option<Frac>],
+    choices: &'a [u32],
     ranks: &'a [u32],
     ghost named: { name < length model.now.names },
     ghost goals_each: { length goals.now ≡ states_of model.now },
     ghost lower_each: { length lower.now ≡ states_of model.now },
     ghost upper_each: { length upper.now ≡ states_of model.now },
+    ghost choices_each: { length choices.now ≡ states_of model.now },
     ghost ranks_each: { length ranks.now ≡ states_of model.now },
 }
 
-/// The same with a policy.
-#[derive(Clone, Copy)]
-struct States<'a> {
-    claimed: Claimed<'a>,
-    choices: &'a [u32],
-    ghost choices_each: { length choices.now ≡ states_of claimed.model.now },
-}
+impl Checks for RewardBoundsClaim<'_> {
+    ghost use Rattle.mdp_bounds.specs.RewardClaim.{rules_at};
 
-impl Checks for States<'_> {
-    ghost count = { λ x. states_of x.claimed.model.now };
+    ghost count = { λ x. states_of x.model.now };
 
-    ghost checks = { λ x s. reward_bounds_at x.claimed.dir x.claimed.model.now x.claimed.name x.claimed.goals.now x.claimed.lower.now x.claimed.upper.now x.claimed.ranks.now s (slice_index x.choices.now s) };
+    ghost checks = { λ x s. rules_at x s (slice_index x.choices.now s) };
 
     /// The rules at state `s`.
     fn check(self, s: u32) -> Result<(), Objection> {
-        self.claimed.state_at(s, self.choices[s as usize])
+        self.state_at(s, self.choices[s as usize])
     }
 }
 
@@ -73,7 +70,9 @@ impl OneCheck for Signs<'_> {
     }
 }
 
-impl Claimed<'_> {
+impl RewardBoundsClaim<'_> {
+    ghost use Rattle.mdp_bounds.specs.RewardClaim.{rules_at};
+
     /// The upper value of state `s` is infinite where the lower one is.
     fn order_at(self, s: u32) -> Result<(), Objection>
         requires { s < states_of self.model.now }
@@ -99,11 +98,11 @@ impl Claimed<'_> {
     /// The rules at state `s`, where the policy takes this choice.
     fn state_at(self, s: u32, choice: u32) -> Result<(), Objection>
         requires { s < states_of self.model.now }
-        ensures { result ≡ objection_to (reward_bounds_at self.entry.dir self.entry.model.now self.entry.name self.entry.goals.now self.entry.lower.now self.entry.upper.now self.entry.ranks.now s choice) }
+        ensures { result ≡ objection_to (rules_at self.entry s choice) }
     {
         choice_at(self.model, s, choice)?;
         self.order_at(s)?;
-        let lower = Column {
+        let lower = RewardColumn {
             dir: self.dir,
             model: self.model,
             name: self.name,
@@ -112,7 +111,7 @@ impl Claimed<'_> {
             ranks: self.ranks,
         };
         lower.lower(s, choice)?;
-        let upper = Column {
+        let upper = RewardColumn {
             dir: self.dir,
             model: self.model,
             name: self.name,
@@ -125,37 +124,37 @@ impl Claimed<'_> {
     }
 }
 
-/// The rules at state `s`, where the policy takes this choice: the first that fails, or the first sum past width. One value and one rank per state, none
-/// for an infinite value.
+/// The rules at state `s` for this certificate: the first that fails, or the first sum past width.
 pub fn reward_bounds_at_state(
     model: &Model,
     m: u32,
     goals: &Marks,
     dir: Dir,
-    lower: &[Option<Frac>],
-    upper: &[Option<Frac>],
-    ranks: &[u32],
+    cert: &RewardBoundsCert,
     s: u32,
-    choice: u32,
 ) -> Result<(), Objection>
     requires name { m < length model.now.names }
     requires goals { length goals.now ≡ states_of model.now }
-    requires lower { length lower.now ≡ states_of model.now }
-    requires upper { length upper.now ≡ states_of model.now }
-    requires ranks { length ranks.now ≡ states_of model.now }
+    requires lower { length cert.now.lower.items ≡ states_of model.now }
+    requires upper { length cert.now.upper.items ≡ states_of model.now }
+    requires choices { length cert.now.choices.items ≡ states_of model.now }
+    requires ranks { length cert.now.ranks.items ≡ states_of model.now }
     requires state { s < states_of model.now }
-    ensures { result ≡ objection_to (reward_bounds_at dir model.now m goals.now lower.now upper.now ranks.now s choice) }
+    ensures { result
+        ≡ objection_to (reward_bounds_at dir model.now m goals.now cert.now.lower.items cert.now.upper.items cert.now.ranks.items
+        s (slice_index cert.now.choices.items s)) }
 {
-    let claimed = Claimed {
+    let claim = RewardBoundsClaim {
         dir,
         model,
         name: m,
         goals,
-        lower,
-        upper,
-        ranks,
+        lower: &cert.lower,
+        upper: &cert.upper,
+        choices: &cert.choices,
+        ranks: &cert.ranks,
     };
-    claimed.state_at(s, choice)
+    claim.check(s)
 }
 
 /// Whether the greatest, or the least, rewards of the name of place `m` until a goal lie between the values, and those of the policy too: what
@@ -175,26 +174,28 @@ pub fn holds_bounds_reward(
     requires upper { length cert.now.upper.items ≡ states_of model.now }
     requires choices { length cert.now.choices.items ≡ states_of model.now }
     requires ranks { length cert.now.ranks.items ≡ states_of model.now }
-    ensures verdict { result ≡ verdict_of (reward_bounds_checks dir model.now m goals.now cert.now.lower.items cert.now.upper.items cert.now.choices.items cert.now.ranks.items) }
-    ensures rules { IsYes result ↔ IsRewardBounds dir model.now m goals.now cert.now.lower.items cert.now.upper.items cert.now.choices.items cert.now.ranks.items }
+    ensures verdict { result
+        ≡ verdict_of (reward_bounds_checks dir model.now m goals.now cert.now.lower.items cert.now.upper.items
+        cert.now.choices.items cert.now.ranks.items) }
+    ensures rules { IsYes result
+        ↔ IsRewardBounds dir model.now m goals.now cert.now.lower.items cert.now.upper.items cert.now.choices.items cert.now.ranks.items }
     ensures max { dir ≡ Max → IfYes result (RewardMaxBetween model.now m goals.now cert.now.choices.items cert.now.lower.items cert.now.upper.items) }
     ensures min { dir ≡ Min → IfYes result (RewardMinBetween model.now m goals.now cert.now.choices.items cert.now.lower.items cert.now.upper.items) }
-    ensures exact { cert.now.upper.items ≡ cert.now.lower.items → IsReward dir model.now m goals.now cert.now.lower.items cert.now.choices.items cert.now.ranks.items → IsYes result }
-    ensures trivial { IsTrivialReward dir model.now m goals.now cert.now.lower.items cert.now.upper.items cert.now.choices.items cert.now.ranks.items → IsYes result }
+    ensures exact { cert.now.upper.items ≡ cert.now.lower.items
+        → IsReward dir model.now m goals.now cert.now.lower.items cert.now.choices.items cert.now.ranks.items → IsYes result }
+    ensures trivial { IsTrivialReward dir model.now m goals.now cert.now.lower.items cert.now.upper.items cert.now.choices.items cert.now.ranks.items
+        → IsYes result }
 {
     model.known();
-    let claimed = Claimed {
+    let claim = RewardBoundsClaim {
         dir,
         model,
         name: m,
         goals,
         lower: cert.lower.as_slice(),
         upper: cert.upper.as_slice(),
+        choices: cert.choices.as_slice(),
         ranks: cert.ranks.as_slice(),
     };
-    let states = States {
-        claimed,
-        choices: cert.choices.as_slice(),
-    };
-    verdict_after(each_below(model.states(), states))
+    verdict_after(each_below(model.states(), claim))
 }

@@ -2,6 +2,7 @@ pub mod Disc
 pub mod Rules
 pub mod Bounds
 pub mod Checks
+pub mod Claim
 pub mod Says
 pub mod Cert
 pub mod Plain
@@ -10,6 +11,7 @@ pub mod Laws
 pub mod Between
 pub mod BoundsRules
 pub mod BoundsChecks
+pub mod BoundsClaim
 pub mod BoundsSays
 pub mod BoundsCert
 pub mod BoundsPlain

@@ -9,9 +9,9 @@ use mdp_num::Frac;
 use mdp_rows::Dir;
 
 /// A certificate of bounds of the discounted reward: that the greatest, or the least, rewards of the reward model `name`, where a step later counts
-/// `factor` times as much, lie between the values, and those of the policy too; with two values and a choice for each state, from 1 to 2^20 of them. The
-/// factor is at least 0 and below 1; the name has 1 to 255 bytes without `"` and line feed; the initial state is one of the states, and there is none where
-/// the model has none or more than one.
+/// `factor` times as much, lie between the values, and those of the policy too; with two values and a choice for each state, from 1 to 2^20 of
+/// them. The factor is at least 0 and below 1; the name has 1 to 255 bytes without `"` and line feed; the initial state is one of the states,
+/// and there is none where the model has none or more than one.
 #[derive(Drop)]
 pub struct DiscountBoundsCert {
     pub dir: Dir,

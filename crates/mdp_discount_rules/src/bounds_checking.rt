@@ -1,6 +1,7 @@
 ghost use Rattle.std.specs.Prelude.{◌≡◌, ◌↔◌};
 ghost use Rattle.mdp_spec.specs.Labels.{initial_of};
-ghost use Rattle.mdp_discount_rules.specs.{BoundsPlain.{plain}, BoundsCheck.{same_value, is_value, has_bounds, init_check, answer_to, IsAccepted, IsBound}};
+ghost use Rattle.mdp_discount_rules.specs.BoundsPlain.{plain};
+ghost use Rattle.mdp_discount_rules.specs.BoundsCheck.{same_value, is_value, has_bounds, init_check, answer_to, IsAccepted, IsBound};
 
 use crate::answer::{DiscountAnswer, answer_of};
 use crate::bounds::DiscountBounds;

@@ -1,15 +1,15 @@
 ghost use Rattle.std.specs.Prelude.{◌≡◌, ◌<◌, ◌↔◌, length, slice_index, [], ◌∷◌};
 ghost use Rattle.mdp_spec.specs.Mdp.{states_of, choices_at};
-ghost use Rattle.mdp_farkas.specs.{Reach.{other}, Verdict.{at_choices, objection_to, verdict_of, IsYes, IfYes}};
+ghost use Rattle.mdp_farkas.specs.Verdict.{objection_to, verdict_of, IsYes, IfYes};
 ghost use Rattle.mdp_rows.specs.declared.dir.Dir.TheVariants.{Max, Min};
 ghost use Rattle.mdp_bounds.specs.Says.{covering_rewards};
 ghost use Rattle.mdp_discount_rules.specs.Rules.{IsFactor};
 ghost use Rattle.mdp_discount_rules.specs.Between.{DiscountMaxBetween, DiscountMinBetween};
-ghost use Rattle.mdp_discount_rules.specs.BoundsChecks.{each_check, policy_check, remainder_check, bounds_at, discount_bounds_checks, IsDiscountBounds, IsTrivialDiscount};
+ghost use Rattle.mdp_discount_rules.specs.BoundsChecks.{remainder_check, bounds_at, discount_bounds_checks, IsDiscountBounds, IsTrivialDiscount};
 
 use crate::bounds::DiscountBounds;
 use crate::bounds_remainder::greatest_bounds_magnitude;
-use crate::half::Half;
+use crate::half::DiscountHalf;
 use mdp_farkas::{
     Checks, Objection, Rule, Verdict, choice_at, each_below, each_choice, judged, judged_at,
     reversed, verdict_after,
@@ -17,40 +17,38 @@ use mdp_farkas::{
 use mdp_num::Frac;
 use mdp_rows::{Dir, Model};
 
-/// Lower and upper values that are held against a model.
+/// Lower and upper values and a policy that are held against a model.
 #[derive(Clone, Copy)]
-struct Claimed<'a> {
+struct DiscountBoundsClaim<'a> {
     dir: Dir,
     model: &'a Model,
     name: u32,
     factor: &'a Frac,
     lower: &'a [Option<Frac>],
     upper: &'a [Option<Frac>],
+    choices: &'a [u32],
     ghost named: { name < length model.now.names },
     ghost lower_each: { length lower.now ≡ states_of model.now },
     ghost upper_each: { length upper.now ≡ states_of model.now },
+    ghost choices_each: { length choices.now ≡ states_of model.now },
 }
 
-/// The same with a policy.
-#[derive(Clone, Copy)]
-struct States<'a> {
-    claimed: Claimed<'a>,
-    choices: &'a [u32],
-    ghost choices_each: { length choices.now ≡ states_of claimed.model.now },
-}
+impl Checks for DiscountBoundsClaim<'_> {
+    ghost use Rattle.mdp_discount_rules.specs.BoundsClaim.{rules_at};
 
-impl Checks for States<'_> {
-    ghost count = { λ x. states_of x.claimed.model.now };
+    ghost count = { λ x. states_of x.model.now };
 
-    ghost checks = { λ x s. bounds_at x.claimed.dir x.claimed.model.now x.claimed.name x.claimed.factor.now x.claimed.lower.now x.claimed.upper.now s (slice_index x.choices.now s) };
+    ghost checks = { λ x s. rules_at x s (slice_index x.choices.now s) };
 
     /// The rules at state `s`.
     fn check(self, s: u32) -> Result<(), Objection> {
-        self.claimed.state_at(s, self.choices[s as usize])
+        self.state_at(s, self.choices[s as usize])
     }
 }
 
-impl<'a> Claimed<'a> {
+impl<'a> DiscountBoundsClaim<'a> {
+    ghost use Rattle.mdp_discount_rules.specs.BoundsClaim.{covers_at, follows_at, rules_at, all_checks};
+
     /// The values of the half in this direction: the upper ones for `Max`, and the lower ones for `Min`.
     fn covering(self, dir: Dir) -> &'a [Option<Frac>]
         ensures values { result.now ≡ covering_rewards dir self.entry.lower.now self.entry.upper.now }
@@ -65,10 +63,9 @@ impl<'a> Claimed<'a> {
     /// The half on each choice, at state `s`.
     fn covers(self, s: u32) -> Result<(), Objection>
         requires { s < states_of self.model.now }
-        ensures { result ≡ objection_to (at_choices self.entry.model.now s (each_check self.entry.dir self.entry.model.now self.entry.name self.entry.factor.now
-            (covering_rewards self.entry.dir self.entry.lower.now self.entry.upper.now) s)) }
+        ensures { result ≡ objection_to (covers_at self.entry s) }
     {
-        let half = Half {
+        let half = DiscountHalf {
             dir: self.dir,
             model: self.model,
             name: self.name,
@@ -83,11 +80,10 @@ impl<'a> Claimed<'a> {
     fn follows(self, s: u32, choice: u32) -> Result<(), Objection>
         requires state { s < states_of self.model.now }
         requires choice { choice < length (choices_at self.model.now s) }
-        ensures { result ≡ objection_to (policy_check (other self.entry.dir) self.entry.model.now self.entry.name self.entry.factor.now
-            (covering_rewards (other self.entry.dir) self.entry.lower.now self.entry.upper.now) s choice ∷ []) }
+        ensures { result ≡ objection_to (follows_at self.entry s choice) }
     {
         let dir = reversed(self.dir);
-        let half = Half {
+        let half = DiscountHalf {
             dir,
             model: self.model,
             name: self.name,
@@ -106,7 +102,7 @@ impl<'a> Claimed<'a> {
     /// The rules at state `s`, where the policy takes this choice.
     fn state_at(self, s: u32, choice: u32) -> Result<(), Objection>
         requires { s < states_of self.model.now }
-        ensures { result ≡ objection_to (bounds_at self.entry.dir self.entry.model.now self.entry.name self.entry.factor.now self.entry.lower.now self.entry.upper.now s choice) }
+        ensures { result ≡ objection_to (rules_at self.entry s choice) }
     {
         choice_at(self.model, s, choice)?;
         self.covers(s)?;
@@ -122,47 +118,42 @@ impl<'a> Claimed<'a> {
     }
 
     /// All rules: those at each state, from 0 on, and that of the remainder.
-    fn walk(self, choices: &[u32], remainder: &Frac) -> Result<(), Objection>
-        requires { length choices.now ≡ states_of self.model.now }
-        ensures { result ≡ objection_to (discount_bounds_checks self.entry.dir self.entry.model.now self.entry.name self.entry.factor.now
-            self.entry.lower.now self.entry.upper.now remainder.now choices.now) }
+    fn walk(self, remainder: &Frac) -> Result<(), Objection>
+        ensures { result ≡ objection_to (all_checks self.entry remainder.now) }
     {
-        let states = States {
-            claimed: self,
-            choices,
-        };
-        each_below(self.model.states(), states)?;
+        each_below(self.model.states(), self)?;
         self.remainder(remainder)
     }
 }
 
-/// The rules at state `s`, where the policy takes this choice: the first that fails, or the first written term past width. One value per state, none where
-/// nothing is claimed.
+/// The rules at state `s` for these bounds: the first that fails, or the first written term past width.
 pub fn discount_bounds_at_state(
     model: &Model,
     m: u32,
     dir: Dir,
     factor: &Frac,
-    lower: &[Option<Frac>],
-    upper: &[Option<Frac>],
+    bounds: &DiscountBounds,
     s: u32,
-    choice: u32,
 ) -> Result<(), Objection>
     requires name { m < length model.now.names }
-    requires lower { length lower.now ≡ states_of model.now }
-    requires upper { length upper.now ≡ states_of model.now }
+    requires lower { length bounds.now.lower.items ≡ states_of model.now }
+    requires upper { length bounds.now.upper.items ≡ states_of model.now }
+    requires choices { length bounds.now.choices.items ≡ states_of model.now }
     requires state { s < states_of model.now }
-    ensures { result ≡ objection_to (bounds_at dir model.now m factor.now lower.now upper.now s choice) }
+    ensures { result
+        ≡ objection_to (bounds_at dir model.now m factor.now bounds.now.lower.items bounds.now.upper.items
+        s (slice_index bounds.now.choices.items s)) }
 {
-    let claimed = Claimed {
+    let claim = DiscountBoundsClaim {
         dir,
         model,
         name: m,
         factor,
-        lower,
-        upper,
+        lower: &bounds.lower,
+        upper: &bounds.upper,
+        choices: &bounds.choices,
     };
-    claimed.state_at(s, choice)
+    claim.check(s)
 }
 
 /// Whether the greatest, or the least, discounted rewards of the reward name of place `m` lie between the values, and those of the policy too: what
@@ -180,20 +171,29 @@ pub fn holds_bounds_discount(
     requires lower { length bounds.now.lower.items ≡ states_of model.now }
     requires upper { length bounds.now.upper.items ≡ states_of model.now }
     requires choices { length bounds.now.choices.items ≡ states_of model.now }
-    ensures verdict { result ≡ verdict_of (discount_bounds_checks dir model.now m factor.now bounds.now.lower.items bounds.now.upper.items bounds.now.remainder bounds.now.choices.items) }
-    ensures rules { IsYes result ↔ IsDiscountBounds dir model.now m factor.now bounds.now.lower.items bounds.now.upper.items bounds.now.remainder bounds.now.choices.items }
-    ensures max { dir ≡ Max → IfYes result (DiscountMaxBetween model.now m factor.now bounds.now.lower.items bounds.now.upper.items bounds.now.remainder bounds.now.choices.items) }
-    ensures min { dir ≡ Min → IfYes result (DiscountMinBetween model.now m factor.now bounds.now.lower.items bounds.now.upper.items bounds.now.remainder bounds.now.choices.items) }
-    ensures trivial { IsTrivialDiscount model.now bounds.now.lower.items bounds.now.upper.items bounds.now.remainder bounds.now.choices.items → IsYes result }
+    ensures verdict { result
+        ≡ verdict_of (discount_bounds_checks dir model.now m factor.now
+        bounds.now.lower.items bounds.now.upper.items bounds.now.remainder bounds.now.choices.items) }
+    ensures rules { IsYes result
+        ↔ IsDiscountBounds dir model.now m factor.now bounds.now.lower.items bounds.now.upper.items bounds.now.remainder bounds.now.choices.items }
+    ensures max { dir ≡ Max
+        → IfYes result (DiscountMaxBetween model.now m factor.now
+        bounds.now.lower.items bounds.now.upper.items bounds.now.remainder bounds.now.choices.items) }
+    ensures min { dir ≡ Min
+        → IfYes result (DiscountMinBetween model.now m factor.now
+        bounds.now.lower.items bounds.now.upper.items bounds.now.remainder bounds.now.choices.items) }
+    ensures trivial { IsTrivialDiscount model.now bounds.now.lower.items bounds.now.upper.items bounds.now.remainder bounds.now.choices.items
+        → IsYes result }
 {
     model.known();
-    let claimed = Claimed {
+    let claim = DiscountBoundsClaim {
         dir,
         model,
         name: m,
         factor,
         lower: bounds.lower.as_slice(),
         upper: bounds.upper.as_slice(),
+        choices: bounds.choices.as_slice(),
     };
-    verdict_after(claimed.walk(bounds.choices.as_slice(), &bounds.remainder))
+    verdict_after(claim.walk(&bounds.remainder))
 }

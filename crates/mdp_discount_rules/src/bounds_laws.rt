@@ -1,4 +1,5 @@
-ghost use Rattle.mdp_discount_rules.specs.BoundsLaws.{RulesBetween, ExactIsBetween, YesIsAccepted, AcceptedIsBound, DiscountBoundsNeverNo, DiscountNoRefutes, DiscountMeetsSays};
+ghost use Rattle.mdp_discount_rules.specs.BoundsLaws.{RulesBetween, ExactIsBetween, YesIsAccepted, AcceptedIsBound};
+ghost use Rattle.mdp_discount_rules.specs.BoundsLaws.{DiscountBoundsNeverNo, DiscountNoRefutes, DiscountMeetsSays};
 
 /// What meets the rules bounds what policies earn, and exact values of the same query lie between. A check says yes exactly of what is accepted, and
 /// its claim is true.

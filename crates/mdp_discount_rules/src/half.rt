@@ -9,7 +9,7 @@ use mdp_rows::{Dir, Model};
 
 /// The values of one column, which are held against a model at one state: whether its value is as good as what choices earn.
 #[derive(Clone, Copy)]
-pub(crate) struct Half<'a> {
+pub(crate) struct DiscountHalf<'a> {
     pub dir: Dir,
     pub model: &'a Model,
     pub name: u32,
@@ -21,10 +21,12 @@ pub(crate) struct Half<'a> {
     pub ghost in_model: { state < states_of model.now },
 }
 
-impl OneCheck for Half<'_> {
+impl OneCheck for DiscountHalf<'_> {
+    ghost use Rattle.mdp_discount_rules.specs.BoundsClaim.{asked_of};
+
     ghost count = { λ h. length (choices_at h.model.now h.state) };
 
-    ghost check = { λ h. each_check h.dir h.model.now h.name h.factor.now h.values.now h.state };
+    ghost check = { λ h. asked_of h each_check };
 
     /// The value against choice `c`.
     fn check_at(self, c: u32) -> Result<(), Objection> {
@@ -37,7 +39,9 @@ impl OneCheck for Half<'_> {
     }
 }
 
-impl Half<'_> {
+impl DiscountHalf<'_> {
+    ghost use Rattle.mdp_discount_rules.specs.BoundsClaim.{asked_of};
+
     /// What a value leaves to the reward of choice `c`: less `factor` times the sum over its row.
     fn left_for(self, c: u32, value: &Frac) -> Result<Frac, Wide>
         requires { c < length (choices_at self.model.now self.state) }
@@ -52,7 +56,7 @@ impl Half<'_> {
     /// Whether a value is as good as what choice `c` earns.
     fn number_allows(self, c: u32, value: &Frac) -> Result<bool, Wide>
         requires { c < length (choices_at self.model.now self.state) }
-        ensures { result_ok result ≡ number_allows self.entry.dir self.entry.model.now self.entry.name self.entry.factor.now self.entry.values.now self.entry.state c value.now }
+        ensures { result_ok result ≡ asked_of self.entry number_allows c value.now }
     {
         if !stays_finite_at(self.model, self.values, self.state, c) {
             return Ok(false);
@@ -65,7 +69,7 @@ impl Half<'_> {
     /// Whether the value of the state is as good as what choice `c` earns, as a missing one is.
     pub(crate) fn allows(self, c: u32) -> Result<bool, Wide>
         requires { c < length (choices_at self.model.now self.state) }
-        ensures { result_ok result ≡ allows self.entry.dir self.entry.model.now self.entry.name self.entry.factor.now self.entry.values.now self.entry.state c }
+        ensures { result_ok result ≡ asked_of self.entry allows c }
     {
         match self.values[self.state as usize] {
             Some(value) => self.number_allows(c, &value),

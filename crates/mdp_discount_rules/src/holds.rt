@@ -1,8 +1,8 @@
-ghost use Rattle.std.specs.{Prelude.{◌≡◌, ◌<◌, ◌↔◌, [], ◌∷◌, length, slice_index}, Result.{result_ok}};
-ghost use Rattle.mdp_spec.specs.Mdp.{states_of, choices_at, value_at};
+ghost use Rattle.std.specs.{Prelude.{◌≡◌, ◌<◌, ◌↔◌, length, slice_index}, Result.{result_ok}};
+ghost use Rattle.mdp_spec.specs.Mdp.{states_of, choices_at};
 ghost use Rattle.mdp_farkas.specs.Verdict.{objection_to, verdict_of, IsYes, IfYes};
 ghost use Rattle.mdp_discount_rules.specs.Bounds.{DiscountBound};
-ghost use Rattle.mdp_discount_rules.specs.Checks.{covers_check, reached_check, checks_at, remainder_check, discount_checks, IsDiscount};
+ghost use Rattle.mdp_discount_rules.specs.Checks.{remainder_check, discount_checks, IsDiscount};
 
 use crate::cert::DiscountCert;
 use crate::earning::earned;
@@ -16,7 +16,7 @@ use mdp_rows::{Dir, Model};
 
 /// Values, a policy and a remainder that are held against a model.
 #[derive(Clone, Copy)]
-struct Claimed<'a> {
+struct DiscountClaim<'a> {
     dir: Dir,
     model: &'a Model,
     name: u32,
@@ -28,10 +28,12 @@ struct Claimed<'a> {
     ghost choices_each: { length choices.now ≡ states_of model.now },
 }
 
-impl Checks for Claimed<'_> {
+impl Checks for DiscountClaim<'_> {
+    ghost use Rattle.mdp_discount_rules.specs.Claim.{rules_at};
+
     ghost count = { λ x. states_of x.model.now };
 
-    ghost checks = { λ x s. checks_at x.dir x.model.now x.name x.factor.now x.values.now s (slice_index x.choices.now s) };
+    ghost checks = { λ x s. rules_at x s (slice_index x.choices.now s) };
 
     /// The rules at state `s`.
     fn check(self, s: u32) -> Result<(), Objection> {
@@ -41,30 +43,34 @@ impl Checks for Claimed<'_> {
 
 /// The value of one state, which is held against what its choices earn.
 #[derive(Clone, Copy)]
-struct Covers<'a> {
-    claimed: Claimed<'a>,
+struct DiscountAtState<'a> {
+    claim: DiscountClaim<'a>,
     state: u32,
-    ghost in_model: { state < states_of claimed.model.now },
+    ghost in_model: { state < states_of claim.model.now },
 }
 
-impl OneCheck for Covers<'_> {
-    ghost count = { λ x. length (choices_at x.claimed.model.now x.state) };
+impl OneCheck for DiscountAtState<'_> {
+    ghost use Rattle.mdp_discount_rules.specs.Claim.{covers_at};
 
-    ghost check = { λ x. covers_check x.claimed.dir x.claimed.model.now x.claimed.name x.claimed.factor.now x.claimed.values.now x.state };
+    ghost count = { λ x. length (choices_at x.claim.model.now x.state) };
+
+    ghost check = { λ x. covers_at x.claim x.state };
 
     /// The value against choice `c`.
     fn check_at(self, c: u32) -> Result<(), Objection> {
-        let covers = self.claimed.covers(self.state, c);
+        let covers = self.claim.covers(self.state, c);
         judged(covers, Rule::DiscountedOnEachChoice, self.state, Some(c))
     }
 }
 
-impl Claimed<'_> {
+impl DiscountClaim<'_> {
+    ghost use Rattle.mdp_discount_rules.specs.Claim.{covers_at, reached_at, rules_at, all_checks};
+
     /// Whether the value of state `s` is at least, or for the least reward at most, what its choice `c` earns.
     fn covers(self, s: u32, c: u32) -> Result<bool, Wide>
         requires state { s < states_of self.model.now }
         requires choice { c < length (choices_at self.model.now s) }
-        ensures { result_ok result ≡ (covers_check self.entry.dir self.entry.model.now self.entry.name self.entry.factor.now self.entry.values.now s c).holds }
+        ensures { result_ok result ≡ (covers_at self.entry s c).holds }
     {
         let sum = earned(self.model, self.name, self.factor, s, c, self.values)?;
         value_stands(self.dir, &self.values[s as usize], &sum)
@@ -74,7 +80,7 @@ impl Claimed<'_> {
     fn is_reached(self, s: u32, c: u32) -> Result<bool, Wide>
         requires state { s < states_of self.model.now }
         requires choice { c < length (choices_at self.model.now s) }
-        ensures { result_ok result ≡ (reached_check self.entry.model.now self.entry.name self.entry.factor.now self.entry.values.now s c).holds }
+        ensures { result_ok result ≡ (reached_at self.entry s c).holds }
     {
         let sum = earned(self.model, self.name, self.factor, s, c, self.values)?;
         equal(&self.values[s as usize], &sum)
@@ -83,11 +89,11 @@ impl Claimed<'_> {
     /// The rules at state `s`, where the policy takes this choice.
     fn state_at(self, s: u32, choice: u32) -> Result<(), Objection>
         requires { s < states_of self.model.now }
-        ensures { result ≡ objection_to (checks_at self.entry.dir self.entry.model.now self.entry.name self.entry.factor.now self.entry.values.now s choice) }
+        ensures { result ≡ objection_to (rules_at self.entry s choice) }
     {
         choice_at(self.model, s, choice)?;
-        let covers = Covers {
-            claimed: self,
+        let covers = DiscountAtState {
+            claim: self,
             state: s,
         };
         each_choice(self.model, s, covers)?;
@@ -101,7 +107,7 @@ impl Claimed<'_> {
 
     /// All rules: those at each state, from 0 on, and that of the remainder.
     fn walk(self, remainder: &Frac) -> Result<(), Objection>
-        ensures { result ≡ objection_to (discount_checks self.entry.dir self.entry.model.now self.entry.name self.entry.factor.now self.entry.values.now remainder.now self.entry.choices.now) }
+        ensures { result ≡ objection_to (all_checks self.entry remainder.now) }
     {
         each_below(self.model.states(), self)?;
         judged_at(
@@ -127,12 +133,15 @@ fn is_greatest(remainder: &Frac, values: &[Frac]) -> Result<bool, Wide>
 pub fn holds_discount(model: &Model, m: u32, cert: &DiscountCert) -> Verdict
     requires name { m < length model.now.names }
     requires values { length cert.now.values.items ≡ states_of model.now }
-    ensures verdict { result ≡ verdict_of (discount_checks cert.now.dir model.now m cert.now.factor cert.now.values.items cert.now.remainder cert.now.choices.items) }
-    ensures rules { IsYes result ↔ IsDiscount cert.now.dir model.now m cert.now.factor cert.now.values.items cert.now.remainder cert.now.choices.items }
-    ensures bound { IfYes result (DiscountBound cert.now.dir model.now m cert.now.factor cert.now.values.items cert.now.remainder cert.now.choices.items) }
+    ensures verdict { result
+        ≡ verdict_of (discount_checks cert.now.dir model.now m cert.now.factor cert.now.values.items cert.now.remainder cert.now.choices.items) }
+    ensures rules { IsYes result
+        ↔ IsDiscount cert.now.dir model.now m cert.now.factor cert.now.values.items cert.now.remainder cert.now.choices.items }
+    ensures bound { IfYes result
+        (DiscountBound cert.now.dir model.now m cert.now.factor cert.now.values.items cert.now.remainder cert.now.choices.items) }
 {
     model.known();
-    let claimed = Claimed {
+    let claim = DiscountClaim {
         dir: cert.dir,
         model,
         name: m,
@@ -140,5 +149,5 @@ pub fn holds_discount(model: &Model, m: u32, cert: &DiscountCert) -> Verdict
         values: cert.values.as_slice(),
         choices: cert.choices.as_slice(),
     };
-    verdict_after(claimed.walk(&cert.remainder))
+    verdict_after(claim.walk(&cert.remainder))
 }

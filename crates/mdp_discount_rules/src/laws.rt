@@ -1,4 +1,5 @@
-ghost use Rattle.mdp_discount_rules.specs.Laws.{RulesBound, HasOneValue, YesIsAccepted, AcceptedIsBound, DiscountNeverNo, DiscountNoRefutes, DiscountSaysAll};
+ghost use Rattle.mdp_discount_rules.specs.Laws.{RulesBound, HasOneValue, YesIsAccepted, AcceptedIsBound};
+ghost use Rattle.mdp_discount_rules.specs.Laws.{DiscountNeverNo, DiscountNoRefutes, DiscountSaysAll};
 
 /// What meets the rules is bounded by its remainder, and there is one such list of values at most. A check says yes exactly of what is accepted, and
 /// its claim is true.

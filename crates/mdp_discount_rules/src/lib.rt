@@ -1,13 +1,15 @@
 //! The rules of discounted rewards, and of bounds of them: a certificate is held against the model. No search stands below this crate.
 //!
 //! To be read in this order:
-//! - Best values: `DiscountCert` (cert.rt), `holds_discount` (holds.rt), by what choices earn (earning.rt) and the greatest magnitude of values (remainder.rt), and
-//!   `check_discount` (checking.rt), which gives a `DiscountAnswer` (answer.rt).
+//! - Best values: `DiscountCert` (cert.rt), `holds_discount` (holds.rt), by what choices earn (earning.rt) and the greatest magnitude of values
+//!   (remainder.rt), and `check_discount` (checking.rt), which gives a `DiscountAnswer` (answer.rt).
 //! - Bounds, a lower and an upper value for each state, where they are there: `DiscountBounds` (bounds.rt), `DiscountBoundsCert` (bounds_cert.rt),
-//!   `holds_bounds_discount` (bounds_holds.rt), by one column at a state (`Half` in half.rt), and `check_discount_bounds` (bounds_checking.rt).
+//!   `holds_bounds_discount` (bounds_holds.rt), by one column at a state (`DiscountHalf` in half.rt), and `check_discount_bounds`
+//!   (bounds_checking.rt).
 //! - What a yes and a no mean, over the definitions alone: laws.rt, bounds_laws.rt.
 //!
-//! Its tests: small models that meet each rule and miss it, in proofs/Examples and proofs/BoundsExamples; the rows `discount_*`, `bounds_*` and `forged_*` of mdp_app.
+//! Its tests: small models that meet each rule and miss it, in proofs/Examples and proofs/BoundsExamples; the rows `discount_*`, `bounds_*` and
+//! `forged_*` of mdp_app.
 #![tactic(auto)]
 
 mod answer;

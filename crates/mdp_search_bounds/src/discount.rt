@@ -181,12 +181,9 @@ impl Search for Discounting<'_> {
                 self.name,
                 self.dir,
                 self.factor,
-                &bounds.lower,
-                &bounds.upper,
+                bounds,
                 s,
-                bounds.choices[s as usize],
-            )
-            .is_ok()
+            ).is_ok()
     }
 
     fn holds(&self, bounds: &DiscountBounds) -> bool {

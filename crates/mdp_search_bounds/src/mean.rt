@@ -110,18 +110,7 @@ impl Search for Averaging<'_> {
 
     fn holds_at(&self, cert: &MeanBoundsCert, s: u32) -> bool {
         s >= self.model.states()
-            || mean_bounds_at_state(
-                self.model,
-                self.name,
-                self.dir,
-                &cert.lower,
-                &cert.upper,
-                &cert.bound,
-                &cert.bias,
-                s,
-                cert.choices[s as usize],
-            )
-            .is_ok()
+            || mean_bounds_at_state(self.model, self.name, self.dir, cert, s).is_ok()
     }
 
     fn holds(&self, cert: &MeanBoundsCert) -> bool {

@@ -78,17 +78,7 @@ impl Search for Reaching<'_, '_> {
 
     fn holds_at(&self, cert: &ReachBoundsCert, s: u32) -> bool {
         s >= self.model.states()
-            || reach_bounds_at_state(
-                self.model,
-                self.goals,
-                self.dir,
-                &cert.lower,
-                &cert.upper,
-                &cert.ranks,
-                s,
-                cert.choices[s as usize],
-            )
-            .is_ok()
+            || reach_bounds_at_state(self.model, self.goals, self.dir, cert, s).is_ok()
     }
 
     fn holds(&self, cert: &ReachBoundsCert) -> bool {

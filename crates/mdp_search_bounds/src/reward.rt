@@ -89,18 +89,7 @@ impl Search for Earning<'_, '_> {
 
     fn holds_at(&self, cert: &RewardBoundsCert, s: u32) -> bool {
         s >= self.model.states()
-            || reward_bounds_at_state(
-                self.model,
-                self.name,
-                self.goals,
-                self.dir,
-                &cert.lower,
-                &cert.upper,
-                &cert.ranks,
-                s,
-                cert.choices[s as usize],
-            )
-            .is_ok()
+            || reward_bounds_at_state(self.model, self.name, self.goals, self.dir, cert, s).is_ok()
     }
 
     fn holds(&self, cert: &RewardBoundsCert) -> bool {

@@ -1,0 +1,5 @@
+use Rattle.std.proofs.Common.{sym}
+use Rattle.mdp_bounds.proofs.reach.ReachBoundsClaim.covers.Goals as goal
+
+pub returns : goal.returns
+returns c = rw (sym c.covering.ensures.values) c.on_each.ensures
