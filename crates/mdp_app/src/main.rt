@@ -15,7 +15,7 @@ mod tasks;
 mod tests;
 
 use crate::run::run_on_files;
-use mdp_command::{exit_of, words_given, written};
+use mdp_command::{exit_of, words_given, write_answer};
 use mdp_edge::{StdSink, StdSource};
 use mdp_job::{files_of, job_of};
 use std::fs::File;
@@ -43,7 +43,7 @@ fn main(rt: HostRuntime) -> ExitCode {
             let open_second = |path: &str| opened(&rt, path, files.second);
             run_on_files(alloc, &words, open_model, open_second, &mut out)
         }
-        Err(refusal) => written(alloc, Err(refusal), &mut out),
+        Err(refusal) => write_answer(alloc, Err(refusal), &mut out),
     };
     exit_of(status)
 }

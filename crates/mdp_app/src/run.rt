@@ -4,7 +4,7 @@ ghost use Rattle.mdp_command.specs.{Opened.{OnFiles}, Prelude.{said, input, outp
 ghost use Rattle.mdp_app.specs.{Run.{IsAnswered, IsWorkDone, IsComplete, HasRun}, Decided.{IsDecided}};
 
 use crate::tasks::{on_model, on_pair};
-use mdp_command::written;
+use mdp_command::write_answer;
 use mdp_command_bounds_search::{
     bounds_discount_search_law, bounds_search_law, bounds_witness_law,
 };
@@ -15,7 +15,7 @@ use mdp_job::{Job, Refusal, Status, job_of, paths_of};
 use std::alloc::Global;
 
 /// The answer to the words.
-fn decided<S: Source, C: Source>(
+fn answer_to_words<S: Source, C: Source>(
     alloc: Global,
     words: &[String],
     model: &mut S,
@@ -68,8 +68,8 @@ pub fn run<S: Source, C: Source, K: Sink>(
     bounds_search_law();
     bounds_discount_search_law();
     bounds_witness_law();
-    let answer = decided(alloc, words, model, second);
-    written(alloc, answer, out)
+    let answer = answer_to_words(alloc, words, model, second);
+    write_answer(alloc, answer, out)
 }
 
 /// Opens the files that the words name, the model's and the second one, and runs the program on them.

@@ -5,7 +5,7 @@
 mod run;
 
 use crate::run::run_on_files;
-use mdp_command::{exit_of, words_given, written};
+use mdp_command::{exit_of, words_given, write_answer};
 use mdp_edge::{StdSink, StdSource};
 use std::fs::File;
 use std::process::ExitCode;
@@ -16,7 +16,7 @@ fn main(rt: HostRuntime) -> ExitCode {
     let open = |path: &str| StdSource::new(File::open(&rt, path).ok());
     let status = match words_given(&rt) {
         Ok(words) => run_on_files(alloc, &words, open, open, &mut out),
-        Err(refusal) => written(alloc, Err(refusal), &mut out),
+        Err(refusal) => write_answer(alloc, Err(refusal), &mut out),
     };
     exit_of(status)
 }

@@ -2,14 +2,14 @@ ghost use Rattle.std.specs.{Fn.{FnOnceReturnsAt}, Prelude.{◌≡◌}};
 ghost use Rattle.mdp_command.specs.{Opened.{OnFiles}, Prelude.{said, input, output}};
 ghost use Rattle.mdp_checker.specs.{Run.{IsDecided, IsAnswered, IsYesTrue, IsYesTrueOfText, IsComplete, HasRun}, Words.{asked, model_path, cert_path}};
 
-use mdp_command::{check_files, check_law, written};
+use mdp_command::{check_files, check_law, write_answer};
 use mdp_drn::{model_law, written_law};
 use mdp_edge::{Sink, Source};
 use mdp_job::{Paths, Refusal, Status, rows_of};
 use std::alloc::Global;
 
 /// The answer to the words.
-fn decided<S: Source, C: Source>(
+fn answer_to_words<S: Source, C: Source>(
     alloc: Global,
     words: &[String],
     model: &mut S,
@@ -51,8 +51,8 @@ pub fn run<S: Source, C: Source, K: Sink>(
     check_law();
     model_law();
     written_law();
-    let answer = decided(alloc, words, model, cert);
-    written(alloc, answer, out)
+    let answer = answer_to_words(alloc, words, model, cert);
+    write_answer(alloc, answer, out)
 }
 
 /// The words that name the files of the model and of the certificate.

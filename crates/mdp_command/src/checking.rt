@@ -6,7 +6,7 @@ ghost use Rattle.mdp_command.specs.CheckShown.{IsCheckPrinted, IsCheckRead};
 use crate::files::{read_model, read_second};
 use crate::kind::{CertificateKind, chosen};
 use crate::laws::check_law;
-use crate::saying::answered;
+use crate::saying::answer_text;
 use mdp_cert::{read_bounds, read_cert};
 use mdp_check::{Answer, check, check_bounds};
 use mdp_discount_rules::{DiscountAnswer, check_discount, check_discount_bounds};
@@ -36,7 +36,7 @@ fn of_exact(alloc: Global, model: &Model, bytes: &[u8]) -> Result<Vec<u8>, Refus
     ensures not_of_model { is_of_model (said result) ≡ false }
 {
     let cert = read_cert(alloc, bytes)?;
-    answered(alloc, check(alloc, model, &cert))
+    answer_text(alloc, check(alloc, model, &cert))
 }
 
 /// The same of a certificate of discounted rewards.
@@ -45,7 +45,7 @@ fn of_discounted(alloc: Global, model: &Model, bytes: &[u8]) -> Result<Vec<u8>, 
     ensures not_of_model { is_of_model (said result) ≡ false }
 {
     let cert = read_discount(alloc, bytes)?;
-    answered(alloc, as_answer(check_discount(model, &cert)))
+    answer_text(alloc, as_answer(check_discount(model, &cert)))
 }
 
 /// The same of a certificate of bounds.
@@ -54,7 +54,7 @@ fn of_bounds(alloc: Global, model: &Model, bytes: &[u8]) -> Result<Vec<u8>, Refu
     ensures not_of_model { is_of_model (said result) ≡ false }
 {
     let cert = read_bounds(alloc, bytes)?;
-    answered(alloc, check_bounds(alloc, model, &cert))
+    answer_text(alloc, check_bounds(alloc, model, &cert))
 }
 
 /// The same of a certificate of bounds of discounted rewards.
@@ -63,7 +63,7 @@ fn of_discounted_bounds(alloc: Global, model: &Model, bytes: &[u8]) -> Result<Ve
     ensures not_of_model { is_of_model (said result) ≡ false }
 {
     let cert = read_discount_bounds(alloc, bytes)?;
-    answered(alloc, as_answer(check_discount_bounds(model, &cert)))
+    answer_text(alloc, as_answer(check_discount_bounds(model, &cert)))
 }
 
 /// The same of a certificate of bounds of a subsystem.
@@ -72,7 +72,7 @@ fn of_subsystem_bounds(alloc: Global, model: &Model, bytes: &[u8]) -> Result<Vec
     ensures not_of_model { is_of_model (said result) ≡ false }
 {
     let cert = read_subsystem_bounds(alloc, bytes)?;
-    answered(alloc, check_subsystem_bounds(alloc, model, &cert))
+    answer_text(alloc, check_subsystem_bounds(alloc, model, &cert))
 }
 
 /// The same of a certificate of the wanted kind, or of that which its first line names.

@@ -17,6 +17,6 @@ pub use files::{read_model, read_second};
 pub use kind::{CertificateKind, kind_of};
 pub use laws::{check_law, discount_start_law};
 pub use printing::certificate_text;
-pub use saying::answered;
+pub use saying::answer_text;
 pub use words::{behind_name, exit_of, words_given};
-pub use writing::written;
+pub use writing::write_answer;

@@ -14,7 +14,7 @@ fn yes(alloc: Global) -> Result<Vec<u8>, Refusal>
 }
 
 /// What a checker says, as the text of a run or its refusal.
-pub fn answered(alloc: Global, answer: Answer) -> Result<Vec<u8>, Refusal>
+pub fn answer_text(alloc: Global, answer: Answer) -> Result<Vec<u8>, Refusal>
     ensures due { (said result ≡ Err no_memory) ⊎ (said result ≡ said_of answer) }
     ensures memory { said result ≡ Err no_memory → (answer ≡ Answer.Yes) ⊎ (answer ≡ Answer.Memory) }
     ensures not_of_model { is_of_model (said result) ≡ false }

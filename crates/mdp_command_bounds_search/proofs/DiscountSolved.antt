@@ -8,6 +8,8 @@ use Rattle.mdp_discount_rules.specs.{Between.{DiscountBetween}, BoundsLaws.{Acce
 use Rattle.mdp_discount_text.specs.BoundsSpelling.{text_of}
 use Rattle.mdp_command_bounds_search.specs.{DiscountDue.{IsAcceptedText, IsNamedDue}, DiscountLaws.{IsAnswerTo, DiscountTextLiesBetween, OnlyDiscountTextsAreDue, DiscountTextIsAccepted}}
 use Rattle.mdp_command_bounds_search.proofs.Solved.{text_is_ok}
+use Rattle.mdp_command.proofs.TrueClaims.{true_claim_of}
+use Rattle.mdp_command.specs.Kinds.{discounted_between}
 
 -- ---- a text, and never a refusal
 
@@ -47,8 +49,4 @@ text_lies_between true_of dir name f m text mdp factor due = by_name true_of dir
 
 pub text_is_accepted : DiscountTextIsAccepted
 text_is_accepted rule dir name f digits model text shown =
-    let p = shown.printed in
-    record {
-      accepted = record { short_model = shown.short; short_cert = p.short; model = shown.model; reads = shown.reads; cert = p.cert; text = p.reads; holds = p.holds };
-      bound = p.bound;
-    }
+    let p = shown.printed in true_claim_of discounted_between _ rule model text shown p.cert p.short p.reads p.holds p.bound

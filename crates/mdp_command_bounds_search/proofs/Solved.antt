@@ -7,6 +7,8 @@ use Rattle.mdp_cert.specs.{Cert.{PlainClaim}, BoundsCert.{PlainBounds, probabili
 use Rattle.mdp_check.specs.{Bounds.{between_by, IsBoundsTrue}, BoundsLaws.{AcceptedBoundsAreTrue}, Check.{reward_place, goal_marks, labelled_marks, marks_on_way, stays_at}}
 use Rattle.mdp_job.specs.{Job.{PlainQuery, reach, until, reward, mean}, Refusal.{PlainRefusal}}
 use Rattle.mdp_command.specs.Said.{Said}
+use Rattle.mdp_command.proofs.TrueClaims.{true_claim_of}
+use Rattle.mdp_command.specs.Kinds.{between}
 use Rattle.mdp_command_bounds_search.specs.Due.{claim_of, fault_of, IsDueBy, IsAcceptedText}
 use Rattle.mdp_command_bounds_search.specs.Laws.{LieBetween, IsAnswerTo, TextLiesBetween, OnlyTextsAreDue, TextIsAccepted}
 use Rattle.mdp_command_bounds_search.proofs.Printing.{marked_at}
@@ -96,8 +98,4 @@ text_lies_between true_of dir query m text mdp due = by_fault true_of dir query 
 
 pub text_is_accepted : TextIsAccepted
 text_is_accepted rule dir query digits model text shown =
-    let p = shown.printed in
-    record {
-      accepted = record { short_model = shown.short; short_cert = p.short; model = shown.model; reads = shown.reads; cert = p.cert; text = p.reads; holds = p.holds };
-      bound = p.bound;
-    }
+    let p = shown.printed in true_claim_of between _ rule model text shown p.cert p.short p.reads p.holds p.bound

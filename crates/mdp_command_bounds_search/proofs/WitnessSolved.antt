@@ -10,6 +10,8 @@ use Rattle.mdp_subsystem_bounds.specs.{Cert.{SubsystemClaim, plain_claim, kept_s
 use Rattle.mdp_subsystem_bounds.specs.{Reading.{outcome}, Spelling.{text_of}}
 use Rattle.mdp_job.specs.Refusal.{no_memory}
 use Rattle.mdp_command.specs.{Files.{most_bytes}, Said.{Said}}
+use Rattle.mdp_command.proofs.TrueClaims.{true_claim_of}
+use Rattle.mdp_command.specs.Kinds.{subsystem_between}
 use Rattle.mdp_command_bounds_search.specs.WitnessDue.{IsAcceptedText, IsBelowSaid, IsEndDue, IsDueAt}
 use Rattle.mdp_command_bounds_search.specs.WitnessLaws.{IsUndecidedAnswer, IsTextAnswer, TextExcludesRefusals, TextIsShown, WitnessTextIsAccepted}
 use Rattle.mdp_command_bounds_search.specs.WitnessShown.{IsBoundsWitnessPrinted}
@@ -54,11 +56,7 @@ text_is_shown back true_of claim m text mdp due = of_names back true_of claim m 
 
 pub text_is_accepted : WitnessTextIsAccepted
 text_is_accepted rule claim model text shown =
-    let p = shown.printed in
-    record {
-      accepted = record { short_model = shown.short; short_cert = p.short; model = shown.model; reads = shown.reads; cert = p.cert; text = p.reads; holds = p.holds };
-      bound = p.bound;
-    }
+    let p = shown.printed in true_claim_of subsystem_between _ rule model text shown p.cert p.short p.reads p.holds p.bound
 
 -- ---- where a text is due
 

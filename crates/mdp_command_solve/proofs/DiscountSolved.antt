@@ -8,6 +8,8 @@ use Rattle.mdp_wide.specs.Term.{WideTerm}
 use Rattle.mdp_discount_rules.specs.{Cert.{Certificate}, Rules.{IsFactor}}
 use Rattle.mdp_discount.specs.{Laws.{HasOneEnd, CanAsk, AnswersMeetRules, AnswersAreBest}, Query.{EndsSo}}
 use Rattle.mdp_command.specs.Said.{Said}
+use Rattle.mdp_command.proofs.TrueClaims.{true_claim_of}
+use Rattle.mdp_command.specs.Kinds.{discounted}
 use Rattle.mdp_command_solve.specs.{DiscountDue.{said_of_end, IsNamedDue}, DiscountLaws.{IsDueOnce, TextIsAccepted, IsAnswerTo, TextIsAnswer}}
 use Rattle.mdp_command_solve.proofs.DiscountPrinting.{answer_of_query}
 
@@ -49,16 +51,4 @@ text_is_answer rules best dir name f m text mdp factor d = at_name rules best di
 
 pub text_is_accepted : TextIsAccepted
 text_is_accepted rule dir name f model text shown =
-    let printed = shown.printed in
-    record {
-      accepted = record {
-        short_model = shown.short;
-        short_cert = printed.short;
-        model = shown.model;
-        reads = shown.reads;
-        cert = printed.cert;
-        text = printed.reads;
-        holds = printed.holds;
-      };
-      bound = printed.bound;
-    }
+    let p = shown.printed in true_claim_of discounted _ rule model text shown p.cert p.short p.reads p.holds p.bound

@@ -20,6 +20,8 @@ use Rattle.mdp_cert.specs.Cert.{PlainClaim}
 use Rattle.mdp_check.specs.Check.{stay_marks, way_by}
 use Rattle.mdp_job.specs.Job.{reach, until, reward, mean}
 use Rattle.mdp_command.specs.{Accepted.{IsTrueClaim}, Said.{Said}, Shown.{IsShownOf}}
+use Rattle.mdp_command.proofs.TrueClaims.{true_claim_of}
+use Rattle.mdp_command.specs.Accepted.{exact}
 use Rattle.mdp_command_solve.specs.Ways.{place_on_way}
 use Rattle.mdp_command_solve.specs.Due.{said_of_end, said_of_reward_end, said_of_mean_end, IsReachDue, IsRewardEnd, IsRewardDue, IsMeanDue}
 use Rattle.mdp_command_solve.specs.Laws.{IsDueOnce, TextIsAccepted, TextIsAnswer, UntilTextIsAnswer, RewardTextIsAnswer, MeanTextIsAnswer}
@@ -170,19 +172,7 @@ mean_text_is_answer rules greatest least dir name m text model d = mean_at rules
 
 claim_is_accepted : (rule : RowRule) (claimed : PlainClaim) (model text : List ℕ) → IsShownOf (IsClaimPrinted claimed) rule model text → IsTrueClaim rule model text
 claim_is_accepted rule claimed model text shown =
-    let printed = shown.printed in
-    record {
-      accepted = record {
-        short_model = shown.short;
-        short_cert = printed.short;
-        model = shown.model;
-        reads = shown.reads;
-        cert = printed.cert;
-        text = printed.reads;
-        holds = printed.holds;
-      };
-      bound = printed.bound;
-    }
+    let p = shown.printed in true_claim_of exact _ rule model text shown p.cert p.short p.reads p.holds p.bound
 
 pub text_is_accepted : TextIsAccepted
 text_is_accepted rule dir (reach label) model text shown = claim_is_accepted rule (certificate.reach dir label) model text shown

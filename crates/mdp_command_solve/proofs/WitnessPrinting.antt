@@ -12,6 +12,8 @@ use Rattle.mdp_check.specs.Check.{stay_marks, way_by, IsAccepted}
 use Rattle.mdp_check.proofs.Accepting.{accepted_is_bound}
 use Rattle.mdp_job.specs.Refusal.{no_memory}
 use Rattle.mdp_command.specs.{Files.{most_bytes}, Said.{Said}}
+use Rattle.mdp_command.proofs.TrueClaims.{true_claim_of}
+use Rattle.mdp_command.specs.Accepted.{exact}
 use Rattle.mdp_witness.specs.Query.{PlainSubsystem, flow, floor, EndsSo}
 use Rattle.mdp_witness.specs.Shown.{kept_of, kept_in, HasShape, Holds, PolicyReaches, IsNeededMax, IsNeededMin, AreNeeded, MarksAreExactMax, MarksAreExactMin}
 use Rattle.mdp_command_solve.specs.{Ways.{goals_by}, WitnessCertificate.{dir_of, certificate_of}, WitnessDue.{IsEndDue}}
@@ -161,16 +163,6 @@ text_due dir stay label threshold m goals start found c said end is (inr e) = in
 
 pub text_is_accepted : TextIsAccepted
 text_is_accepted rule dir stay label threshold model text shown =
-    let printed = shown.printed in
-    record {
-      accepted = record {
-        short_model = shown.short;
-        short_cert = printed.short;
-        model = shown.model;
-        reads = shown.reads;
-        cert = certificate_of dir stay label threshold printed.spells.start shown.model printed.spells.found;
-        text = printed.reads;
-        holds = printed.holds;
-      };
-      bound = printed.bound;
-    }
+    let p = shown.printed in
+    let cert = certificate_of dir stay label threshold p.spells.start shown.model p.spells.found in
+    true_claim_of exact _ rule model text shown cert p.short p.reads p.holds p.bound

@@ -2,10 +2,10 @@ use Rattle.mdp_app.proofs.Answering.{answered, work_done, complete}
 use Rattle.mdp_app.proofs.run.run.Goals as goal
 
 pub returns-clause-answer : goal.returns-clause-answer
-returns-clause-answer g c = answered _ _ _ _ _ _ c.decided-answer.ensures c.written.ensures
+returns-clause-answer g c = answered _ _ _ _ _ _ c.answer_to_words-answer.ensures c.write_answer.ensures
 
 pub returns-clause-done : goal.returns-clause-done
-returns-clause-done g c is = work_done _ _ _ _ _ _ c.decided-answer.ensures.done c.written.ensures is
+returns-clause-done g c is = work_done _ _ _ _ _ _ c.answer_to_words-answer.ensures.done c.write_answer.ensures is
 
 pub returns-clause-complete : goal.returns-clause-complete
 returns-clause-complete g c = complete _ _ _ _ _ (record {

@@ -1,6 +1,6 @@
 use Rattle.std.proofs.Common.{refl}
 use Rattle.mdp_checker.proofs.Running.{words_decided, check_decided}
-use Rattle.mdp_checker.proofs.run.decided.Goals as goal
+use Rattle.mdp_checker.proofs.run.answer_to_words.Goals as goal
 
 pub returns-in-Err : goal.returns-in-Err
 returns-in-Err g c = words_decided _ c.in-Err.error _ _ c.in-Err.ensures refl refl

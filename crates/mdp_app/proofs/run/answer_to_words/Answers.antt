@@ -2,7 +2,7 @@ use Rattle.std.proofs.Common.{refl, sym, ap, ◌∙◌}
 use Rattle.mdp_job.specs.{Job.{plain_job}, declared.job.Job.{Job}}
 use Rattle.mdp_app.specs.InRange.{asked_for}
 use Rattle.mdp_app.proofs.{Deciding.{refused_words, alone_decided, model_decided, pair_decided, decided_as}, InRange.{in_range_of, can_draw_of}}
-use Rattle.mdp_app.proofs.run.decided.Goals as goal
+use Rattle.mdp_app.proofs.run.answer_to_words.Goals as goal
 
 pub returns-in-Err : goal.returns-in-Err
 returns-in-Err g c = refused_words _ c.in-Err.error _ _ c.in-Err.ensures refl refl refl refl
