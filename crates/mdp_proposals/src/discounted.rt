@@ -1,7 +1,7 @@
 //! The search for discounted rewards.
 
 use crate::columns::Sought;
-use crate::ends::{single_nodes, with_picked};
+use crate::ends::single_nodes;
 use crate::layout::{Earning, Layout};
 use crate::proposed::MOST_DIGITS;
 use mdp_num::{Frac, Memory};
@@ -26,7 +26,7 @@ pub struct ProposedDiscount {
 fn limit_of(earning: Earning<'_>, factor: &Frac) -> Option<i128> {
     let (least, greatest) = earning.range();
     let most = greatest.max(least.checked_neg()?);
-    let rest = factor.den().checked_sub(factor.num())?;
+    let rest = factor.den().saturating_sub(factor.num());
     quotient(most.checked_mul(factor.den())?, rest, Bound::Upper)
 }
 
@@ -71,11 +71,11 @@ pub fn propose_discount(
             room,
         },
     };
-    let columns = sought.refined_columns(alloc)?;
     let first = vec![in alloc; 0; states as usize]?;
+    let bounds = sought.bounds(alloc, &first)?;
     Ok(ProposedDiscount {
-        lower: sought.values(alloc, &columns.lower)?,
-        upper: sought.values(alloc, &columns.upper)?,
-        choices: with_picked(alloc, columns.picked(dir), &first)?,
+        lower: bounds.lower,
+        upper: bounds.upper,
+        choices: bounds.choices,
     })
 }
