@@ -1,6 +1,6 @@
 //! Both columns of bounds, the lower and the upper values, each with the most digits for which components can be refined.
 
-use crate::ends::with_picked;
+use crate::ends::put_picked;
 use crate::layout::Layout;
 use crate::proposed::fraction;
 use mdp_num::Frac;
@@ -113,7 +113,7 @@ impl Sought<'_> {
         }
     }
 
-    /// The values of the nodes whose states have a known value, in units of 1 over `one`.
+    /// The values of the nodes whose states have a known value, and of the last one where steps count less, in units of 1 over `one`.
     fn given(self, alloc: Global, one: i128) -> Result<Vec<Value>, AllocError> {
         let nodes = self.layout.nodes;
         let mut given = vec![in alloc; Value::none(); nodes.count() as usize]?;
@@ -125,6 +125,9 @@ impl Sought<'_> {
                     Value::known(known.saturating_mul(one)),
                 );
             }
+        }
+        if self.layout.factor.is_some() {
+            put(&mut given, nodes.count().saturating_sub(1), Value::known(0));
         }
         Ok(given)
     }
@@ -229,7 +232,8 @@ impl Sought<'_> {
         let columns = self.refined_columns(alloc)?;
         let lower = self.values(alloc, &columns.lower)?;
         let upper = self.values(alloc, &columns.upper)?;
-        let choices = with_picked(alloc, columns.picked(self.dir), given)?;
+        let mut choices = given.to_vec(alloc)?;
+        put_picked(&mut choices, columns.picked(self.dir));
         Ok(Bounds {
             lower,
             upper,

@@ -5,7 +5,7 @@ use crate::ends::single_nodes;
 use crate::layout::{Earning, Layout};
 use crate::proposed::MOST_DIGITS;
 use mdp_num::{Frac, Memory};
-use mdp_refinement::{Bound, Scale, Value, digits_of, put, quotient};
+use mdp_refinement::{Bound, Scale, digits_of, quotient};
 use mdp_rows::{Dir, Model};
 use std::alloc::Global;
 
@@ -48,8 +48,6 @@ pub fn propose_discount(
 ) -> Result<ProposedDiscount, Memory> {
     let states = model.states();
     let nodes = single_nodes(alloc, states.saturating_add(1))?;
-    let mut known = vec![in alloc; Value::none(); (states as usize).saturating_add(1)]?;
-    put(&mut known, states, Value::known(0));
     let earning = Earning {
         model,
         name: Some(name),
@@ -59,7 +57,6 @@ pub fn propose_discount(
     let room = digits_of(limit);
     let sought = Sought {
         layout: Layout {
-            known: &known,
             factor: Some(factor),
             ..Layout::new(earning, &nodes)
         },

@@ -36,17 +36,11 @@ pub(crate) fn joined_nodes(
     Nodes::new(alloc, &parts)
 }
 
-/// The given choices, but for those that were picked.
-pub(crate) fn with_picked(
-    alloc: Global,
-    picked: &[Pred],
-    given: &[u32],
-) -> Result<Vec<u32>, AllocError> {
-    let mut choices = given.to_vec(alloc)?;
+/// Puts the choices that were picked to a policy.
+pub(crate) fn put_picked(choices: &mut [u32], picked: &[Pred]) {
     for pick in picked {
-        put(&mut choices, pick.state, pick.choice);
+        put(choices, pick.state, pick.choice);
     }
-    Ok(choices)
 }
 
 /// The states with a picked choice.

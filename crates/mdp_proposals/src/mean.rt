@@ -98,7 +98,6 @@ fn searched(
         return Ok(Found::none(alloc, scale.digits));
     }
     let gains = end_gains(alloc, &rows, &places.components)?;
-    let inner = rows.choices_of(alloc, &gains.picks)?;
     let coarse = coarse_scale(scale);
     let search = Search {
         earning,
@@ -106,7 +105,6 @@ fn searched(
         places,
         rows: &rows,
         gains: &gains,
-        inner: &inner,
         coarse,
         units: power_of_ten(scale.digits.saturating_sub(coarse.digits)),
     };

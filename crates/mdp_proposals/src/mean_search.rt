@@ -3,7 +3,7 @@
 ghost use Rattle.mdp_parts.specs.FoundEnds.{AreEndsOf};
 
 use crate::columns::{Column, column_of};
-use crate::ends::{lead, with_picked};
+use crate::ends::{lead, put_picked};
 use crate::layout::{Earning, Layout};
 use mdp_num::{Frac, Memory};
 use mdp_parts::Ends;
@@ -98,7 +98,7 @@ pub(crate) struct Places {
 }
 
 /// What all steps of a search need: what choices earn, the maximal end components, the rows of all choices, none of which was too wide, what is known of the
-/// gains of end components, the choices that stay in these, and the scale of relative values where they are left, which has so many units for one.
+/// gains of end components, and the scale of relative values where these are left, which has so many units for one.
 #[derive(Clone, Copy)]
 pub(crate) struct Search<'a> {
     pub(crate) earning: Earning<'a>,
@@ -106,7 +106,6 @@ pub(crate) struct Search<'a> {
     pub(crate) places: &'a Places,
     pub(crate) rows: &'a Rows,
     pub(crate) gains: &'a EndGains,
-    pub(crate) inner: &'a [u32],
     pub(crate) coarse: Scale,
     pub(crate) units: i128,
 }
@@ -170,7 +169,7 @@ impl<'a> Search<'a> {
     fn spread(self, alloc: Global, values: &[Value]) -> Result<Vec<i128>, AllocError> {
         let least = extreme(&self.gains.lower, Bound::Lower);
         let greatest = extreme(&self.gains.upper, Bound::Upper);
-        let mut spread = vec![in alloc; 0i128; self.inner.len()]?;
+        let mut spread = vec![in alloc; 0i128; self.gains.picks.len()]?;
         for s in 0..self.earning.model.states() {
             let gain = value_at(values, self.places.nodes.of(s)).unwrap_or(least);
             put(&mut spread, s, gain.max(least).min(greatest));
@@ -293,7 +292,7 @@ impl<'a> Search<'a> {
         for pick in picked {
             put(&mut of_nodes, nodes.of(pick.state), Value::none());
         }
-        let mut staying = vec![in alloc; Value::none(); self.inner.len()]?;
+        let mut staying = vec![in alloc; Value::none(); self.gains.picks.len()]?;
         for s in 0..self.earning.model.states() {
             if item_at(&self.gains.picks, s as usize, None).is_some() {
                 put(
@@ -310,20 +309,25 @@ impl<'a> Search<'a> {
     fn policy(self, alloc: Global, picked: &[Pred]) -> Result<Vec<u32>, Memory>
         requires { AreEndsOf self.earning.model.now self.ends.now }
     {
-        let mut choices = with_picked(alloc, picked, self.inner)?;
+        let mut choices = self.rows.choices_of(alloc, &self.gains.picks)?;
+        put_picked(&mut choices, picked);
         lead(alloc, self.earning.model, self.ends, picked, &mut choices)?;
         Ok(choices)
     }
 
-    /// The lower gains with their relative values, on the rows of a policy that comes to them.
-    fn lower(self, alloc: Global, below: &Column, policy: &[u32]) -> Result<Gains, AllocError> {
+    /// Puts to what was found the policy that comes to the lower gains, and these with their relative values on its rows.
+    fn put_lower(self, alloc: Global, below: &Column, found: &mut Found) -> Result<(), Memory>
+        requires { AreEndsOf self.earning.model.now self.ends.now }
+    {
+        found.choices = self.policy(alloc, &below.picked)?;
         let staying = self.staying(alloc, &below.picked)?;
         let layout = Layout {
-            policy: Some(policy),
+            policy: Some(&found.choices),
             known: &staying,
             ..Layout::new(self.earning, &self.places.states)
         };
-        self.gains(alloc, &below.solution.values, layout, Bound::Lower)
+        found.lower = self.gains(alloc, &below.solution.values, layout, Bound::Lower)?;
+        Ok(())
     }
 
     /// Upper and lower gains of all states, which have this scale.
@@ -334,15 +338,15 @@ impl<'a> Search<'a> {
         let below = self.node_gains(alloc, scale, Bound::Lower, Some(&above.solution))?;
         let leaving = Layout::new(self.earning, &self.places.nodes);
         let upper = self.gains(alloc, &above.solution.values, leaving, Bound::Upper)?;
-        let choices = self.policy(alloc, &below.picked)?;
-        let lower = self.lower(alloc, &below, &choices)?;
-        Ok(Found {
+        let mut found = Found {
             upper,
-            lower,
-            choices,
+            lower: Gains::none(alloc),
+            choices: Vec::new(alloc),
             digits: scale.digits,
             width: Frac::try_new(self.gains.width, self.rows.one()).ok(),
             is_near: self.gains.is_near,
-        })
+        };
+        self.put_lower(alloc, &below, &mut found)?;
+        Ok(found)
     }
 }

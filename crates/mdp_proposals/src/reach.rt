@@ -5,7 +5,7 @@ ghost use Rattle.mdp_spec.specs.Mdp.{states_of};
 
 use crate::columns::{Columns, Sought};
 use crate::decided::{Decided, decide};
-use crate::ends::{joined_nodes, lead, single_nodes, with_picked};
+use crate::ends::{joined_nodes, lead, put_picked, single_nodes};
 use crate::layout::{Earning, Layout};
 use crate::proposed::MOST_DIGITS;
 use crate::ranks::{min_ranks, put_ranks};
@@ -94,11 +94,13 @@ fn proposed(
     columns: &Columns,
     given: &[u32],
 ) -> Result<ProposedReach, AllocError> {
+    let mut choices = given.to_vec(alloc)?;
+    put_picked(&mut choices, columns.picked(sought.dir));
     Ok(ProposedReach {
         one: columns.lower.one,
         lower: sought.units(alloc, &columns.lower)?,
         upper: sought.units(alloc, &columns.upper)?,
-        choices: with_picked(alloc, columns.picked(sought.dir), given)?,
+        choices,
         ranks: Vec::new(alloc),
     })
 }
