@@ -229,10 +229,10 @@ impl Sought<'_> {
 
     /// Both bounds of the states, each with the digits for which it can be refined, and the given choices, but for those that were picked.
     pub(crate) fn bounds(self, alloc: Global, given: &[u32]) -> Result<Bounds, AllocError> {
+        let mut choices = given.to_vec(alloc)?;
         let columns = self.refined_columns(alloc)?;
         let lower = self.values(alloc, &columns.lower)?;
         let upper = self.values(alloc, &columns.upper)?;
-        let mut choices = given.to_vec(alloc)?;
         put_picked(&mut choices, columns.picked(self.dir));
         Ok(Bounds {
             lower,

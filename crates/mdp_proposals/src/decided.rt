@@ -9,8 +9,7 @@ use mdp_refinement::{Value, put};
 use mdp_rows::{Dir, Marks, Model};
 use std::alloc::Global;
 
-/// What the graph alone decides: the value of each state where it is 0 or 1 by it, whether that is each state, and choices that bring it about where that takes
-/// a policy.
+/// What the graph alone decides: the values that are 0 or 1 by it, whether these are all, and choices that bring them about where that takes a policy.
 #[derive(Drop)]
 pub(crate) struct Decided {
     pub(crate) known: Vec<Value>,
@@ -43,19 +42,20 @@ pub(crate) fn decide(
     let first = first_of(alloc, model, goals, dir)?;
     let reaching = may_reach(alloc, model, &first.marks, goals)?;
     let value = if dir == Dir::Max { 1 } else { 0 };
-    let mut decided = Decided {
-        known: vec![in alloc; Value::none(); model.states() as usize]?,
-        is_all: true,
-        choices: first.choices,
-    };
+    let mut known = vec![in alloc; Value::none(); model.states() as usize]?;
+    let mut is_all = true;
     for s in 0..model.states() {
         if first.marks.at(s) {
-            put(&mut decided.known, s, Value::known(value));
+            put(&mut known, s, Value::known(value));
         } else if reaching.marks.at(s) {
-            decided.is_all = false;
+            is_all = false;
         } else {
-            put(&mut decided.known, s, Value::known(1 - value));
+            put(&mut known, s, Value::known(1 - value));
         }
     }
-    Ok(decided)
+    Ok(Decided {
+        known,
+        is_all,
+        choices: first.choices,
+    })
 }

@@ -2,6 +2,7 @@
 
 ghost use Rattle.std.specs.Prelude.{◌≡◌, length};
 ghost use Rattle.mdp_spec.specs.Mdp.{states_of};
+ghost use Rattle.mdp_parts.specs.FoundEnds.{AreEndsOf};
 
 use crate::columns::{Columns, Sought};
 use crate::decided::{Decided, decide};
@@ -10,7 +11,7 @@ use crate::layout::{Earning, Layout};
 use crate::proposed::MOST_DIGITS;
 use crate::ranks::{min_ranks, put_ranks};
 use mdp_num::Memory;
-use mdp_parts::end_components;
+use mdp_parts::{Ends, end_components};
 use mdp_refinement::{Nodes, Scale, Value, item_at, put};
 use mdp_rows::{Dir, Marks, Model};
 use std::alloc::{AllocError, Global};
@@ -36,11 +37,11 @@ impl ProposedReach {
     ) -> Result<bool, AllocError>
         requires { length goals.now ≡ states_of model.now }
     {
+        self.ranks = vec![in alloc; 0; self.choices.len()]?;
         let mut is_zero = vec![in alloc; false; self.lower.len()]?;
         for s in 0..model.states() {
             put(&mut is_zero, s, item_at(&self.lower, s as usize, 0) == 0);
         }
-        self.ranks = vec![in alloc; 0; self.choices.len()]?;
         put_ranks(
             alloc,
             model,
@@ -123,16 +124,18 @@ fn single(
 fn joined(
     alloc: Global,
     model: &Model,
+    ends: &Ends,
     decided: &Decided,
     digits: u32,
-) -> Result<ProposedReach, Memory> {
-    let ends = end_components(alloc, model)?;
-    let nodes = joined_nodes(alloc, model, &ends, &decided.known)?;
+) -> Result<ProposedReach, Memory>
+    requires { AreEndsOf model.now ends.now }
+{
+    let nodes = joined_nodes(alloc, model, ends, &decided.known)?;
     let sought = sought_of(model, &decided.known, &nodes, Dir::Max, digits);
     let columns = sought.columns(alloc, true)?;
     let mut near = proposed(alloc, sought, &columns, &decided.choices)?;
     let picked = columns.picked(Dir::Max);
-    lead(alloc, model, &ends, picked, &mut near.choices)?;
+    lead(alloc, model, ends, picked, &mut near.choices)?;
     Ok(near)
 }
 
@@ -149,7 +152,8 @@ fn greatest(
     let mut near = if decided.is_all {
         single(alloc, model, &decided, Dir::Max, digits)?
     } else {
-        joined(alloc, model, &decided, digits)?
+        let ends = end_components(alloc, model)?;
+        joined(alloc, model, &ends, &decided, digits)?
     };
     if !near.take_ranks(alloc, model, goals)? {
         near.forget_lower();

@@ -64,15 +64,14 @@ fn proposed(bounds: Bounds, ranks: Vec<u32>) -> ProposedReward {
     }
 }
 
-/// Bounds of the least rewards with ranks along their policy. Where that misses the goals it is the one to begin with, and no upper value is known but that of
-/// goals.
+/// Bounds of the least rewards with ranks. Where their policy misses the goals it is the one to begin with, and no upper value is known but that of goals.
 fn with_ranks(
     alloc: Global,
     layout: Layout<'_>,
     bounds: Bounds,
     goals: &Marks,
     start: Start,
-) -> Result<ProposedReward, AllocError>
+) -> Result<ProposedReward, Memory>
     requires { length goals.now ≡ states_of layout.earning.model.now }
 {
     let (model, barred) = (layout.earning.model, layout.is_barred);
@@ -108,13 +107,17 @@ fn on_ends(
     Sought { layout, ..sought }.bounds(alloc, given)
 }
 
-/// Bounds of the least rewards where the states of an end component by choices of reward 0 share one value.
-fn joined(alloc: Global, sought: Sought<'_>, given: &[u32]) -> Result<Bounds, Memory> {
-    let free = sought.layout.free_model(alloc)?;
-    let ends = end_components(alloc, &free)?;
-    let mut bounds = on_ends(alloc, sought, &free, &ends, given)?;
+/// Bounds of the least rewards where the states of an end component of the model of free choices share one value.
+fn joined(
+    alloc: Global,
+    sought: Sought<'_>,
+    free: &Model,
+    given: &[u32],
+) -> Result<Bounds, Memory> {
+    let ends = end_components(alloc, free)?;
+    let mut bounds = on_ends(alloc, sought, free, &ends, given)?;
     let picked = bounds.columns.picked(sought.dir);
-    lead(alloc, &free, &ends, picked, &mut bounds.choices)?;
+    lead(alloc, free, &ends, picked, &mut bounds.choices)?;
     Ok(bounds)
 }
 
@@ -128,11 +131,12 @@ fn least(
     requires { length goals.now ≡ states_of sought.layout.earning.model.now }
 {
     let bounds = if sought.layout.has_free() {
-        joined(alloc, sought, &start.policy)?
+        let free = sought.layout.free_model(alloc)?;
+        joined(alloc, sought, &free, &start.policy)?
     } else {
         sought.bounds(alloc, &start.policy)?
     };
-    Ok(with_ranks(alloc, sought.layout, bounds, goals, start)?)
+    with_ranks(alloc, sought.layout, bounds, goals, start)
 }
 
 /// Bounds of the greatest rewards. No choice of a state of finite reward leads to one of infinite reward, and no end component is among these states but for

@@ -66,14 +66,8 @@ fn simplest_from(lower: Terms, upper: Terms) -> Option<Frac> {
         }
         before = last;
         last = convergent;
-        let reciprocal = Terms {
-            num: low.den,
-            den: rest,
-        };
-        low = Terms {
-            num: high.den,
-            den: over,
-        };
+        let reciprocal = Terms::new(low.den, rest);
+        low = Terms::new(high.den, over);
         high = reciprocal;
     }
     None
