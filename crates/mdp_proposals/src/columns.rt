@@ -1,5 +1,6 @@
 //! Both columns of bounds, the lower and the upper values, each with the most digits for which components can be refined.
 
+use crate::ends::put_picked;
 use crate::layout::Layout;
 use crate::proposed::fraction;
 use mdp_num::Frac;
@@ -9,8 +10,8 @@ use mdp_refinement::{
 use mdp_rows::{Dir, Pred};
 use std::alloc::{AllocError, Global};
 
-/// How many digits fewer are tried for a bound, one after the other.
-const FEWER_DIGITS: [u32; 11] = [1, 3, 6, 9, 12, 15, 18, 21, 24, 27, 30];
+/// How often fewer digits are tried for a bound: first 1 fewer, then 3, 6, 9 and so on.
+const MOST_TRIES: u32 = 11;
 
 /// What is sought: the best values of nodes, which lie from the least to the greatest number, where there are such. Where values beyond these are put to them,
 /// the rules hold as before.
@@ -27,9 +28,8 @@ pub(crate) struct Sought<'a> {
 #[derive(Drop)]
 pub(crate) struct Column {
     pub(crate) one: i128,
-    pub(crate) values: Vec<Value>,
+    pub(crate) solution: Solution,
     pub(crate) picked: Vec<Pred>,
-    is_full: bool,
 }
 
 /// Both bounds.
@@ -39,8 +39,17 @@ pub(crate) struct Columns {
     pub(crate) upper: Column,
 }
 
+/// Both bounds as values of the states, a policy, and the columns that these are taken from.
+#[derive(Drop)]
+pub(crate) struct Bounds {
+    pub(crate) lower: Vec<Option<Frac>>,
+    pub(crate) upper: Vec<Option<Frac>>,
+    pub(crate) choices: Vec<u32>,
+    pub(crate) columns: Columns,
+}
+
 /// The choices of the rows that were picked, but for those that stop.
-pub(crate) fn picked_choices(
+fn picked_choices(
     alloc: Global,
     rows: &Rows,
     picks: &[Option<usize>],
@@ -56,6 +65,33 @@ pub(crate) fn picked_choices(
         }
     }
     Ok(picked)
+}
+
+/// What the search comes to on rows, by what was found for the other bound on the same rows.
+pub(crate) fn column_of(
+    alloc: Global,
+    rows: &Rows,
+    given: &[Value],
+    task: Task,
+    other: Option<&Solution>,
+) -> Result<Column, AllocError> {
+    let solution = solve(alloc, rows, given, task, other)?;
+    Ok(Column {
+        one: rows.one(),
+        picked: picked_choices(alloc, rows, &solution.picks)?,
+        solution,
+    })
+}
+
+impl Column {
+    /// What the search for the other bound begins with.
+    fn start(&self, to_end: bool) -> Option<&Solution> {
+        if to_end || self.solution.is_full {
+            Some(&self.solution)
+        } else {
+            None
+        }
+    }
 }
 
 impl Columns {
@@ -77,7 +113,7 @@ impl Sought<'_> {
         }
     }
 
-    /// The values of the nodes whose states have a known value, in units of 1 over `one`.
+    /// The values of the nodes whose states have a known value, and of the last one where steps count less, in units of 1 over `one`.
     fn given(self, alloc: Global, one: i128) -> Result<Vec<Value>, AllocError> {
         let nodes = self.layout.nodes;
         let mut given = vec![in alloc; Value::none(); nodes.count() as usize]?;
@@ -90,19 +126,22 @@ impl Sought<'_> {
                 );
             }
         }
+        if self.layout.factor.is_some() {
+            put(&mut given, nodes.count().saturating_sub(1), Value::known(0));
+        }
         Ok(given)
     }
 
     /// Solves for one bound, by what was found for the other on the same rows. It ends with the first component that can't be refined, unless it is to go to
     /// the end.
-    fn solved(
+    fn column(
         self,
         alloc: Global,
         rows: &Rows,
         bound: Bound,
         to_end: bool,
         other: Option<&Solution>,
-    ) -> Result<Solution, AllocError> {
+    ) -> Result<Column, AllocError> {
         let one = rows.one();
         let task = Task {
             is_max: self.dir == Dir::Max,
@@ -110,62 +149,55 @@ impl Sought<'_> {
             anyway: self.limit(bound, one),
             to_end,
         };
-        solve(alloc, rows, &self.given(alloc, one)?, task, other)
+        column_of(alloc, rows, &self.given(alloc, one)?, task, other)
     }
 
     /// The same bound with the most digits, fewer than those of the scale, for which all components can be refined; else as far as the search goes with those of
     /// the scale. Where fewer digits are tried there is at least as much room before the point as digits are left out.
     fn coarser(self, alloc: Global, bound: Bound) -> Result<Column, AllocError> {
-        for fewer in FEWER_DIGITS {
+        for tried in 0..MOST_TRIES {
+            let fewer = tried.saturating_mul(3).max(1);
             let scale = Scale {
                 digits: self.scale.digits.saturating_sub(fewer),
                 room: self.scale.room.max(fewer),
             };
             let rows = self.layout.rows(alloc, scale)?;
-            let solution = self.solved(alloc, &rows, bound, false, None)?;
-            if solution.is_full {
-                return Column::of(alloc, &rows, solution);
+            let column = self.column(alloc, &rows, bound, false, None)?;
+            if column.solution.is_full {
+                return Ok(column);
             }
             if scale.digits == 0 {
                 break;
             }
         }
         let rows = self.layout.rows(alloc, self.scale)?;
-        let solution = self.solved(alloc, &rows, bound, true, None)?;
-        Column::of(alloc, &rows, solution)
+        self.column(alloc, &rows, bound, true, None)
     }
 
     /// Both bounds with the digits of the scale, as far as the search goes with them.
     pub(crate) fn columns(self, alloc: Global, to_end: bool) -> Result<Columns, AllocError> {
         let rows = self.layout.rows(alloc, self.scale)?;
-        let lower = self.solved(alloc, &rows, Bound::Lower, to_end, None)?;
-        let other = if lower.is_full || to_end {
-            Some(&lower)
-        } else {
-            None
-        };
-        let upper = self.solved(alloc, &rows, Bound::Upper, to_end, other)?;
-        Ok(Columns {
-            lower: Column::of(alloc, &rows, lower)?,
-            upper: Column::of(alloc, &rows, upper)?,
-        })
+        let lower = self.column(alloc, &rows, Bound::Lower, to_end, None)?;
+        let other = lower.start(to_end);
+        let upper = self.column(alloc, &rows, Bound::Upper, to_end, other)?;
+        Ok(Columns { lower, upper })
     }
 
     /// Each bound with the digits of the scale, or with fewer where components can't be refined with these.
-    pub(crate) fn refined_columns(self, alloc: Global) -> Result<Columns, AllocError> {
+    fn refined_columns(self, alloc: Global) -> Result<Columns, AllocError> {
         let mut columns = self.columns(alloc, false)?;
-        if !columns.lower.is_full {
+        if !columns.lower.solution.is_full {
             columns.lower = self.coarser(alloc, Bound::Lower)?;
         }
-        if !columns.upper.is_full {
+        if !columns.upper.solution.is_full {
             columns.upper = self.coarser(alloc, Bound::Upper)?;
         }
         Ok(columns)
     }
 
     /// The value of a state in units of 1 over `one` of the column, put within the limits; none where none was found.
-    pub(crate) fn units_at(self, column: &Column, state: u32) -> Option<i128> {
-        let value = value_at(&column.values, self.layout.nodes.of(state))?;
+    fn units_at(self, column: &Column, state: u32) -> Option<i128> {
+        let value = value_at(&column.solution.values, self.layout.nodes.of(state))?;
         let least = self.limit(Bound::Lower, column.one).unwrap_or(i128::MIN);
         let greatest = self.limit(Bound::Upper, column.one).unwrap_or(i128::MAX);
         Some(value.max(least).min(greatest))
@@ -182,11 +214,7 @@ impl Sought<'_> {
     }
 
     /// The values of the states that aren't barred; none where none was found.
-    pub(crate) fn values(
-        self,
-        alloc: Global,
-        column: &Column,
-    ) -> Result<Vec<Option<Frac>>, AllocError> {
+    fn values(self, alloc: Global, column: &Column) -> Result<Vec<Option<Frac>>, AllocError> {
         let states = self.layout.earning.model.states();
         let mut values = vec![in alloc; None; states as usize]?;
         for s in 0..states {
@@ -198,17 +226,19 @@ impl Sought<'_> {
         }
         Ok(values)
     }
-}
 
-impl Column {
-    /// What a solution on these rows says.
-    fn of(alloc: Global, rows: &Rows, solution: Solution) -> Result<Column, AllocError> {
-        let picked = picked_choices(alloc, rows, &solution.picks)?;
-        Ok(Column {
-            one: rows.one(),
-            values: solution.values,
-            picked,
-            is_full: solution.is_full,
+    /// Both bounds of the states, each with the digits for which it can be refined, and the given choices, but for those that were picked.
+    pub(crate) fn bounds(self, alloc: Global, given: &[u32]) -> Result<Bounds, AllocError> {
+        let mut choices = given.to_vec(alloc)?;
+        let columns = self.refined_columns(alloc)?;
+        let lower = self.values(alloc, &columns.lower)?;
+        let upper = self.values(alloc, &columns.upper)?;
+        put_picked(&mut choices, columns.picked(self.dir));
+        Ok(Bounds {
+            lower,
+            upper,
+            choices,
+            columns,
         })
     }
 }

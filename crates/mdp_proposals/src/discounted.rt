@@ -1,11 +1,11 @@
 //! The search for discounted rewards.
 
 use crate::columns::Sought;
-use crate::ends::{single_nodes, with_picked};
+use crate::ends::single_nodes;
 use crate::layout::{Earning, Layout};
 use crate::proposed::MOST_DIGITS;
 use mdp_num::{Frac, Memory};
-use mdp_refinement::{Bound, Scale, Value, digits_of, put, quotient};
+use mdp_refinement::{Bound, Scale, digits_of, quotient};
 use mdp_rows::{Dir, Model};
 use std::alloc::Global;
 
@@ -26,7 +26,7 @@ pub struct ProposedDiscount {
 fn limit_of(earning: Earning<'_>, factor: &Frac) -> Option<i128> {
     let (least, greatest) = earning.range();
     let most = greatest.max(least.checked_neg()?);
-    let rest = factor.den().checked_sub(factor.num())?;
+    let rest = factor.den().saturating_sub(factor.num());
     quotient(most.checked_mul(factor.den())?, rest, Bound::Upper)
 }
 
@@ -48,8 +48,6 @@ pub fn propose_discount(
 ) -> Result<ProposedDiscount, Memory> {
     let states = model.states();
     let nodes = single_nodes(alloc, states.saturating_add(1))?;
-    let mut known = vec![in alloc; Value::none(); (states as usize).saturating_add(1)]?;
-    put(&mut known, states, Value::known(0));
     let earning = Earning {
         model,
         name: Some(name),
@@ -59,7 +57,6 @@ pub fn propose_discount(
     let room = digits_of(limit);
     let sought = Sought {
         layout: Layout {
-            known: &known,
             factor: Some(factor),
             ..Layout::new(earning, &nodes)
         },
@@ -71,11 +68,11 @@ pub fn propose_discount(
             room,
         },
     };
-    let columns = sought.refined_columns(alloc)?;
     let first = vec![in alloc; 0; states as usize]?;
+    let bounds = sought.bounds(alloc, &first)?;
     Ok(ProposedDiscount {
-        lower: sought.values(alloc, &columns.lower)?,
-        upper: sought.values(alloc, &columns.upper)?,
-        choices: with_picked(alloc, columns.picked(dir), &first)?,
+        lower: bounds.lower,
+        upper: bounds.upper,
+        choices: bounds.choices,
     })
 }

@@ -36,17 +36,11 @@ pub(crate) fn joined_nodes(
     Nodes::new(alloc, &parts)
 }
 
-/// The given choices, but for those that were picked.
-pub(crate) fn with_picked(
-    alloc: Global,
-    picked: &[Pred],
-    given: &[u32],
-) -> Result<Vec<u32>, AllocError> {
-    let mut choices = given.to_vec(alloc)?;
+/// Puts the choices that were picked to a policy.
+pub(crate) fn put_picked(choices: &mut [u32], picked: &[Pred]) {
     for pick in picked {
-        put(&mut choices, pick.state, pick.choice);
+        put(choices, pick.state, pick.choice);
     }
-    Ok(choices)
 }
 
 /// The states with a picked choice.
@@ -63,28 +57,27 @@ fn exits_of(alloc: Global, states: u32, picked: &[Pred]) -> Result<Marks, AllocE
     Ok(Marks::from_values(is_exit))
 }
 
-/// The given choices, but for those that were picked, and for those by which the other states of an end component come to a state with such a one.
-pub(crate) fn led_policy(
+/// Puts to a policy the choices by which the states of an end component come to a state with a picked choice.
+pub(crate) fn lead(
     alloc: Global,
     model: &Model,
     ends: &Ends,
     picked: &[Pred],
-    given: &[u32],
-) -> Result<Vec<u32>, Memory>
+    choices: &mut [u32],
+) -> Result<(), Memory>
     requires { AreEndsOf model.now ends.now }
 {
-    let mut choices = with_picked(alloc, picked, given)?;
     if picked.is_empty() {
-        return Ok(choices);
+        return Ok(());
     }
     let exits = exits_of(alloc, model.states(), picked)?;
     let inward = toward_targets(alloc, model, ends, &exits)?;
     for s in 0..model.states() {
         if inward.marks.at(s) && !exits.at(s) {
-            put(&mut choices, s, number_at(&inward.choices, s));
+            put(choices, s, number_at(&inward.choices, s));
         }
     }
-    Ok(choices)
+    Ok(())
 }
 
 /// Gives the open state of a builder a choice that stays and earns nothing.
@@ -113,12 +106,22 @@ impl Layout<'_> {
     fn has_free_at(self, s: u32) -> bool
         requires { s < states_of self.earning.model.now }
     {
-        (0..self.earning.model.choices(s)).any(|c| self.is_free(s, c))
+        for c in 0..self.earning.model.choices(s) {
+            if self.is_free(s, c) {
+                return true;
+            }
+        }
+        false
     }
 
     /// Whether some choice earns nothing.
     pub(crate) fn has_free(self) -> bool {
-        (0..self.earning.model.states()).any(|s| self.has_free_at(s))
+        for s in 0..self.earning.model.states() {
+            if self.has_free_at(s) {
+                return true;
+            }
+        }
+        false
     }
 
     /// Gives a builder a choice of a state, if it earns nothing, and else a loop.

@@ -61,6 +61,16 @@ impl Earning<'_> {
     }
 }
 
+/// Whether one of these places has a flag.
+fn has_flag(flags: &[bool], places: &[u32]) -> bool {
+    for place in places {
+        if flag_at(flags, *place) {
+            return true;
+        }
+    }
+    false
+}
+
 /// How the choices of a model become rows of nodes. A state whose value is known has no row, and none leads to a barred state. Where there is a policy it alone has
 /// rows; where there is a factor a step later counts so many times as much, and what it counts less goes to the last node. A row that stays in its node is one
 /// only where such rows are kept. Before the rows of a node comes one that stops with the value of its first state, if that has one.
@@ -97,7 +107,7 @@ impl<'a> Layout<'a> {
             Some(policy) => number_at(policy, row.state) == row.choice,
             None => true,
         };
-        is_chosen && !row.targets.iter().any(|t| flag_at(self.is_barred, *t))
+        is_chosen && !has_flag(self.is_barred, row.targets)
     }
 
     /// Appends the row of a choice.
@@ -114,10 +124,16 @@ impl<'a> Layout<'a> {
     }
 
     /// Appends the rows of a state.
-    fn push_state(self, rows: &mut Rows, s: u32) -> Result<(), AllocError>
-        requires { s < states_of self.earning.model.now }
-    {
+    fn push_state(self, rows: &mut Rows, s: u32) -> Result<(), AllocError> {
+        if rows.go_to(self.nodes.of(s))? {
+            if let Some(value) = value_at(self.stops, s) {
+                rows.push_stop(s, 0, value)?;
+            }
+        }
         let model = self.earning.model;
+        if s >= model.states() || !self.is_open(s) {
+            return Ok(());
+        }
         for c in 0..model.choices(s) {
             let row = choice_row(model, s, c);
             if self.takes(row) {
@@ -138,14 +154,7 @@ impl<'a> Layout<'a> {
         let choices = model.all_choices() as usize;
         let mut rows = Rows::with_capacity(alloc, self.nodes.count(), choices, choices, scale)?;
         for s in self.nodes.order() {
-            if rows.go_to(self.nodes.of(*s))? {
-                if let Some(value) = value_at(self.stops, *s) {
-                    rows.push_stop(*s, 0, value)?;
-                }
-            }
-            if *s < model.states() && self.is_open(*s) {
-                self.push_state(&mut rows, *s)?;
-            }
+            self.push_state(&mut rows, *s)?;
         }
         rows.fit();
         Ok(rows)

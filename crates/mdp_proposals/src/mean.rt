@@ -6,7 +6,7 @@ ghost use Rattle.mdp_parts.specs.FoundEnds.{AreEndsOf};
 
 use crate::ends::{joined_nodes, single_nodes};
 use crate::layout::{Earning, Layout};
-use crate::mean_search::{Column, Found, Places, Search, coarse_scale};
+use crate::mean_search::{Found, Gains, Places, Search, coarse_scale};
 use crate::proposed::{MOST_DIGITS, fraction};
 use mdp_num::{Frac, Memory};
 use mdp_parts::{Ends, end_components};
@@ -37,11 +37,12 @@ pub struct ProposedMean {
     pub spread: Frac,
 }
 
-/// Appends the edges of a state that its choices inside its end component have.
-fn push_edges(graph: &mut Graph, model: &Model, ends: &Ends, s: u32) -> Result<(), AllocError>
+/// Appends a state with the edges that its choices inside its end component have.
+fn push_state(graph: &mut Graph, model: &Model, ends: &Ends, s: u32) -> Result<(), AllocError>
     requires state { s < states_of model.now }
     requires ends { AreEndsOf model.now ends.now }
 {
+    graph.push_node()?;
     for c in 0..model.choices(s) {
         if ends.inside(s, c) {
             for target in model.row(s, c).targets {
@@ -59,11 +60,21 @@ fn components_of(alloc: Global, model: &Model, ends: &Ends) -> Result<Components
     let mut graph = Graph::empty(alloc);
     let mut is_inside = vec![in alloc; false; model.states() as usize]?;
     for s in 0..model.states() {
-        graph.push_node()?;
         put(&mut is_inside, s, ends.of(s).is_some());
-        push_edges(&mut graph, model, ends, s)?;
+        push_state(&mut graph, model, ends, s)?;
     }
     strong_components(alloc, &graph, &is_inside)
+}
+
+/// The nodes and the end components.
+fn places_of(alloc: Global, model: &Model, ends: &Ends) -> Result<Places, AllocError>
+    requires { AreEndsOf model.now ends.now }
+{
+    Ok(Places {
+        nodes: joined_nodes(alloc, model, ends, &[])?,
+        states: single_nodes(alloc, model.states())?,
+        components: components_of(alloc, model, ends)?,
+    })
 }
 
 /// What a search comes to with relative values of this scale, and gains that need so many digits before the point.
@@ -87,7 +98,6 @@ fn searched(
         return Ok(Found::none(alloc, scale.digits));
     }
     let gains = end_gains(alloc, &rows, &places.components)?;
-    let inner = rows.choices_of(alloc, &gains.picks)?;
     let coarse = coarse_scale(scale);
     let search = Search {
         earning,
@@ -95,7 +105,6 @@ fn searched(
         places,
         rows: &rows,
         gains: &gains,
-        inner: &inner,
         coarse,
         units: power_of_ten(scale.digits.saturating_sub(coarse.digits)),
     };
@@ -105,16 +114,11 @@ fn searched(
 
 /// What the search comes to that finds the nearest bounds, the first one that finds them near enough. Gains need so many digits before the point.
 fn nearest(alloc: Global, earning: Earning<'_>, room: u32, digits: u32) -> Result<Found, Memory> {
-    let model = earning.model;
-    let ends = end_components(alloc, model)?;
-    let places = Places {
-        nodes: joined_nodes(alloc, model, &ends, &[])?,
-        states: single_nodes(alloc, model.states())?,
-        components: components_of(alloc, model, &ends)?,
-    };
+    let ends = end_components(alloc, earning.model)?;
+    let places = places_of(alloc, earning.model, &ends)?;
     let mut best = Found::none(alloc, digits);
-    for more in MORE_DIGITS {
-        let wider = room.saturating_add(more);
+    for place in 0..MORE_DIGITS.len() {
+        let wider = room.saturating_add(MORE_DIGITS[place]);
         let scale = Scale {
             digits: digits.min(MOST_ROOM.saturating_sub(wider)),
             room: wider,
@@ -139,24 +143,21 @@ fn turn(values: &mut [i128], dir: Dir) {
     }
 }
 
-/// The gains that were found, for this direction; else one that holds anyway, with relative values 0.
-fn column_of(
+/// Puts gains in place that hold anyway, with relative values 0, where none were found, and turns all for the least mean payoff.
+fn settle(
     alloc: Global,
+    found: &mut Gains,
     states: u32,
     dir: Dir,
-    found: Option<Column>,
     anyway: i128,
-) -> Result<Column, AllocError> {
-    let mut column = match found {
-        Some(column) => column,
-        None => Column {
-            gains: vec![in alloc; anyway; states as usize]?,
-            relative: vec![in alloc; 0i128; states as usize]?,
-        },
-    };
-    turn(&mut column.gains, dir);
-    turn(&mut column.relative, dir);
-    Ok(column)
+) -> Result<(), AllocError> {
+    if !found.is_found {
+        found.gains = vec![in alloc; anyway; states as usize]?;
+        found.relative = vec![in alloc; 0i128; states as usize]?;
+    }
+    turn(&mut found.gains, dir);
+    turn(&mut found.relative, dir);
+    Ok(())
 }
 
 /// The greatest value less the least.
@@ -193,9 +194,10 @@ pub fn propose_mean(
     let mut best = nearest(alloc, earning, room, digits.min(MOST_DIGITS))?;
     let (one, states) = (power_of_ten(best.digits), model.states());
     let most = greatest.saturating_mul(one);
-    let upper = column_of(alloc, states, dir, best.upper.take(), most)?;
+    settle(alloc, &mut best.upper, states, dir, most)?;
     let fewest = least.saturating_mul(one);
-    let lower = column_of(alloc, states, dir, best.lower.take(), fewest)?;
+    settle(alloc, &mut best.lower, states, dir, fewest)?;
+    let (upper, lower) = (best.upper, best.lower);
     let spread = fraction(width(&upper.relative).max(width(&lower.relative)), one);
     let mut proposed = ProposedMean {
         digits: best.digits,

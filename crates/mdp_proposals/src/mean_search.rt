@@ -2,14 +2,14 @@
 
 ghost use Rattle.mdp_parts.specs.FoundEnds.{AreEndsOf};
 
-use crate::columns::picked_choices;
-use crate::ends::led_policy;
+use crate::columns::{Column, column_of};
+use crate::ends::{lead, put_picked};
 use crate::layout::{Earning, Layout};
 use mdp_num::{Frac, Memory};
 use mdp_parts::Ends;
 use mdp_refinement::{
-    Bound, Components, EndGains, Nodes, Rows, Scale, Solution, Task, Value, WholeRow, flag_at,
-    item_at, put, quotient, solve, value_at,
+    Bound, Components, EndGains, Nodes, Rows, Scale, Solution, Task, Value, WholeRow, item_at, put,
+    quotient, solve, value_at,
 };
 use mdp_rows::Pred;
 use std::alloc::{AllocError, Global};
@@ -18,23 +18,35 @@ use std::cmp::Ordering;
 /// How many digits behind the point relative values have at least where end components are left, if gains have as many.
 const FEW_DIGITS: u32 = 8;
 
-/// Gains of one bound, and the relative values that go with them, of each state in units.
+/// Gains of one bound, and the relative values that go with them, of each state in units, and whether these are found.
 #[derive(Drop)]
-pub(crate) struct Column {
+pub(crate) struct Gains {
     pub(crate) gains: Vec<i128>,
     pub(crate) relative: Vec<i128>,
+    pub(crate) is_found: bool,
 }
 
 /// What a search comes to with so many digits behind the point: upper and lower gains with their relative values, each where they are found, and a policy;
 /// how far the bounds of the gain of an end component lie apart at most, and whether all are near enough.
 #[derive(Drop)]
 pub(crate) struct Found {
-    pub(crate) upper: Option<Column>,
-    pub(crate) lower: Option<Column>,
+    pub(crate) upper: Gains,
+    pub(crate) lower: Gains,
     pub(crate) choices: Vec<u32>,
     pub(crate) digits: u32,
     width: Option<Frac>,
     is_near: bool,
+}
+
+impl Gains {
+    /// Nothing.
+    fn none(alloc: Global) -> Gains {
+        Gains {
+            gains: Vec::new(alloc),
+            relative: Vec::new(alloc),
+            is_found: false,
+        }
+    }
 }
 
 /// Whether a width is known and less than another one, or that isn't known.
@@ -50,8 +62,8 @@ impl Found {
     /// Nothing.
     pub(crate) fn none(alloc: Global, digits: u32) -> Found {
         Found {
-            upper: None,
-            lower: None,
+            upper: Gains::none(alloc),
+            lower: Gains::none(alloc),
             choices: Vec::new(alloc),
             digits,
             width: None,
@@ -61,7 +73,7 @@ impl Found {
 
     /// How many of the two columns were found.
     fn columns(&self) -> u32 {
-        u32::from(self.upper.is_some()).saturating_add(u32::from(self.lower.is_some()))
+        u32::from(self.upper.is_found).saturating_add(u32::from(self.lower.is_found))
     }
 
     /// Whether there is nothing nearer to be found.
@@ -86,7 +98,7 @@ pub(crate) struct Places {
 }
 
 /// What all steps of a search need: what choices earn, the maximal end components, the rows of all choices, none of which was too wide, what is known of the
-/// gains of end components, the choices that stay in these, and the scale of relative values where they are left, which has so many units for one.
+/// gains of end components, and the scale of relative values where these are left, which has so many units for one.
 #[derive(Clone, Copy)]
 pub(crate) struct Search<'a> {
     pub(crate) earning: Earning<'a>,
@@ -94,7 +106,6 @@ pub(crate) struct Search<'a> {
     pub(crate) places: &'a Places,
     pub(crate) rows: &'a Rows,
     pub(crate) gains: &'a EndGains,
-    pub(crate) inner: &'a [u32],
     pub(crate) coarse: Scale,
     pub(crate) units: i128,
 }
@@ -102,32 +113,13 @@ pub(crate) struct Search<'a> {
 /// The scale of relative values where end components are left, beside gains of this one: how near they are costs the gains nothing, so what they have fewer
 /// digits behind the point they have more before it.
 pub(crate) fn coarse_scale(scale: Scale) -> Scale {
-    let digits = scale
-        .digits
-        .min(FEW_DIGITS.max((scale.digits / 3).saturating_mul(2)));
+    let few = FEW_DIGITS.max((scale.digits / 3).saturating_mul(2));
+    let digits = scale.digits.min(few);
     let fewer = scale.digits.saturating_sub(digits);
     Scale {
         digits,
         room: scale.room.saturating_add(fewer),
     }
-}
-
-/// The greatest values of this bound on rows: to the end where a bound is known that holds anyway.
-fn solved(
-    alloc: Global,
-    rows: &Rows,
-    given: &[Value],
-    bound: Bound,
-    anyway: Option<i128>,
-    other: Option<&Solution>,
-) -> Result<Solution, AllocError> {
-    let task = Task {
-        is_max: true,
-        bound,
-        anyway,
-        to_end: anyway.is_some(),
-    };
-    solve(alloc, rows, given, task, other)
 }
 
 /// Values of nodes, 0 for those that have no rows.
@@ -141,24 +133,19 @@ fn given_ends(alloc: Global, rows: &Rows, nodes: u32) -> Result<Vec<Value>, Allo
     Ok(given)
 }
 
-/// The least and the greatest of the values that are known; 0 where none is.
-fn known_range(values: &[Value]) -> (i128, i128) {
-    let mut range = None;
+/// The least of the values that are known as a lower bound, the greatest as an upper one; 0 where none is.
+fn extreme(values: &[Value], bound: Bound) -> i128 {
+    let mut extreme = None;
     for value in values {
         if let Some(units) = value.units() {
-            let (least, greatest) = range.unwrap_or((units, units));
-            range = Some((units.min(least), units.max(greatest)));
+            let other = extreme.unwrap_or(units);
+            extreme = match bound {
+                Bound::Lower => Some(units.min(other)),
+                Bound::Upper => Some(units.max(other)),
+            };
         }
     }
-    range.unwrap_or((0, 0))
-}
-
-/// The gains of nodes for one bound, what they were found from, and the choices by which nodes are left.
-#[derive(Drop)]
-struct NodeGains {
-    gains: Vec<i128>,
-    solution: Solution,
-    picked: Vec<Pred>,
+    extreme.unwrap_or(0)
 }
 
 impl<'a> Search<'a> {
@@ -180,9 +167,9 @@ impl<'a> Search<'a> {
 
     /// For each state the gain of its node, from the least to the greatest gain of an end component.
     fn spread(self, alloc: Global, values: &[Value]) -> Result<Vec<i128>, AllocError> {
-        let least = known_range(&self.gains.lower).0;
-        let greatest = known_range(&self.gains.upper).1;
-        let mut spread = vec![in alloc; 0i128; self.inner.len()]?;
+        let least = extreme(&self.gains.lower, Bound::Lower);
+        let greatest = extreme(&self.gains.upper, Bound::Upper);
+        let mut spread = vec![in alloc; 0i128; self.gains.picks.len()]?;
         for s in 0..self.earning.model.states() {
             let gain = value_at(values, self.places.nodes.of(s)).unwrap_or(least);
             put(&mut spread, s, gain.max(least).min(greatest));
@@ -197,36 +184,30 @@ impl<'a> Search<'a> {
         scale: Scale,
         bound: Bound,
         other: Option<&Solution>,
-    ) -> Result<NodeGains, AllocError> {
-        let nodes = &self.places.nodes;
+    ) -> Result<Column, AllocError> {
         let nothing = Earning {
             name: None,
             ..self.earning
         };
         let layout = Layout {
             stops: self.end_gains(bound),
-            ..Layout::new(nothing, nodes)
+            ..Layout::new(nothing, &self.places.nodes)
         };
         let rows = layout.rows(alloc, scale)?;
-        let given = vec![in alloc; Value::none(); nodes.count() as usize]?;
-        let (least, greatest) = known_range(self.end_gains(bound));
-        let anyway = match bound {
-            Bound::Lower => least,
-            Bound::Upper => greatest,
+        let given = vec![in alloc; Value::none(); layout.nodes.count() as usize]?;
+        let task = Task {
+            is_max: true,
+            bound,
+            anyway: Some(extreme(layout.stops, bound)),
+            to_end: true,
         };
-        let solution = solved(alloc, &rows, &given, bound, Some(anyway), other)?;
-        Ok(NodeGains {
-            gains: self.spread(alloc, &solution.values)?,
-            picked: picked_choices(alloc, &rows, &solution.picks)?,
-            solution,
-        })
+        column_of(alloc, &rows, &given, task, other)
     }
 
     /// What the choice of a row earns over the bias and the gain of its state, in coarse units times the denominator of the row, rounded so that it is a bound.
     /// None past 128 bits.
     fn earned_over(self, row: &WholeRow, gains: &[i128], bound: Bound) -> Option<i128> {
-        let first = self.rows.range_of(row.state).0;
-        let fine = self.rows.row(first.checked_add(row.choice as usize)?)?;
+        let fine = self.rows.rows_of(row.state).get(row.choice as usize)?;
         let gain = item_at(gains, row.state as usize, 0);
         let excess = self.rows.excess(fine, self.biases(bound))?;
         let over = excess.checked_sub(fine.denominator.checked_mul(gain)?)?;
@@ -252,62 +233,101 @@ impl<'a> Search<'a> {
         value_at(self.biases(bound), s)?.checked_add(offset?.checked_mul(self.units)?)
     }
 
-    /// Gains with the biases that meet the bound in end components, and so many more at each node that they meet it on these rows too, where that is found.
-    fn column(
+    /// How many coarse units more than its bias each node has, so that all meet the bound on these rows too. It is full where that is found.
+    fn offsets(
         self,
         alloc: Global,
-        gains: Vec<i128>,
+        gains: &[i128],
         layout: Layout<'_>,
         bound: Bound,
-    ) -> Result<Option<Column>, AllocError> {
+    ) -> Result<Solution, AllocError> {
         let mut rows = layout.rows(alloc, self.coarse)?;
         let given = given_ends(alloc, &rows, layout.nodes.count())?;
-        if !self.offset(&mut rows, &gains, bound) {
-            return Ok(None);
+        if !self.offset(&mut rows, gains, bound) {
+            return Ok(Solution {
+                values: given,
+                picks: Vec::new(alloc),
+                is_full: false,
+            });
         }
-        let found = solved(alloc, &rows, &given, bound, None, None)?;
+        let task = Task {
+            is_max: true,
+            bound,
+            anyway: None,
+            to_end: false,
+        };
+        solve(alloc, &rows, &given, task, None)
+    }
+
+    /// The gains of nodes with the biases that meet the bound in end components, and so many more at each node that they meet it on these rows too.
+    fn gains(
+        self,
+        alloc: Global,
+        values: &[Value],
+        layout: Layout<'_>,
+        bound: Bound,
+    ) -> Result<Gains, AllocError> {
+        let gains = self.spread(alloc, values)?;
+        let offsets = self.offsets(alloc, &gains, layout, bound)?;
         let mut relative = vec![in alloc; 0i128; gains.len()]?;
+        let mut is_found = offsets.is_full;
         for s in 0..self.earning.model.states() {
-            let offset = value_at(&found.values, layout.nodes.of(s));
+            let offset = value_at(&offsets.values, layout.nodes.of(s));
             match self.with_offset(s, offset, bound) {
-                Some(bias) if found.is_full => put(&mut relative, s, bias),
-                _ => return Ok(None),
+                Some(bias) => put(&mut relative, s, bias),
+                None => is_found = false,
             }
         }
-        Ok(Some(Column { gains, relative }))
+        Ok(Gains {
+            gains,
+            relative,
+            is_found,
+        })
     }
 
     /// A value for each state where a policy stays in its end component: that of a node that isn't left by one of these choices.
     fn staying(self, alloc: Global, picked: &[Pred]) -> Result<Vec<Value>, AllocError> {
         let nodes = &self.places.nodes;
-        let mut is_left = vec![in alloc; false; nodes.count() as usize]?;
+        let mut of_nodes = vec![in alloc; Value::known(0); nodes.count() as usize]?;
         for pick in picked {
-            put(&mut is_left, nodes.of(pick.state), true);
+            put(&mut of_nodes, nodes.of(pick.state), Value::none());
         }
-        let mut staying = vec![in alloc; Value::none(); self.inner.len()]?;
+        let mut staying = vec![in alloc; Value::none(); self.gains.picks.len()]?;
         for s in 0..self.earning.model.states() {
-            let is_inside = item_at(&self.gains.picks, s as usize, None).is_some();
-            if is_inside && !flag_at(&is_left, nodes.of(s)) {
-                put(&mut staying, s, Value::known(0));
+            if item_at(&self.gains.picks, s as usize, None).is_some() {
+                put(
+                    &mut staying,
+                    s,
+                    item_at(&of_nodes, nodes.of(s) as usize, Value::none()),
+                );
             }
         }
         Ok(staying)
     }
 
-    /// The lower gains with their relative values, on the rows of a policy that comes to them, and that policy.
-    fn lower(self, alloc: Global, found: NodeGains) -> Result<(Option<Column>, Vec<u32>), Memory>
+    /// The policy that takes the picked choices, and stays in end components that it doesn't leave.
+    fn policy(self, alloc: Global, picked: &[Pred]) -> Result<Vec<u32>, Memory>
         requires { AreEndsOf self.earning.model.now self.ends.now }
     {
-        let (model, picked) = (self.earning.model, &found.picked);
-        let choices = led_policy(alloc, model, self.ends, picked, self.inner)?;
-        let staying = self.staying(alloc, picked)?;
+        let mut choices = self.rows.choices_of(alloc, &self.gains.picks)?;
+        put_picked(&mut choices, picked);
+        lead(alloc, self.earning.model, self.ends, picked, &mut choices)?;
+        Ok(choices)
+    }
+
+    /// Puts to what was found the policy that comes to the lower gains, and these with their relative values on its rows.
+    fn put_lower(self, alloc: Global, below: &Column, found: &mut Found) -> Result<(), Memory>
+        requires { AreEndsOf self.earning.model.now self.ends.now }
+    {
+        found.choices = self.policy(alloc, &below.picked)?;
+        let staying = self.staying(alloc, &below.picked)?;
         let layout = Layout {
-            policy: Some(&choices),
+            policy: Some(&found.choices),
             known: &staying,
             ..Layout::new(self.earning, &self.places.states)
         };
-        let column = self.column(alloc, found.gains, layout, Bound::Lower)?;
-        Ok((column, choices))
+        found.lower = self.gains(alloc, &below.solution.values, layout, Bound::Lower)?;
+        Ok(())
     }
 
     /// Upper and lower gains of all states, which have this scale.
@@ -317,15 +337,16 @@ impl<'a> Search<'a> {
         let above = self.node_gains(alloc, scale, Bound::Upper, None)?;
         let below = self.node_gains(alloc, scale, Bound::Lower, Some(&above.solution))?;
         let leaving = Layout::new(self.earning, &self.places.nodes);
-        let upper = self.column(alloc, above.gains, leaving, Bound::Upper)?;
-        let (lower, choices) = self.lower(alloc, below)?;
-        Ok(Found {
+        let upper = self.gains(alloc, &above.solution.values, leaving, Bound::Upper)?;
+        let mut found = Found {
             upper,
-            lower,
-            choices,
+            lower: Gains::none(alloc),
+            choices: Vec::new(alloc),
             digits: scale.digits,
             width: Frac::try_new(self.gains.width, self.rows.one()).ok(),
             is_near: self.gains.is_near,
-        })
+        };
+        self.put_lower(alloc, &below, &mut found)?;
+        Ok(found)
     }
 }

@@ -3,6 +3,7 @@
 ghost use Rattle.std.specs.Prelude.{◌≡◌, length, IfOk};
 
 use mdp_num::Frac;
+use mdp_refinement::item_at;
 use std::alloc::{AllocError, Global};
 
 /// The most digits behind the point that bounds are sought with.
@@ -43,9 +44,10 @@ pub fn fractions(
 {
     let mut list = vec![in alloc; Frac::whole(0); states as usize]?;
     let (mut last, mut same) = (0, Frac::whole(0));
-    for place in 0..list.len().min(values.len()) {
-        if values[place] != last {
-            last = values[place];
+    for place in 0..list.len() {
+        let value = item_at(values, place, 0);
+        if value != last {
+            last = value;
             same = fraction(last, one);
         }
         list[place] = same;

@@ -5,7 +5,7 @@ ghost use Rattle.mdp_spec.specs.Mdp.{states_of};
 
 use mdp_graph::{Edges, must_meet, ranks_by};
 use mdp_num::Memory;
-use mdp_refinement::{flag_at, item_at, number_at};
+use mdp_refinement::{flag_at, item_at, number_at, put};
 use mdp_rows::{Marks, Model};
 use std::alloc::{AllocError, Global};
 
@@ -23,7 +23,7 @@ fn targets_at<'a>(model: &'a Model, policy: &[u32], is_blocked: &[bool], s: u32)
 
 /// For the greatest values: the least number of steps from each state to a goal by a policy, where no step begins at a blocked state; none where there is no
 /// such way.
-pub(crate) fn max_ranks(
+fn max_ranks(
     alloc: Global,
     model: &Model,
     goals: &Marks,
@@ -38,6 +38,29 @@ pub(crate) fn max_ranks(
     }
     let leading = edges.sorted(alloc)?;
     ranks_by(alloc, &leading, goals, model.states())
+}
+
+/// Puts the ranks along a policy to the states that aren't blocked, 0 where there is none. Whether each of them has one.
+pub(crate) fn put_ranks(
+    alloc: Global,
+    model: &Model,
+    goals: &Marks,
+    policy: &[u32],
+    is_blocked: &[bool],
+    ranks: &mut [u32],
+) -> Result<bool, AllocError>
+    requires { length goals.now ≡ states_of model.now }
+{
+    let found = max_ranks(alloc, model, goals, policy, is_blocked)?;
+    let mut are_all = true;
+    for s in 0..model.states() {
+        if !flag_at(is_blocked, s) {
+            let rank = item_at(&found, s as usize, None);
+            put(ranks, s, rank.unwrap_or(0));
+            are_all = are_all && rank.is_some();
+        }
+    }
+    Ok(are_all)
 }
 
 /// The goals and the states of lower value 0.

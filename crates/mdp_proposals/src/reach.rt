@@ -2,23 +2,19 @@
 
 ghost use Rattle.std.specs.Prelude.{◌≡◌, length};
 ghost use Rattle.mdp_spec.specs.Mdp.{states_of};
+ghost use Rattle.mdp_parts.specs.FoundEnds.{AreEndsOf};
 
 use crate::columns::{Columns, Sought};
 use crate::decided::{Decided, decide};
-use crate::ends::{joined_nodes, led_policy, single_nodes, with_picked};
+use crate::ends::{joined_nodes, lead, put_picked, single_nodes};
 use crate::layout::{Earning, Layout};
 use crate::proposed::MOST_DIGITS;
-use crate::ranks::{max_ranks, min_ranks};
+use crate::ranks::{min_ranks, put_ranks};
 use mdp_num::Memory;
-use mdp_parts::end_components;
-use mdp_refinement::{Nodes, Scale, Value, flag_at, item_at, put};
+use mdp_parts::{Ends, end_components};
+use mdp_refinement::{Nodes, Scale, Value, item_at, put};
 use mdp_rows::{Dir, Marks, Model};
 use std::alloc::{AllocError, Global};
-
-/// Whether each value is 0.
-fn are_zero(alloc: Global, values: &[i128]) -> Result<Vec<bool>, AllocError> {
-    values.iter().map(|value| *value == 0).collect(alloc)
-}
 
 /// Proposed bounds of probabilities: for each state a lower and an upper value in units of 1 over `one`, a choice and a rank. Nothing is promised of them, nor
 /// of how many there are.
@@ -41,22 +37,27 @@ impl ProposedReach {
     ) -> Result<bool, AllocError>
         requires { length goals.now ≡ states_of model.now }
     {
-        let is_zero = are_zero(alloc, &self.lower)?;
-        let ranks = max_ranks(alloc, model, goals, &self.choices, &is_zero)?;
-        let mut is_ranked = true;
+        self.ranks = vec![in alloc; 0; self.choices.len()]?;
+        let mut is_zero = vec![in alloc; false; self.lower.len()]?;
         for s in 0..model.states() {
-            let rank = item_at(&ranks, s as usize, None);
-            put(&mut self.ranks, s, rank.unwrap_or(0));
-            is_ranked = is_ranked && (flag_at(&is_zero, s) || rank.is_some());
+            put(&mut is_zero, s, item_at(&self.lower, s as usize, 0) == 0);
         }
-        Ok(is_ranked)
+        put_ranks(
+            alloc,
+            model,
+            goals,
+            &self.choices,
+            &is_zero,
+            &mut self.ranks,
+        )
     }
 
     /// Leaves of the lower values those of 1 alone, which hold by the graph.
     fn forget_lower(&mut self) {
-        for place in 0..self.lower.len() {
-            if self.lower[place] < self.one {
-                self.lower[place] = 0;
+        let one = self.one;
+        for value in self.lower.iter_mut() {
+            if *value < one {
+                *value = 0;
             }
         }
     }
@@ -87,19 +88,21 @@ fn sought_of<'a>(
     }
 }
 
-/// The values of columns, with a policy and no ranks yet.
+/// The values of columns without ranks, and the given choices, but for those that were picked.
 fn proposed(
     alloc: Global,
     sought: Sought<'_>,
     columns: &Columns,
-    choices: Vec<u32>,
+    given: &[u32],
 ) -> Result<ProposedReach, AllocError> {
+    let mut choices = given.to_vec(alloc)?;
+    put_picked(&mut choices, columns.picked(sought.dir));
     Ok(ProposedReach {
         one: columns.lower.one,
         lower: sought.units(alloc, &columns.lower)?,
         upper: sought.units(alloc, &columns.upper)?,
-        ranks: vec![in alloc; 0; choices.len()]?,
         choices,
+        ranks: Vec::new(alloc),
     })
 }
 
@@ -114,30 +117,29 @@ fn single(
     let nodes = single_nodes(alloc, model.states())?;
     let sought = sought_of(model, &decided.known, &nodes, dir, digits);
     let columns = sought.columns(alloc, true)?;
-    let choices = with_picked(alloc, columns.picked(dir), &decided.choices)?;
-    proposed(alloc, sought, &columns, choices)
+    proposed(alloc, sought, &columns, &decided.choices)
 }
 
-/// Bounds of the greatest probabilities, without ranks: the states of an end component share one. Where the graph decides all there is none to look for.
+/// Bounds of the greatest probabilities, without ranks: the states of an end component share one.
 fn joined(
     alloc: Global,
     model: &Model,
+    ends: &Ends,
     decided: &Decided,
     digits: u32,
-) -> Result<ProposedReach, Memory> {
-    if decided.known.iter().all(|value| value.units().is_some()) {
-        return Ok(single(alloc, model, decided, Dir::Max, digits)?);
-    }
-    let ends = end_components(alloc, model)?;
-    let nodes = joined_nodes(alloc, model, &ends, &decided.known)?;
+) -> Result<ProposedReach, Memory>
+    requires { AreEndsOf model.now ends.now }
+{
+    let nodes = joined_nodes(alloc, model, ends, &decided.known)?;
     let sought = sought_of(model, &decided.known, &nodes, Dir::Max, digits);
     let columns = sought.columns(alloc, true)?;
-    let picked = &columns.lower.picked;
-    let choices = led_policy(alloc, model, &ends, picked, &decided.choices)?;
-    Ok(proposed(alloc, sought, &columns, choices)?)
+    let mut near = proposed(alloc, sought, &columns, &decided.choices)?;
+    let picked = columns.picked(Dir::Max);
+    lead(alloc, model, ends, picked, &mut near.choices)?;
+    Ok(near)
 }
 
-/// Bounds of the greatest probabilities.
+/// Bounds of the greatest probabilities. Where the graph decides all there is no end component to look for.
 fn greatest(
     alloc: Global,
     model: &Model,
@@ -147,7 +149,12 @@ fn greatest(
     requires { length goals.now ≡ states_of model.now }
 {
     let decided = decide(alloc, model, goals, Dir::Max)?;
-    let mut near = joined(alloc, model, &decided, digits)?;
+    let mut near = if decided.is_all {
+        single(alloc, model, &decided, Dir::Max, digits)?
+    } else {
+        let ends = end_components(alloc, model)?;
+        joined(alloc, model, &ends, &decided, digits)?
+    };
     if !near.take_ranks(alloc, model, goals)? {
         near.forget_lower();
         near.take_ranks(alloc, model, goals)?;

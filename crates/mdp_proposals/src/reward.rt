@@ -2,15 +2,16 @@
 
 ghost use Rattle.std.specs.Prelude.{◌≡◌, length};
 ghost use Rattle.mdp_spec.specs.Mdp.{states_of};
+ghost use Rattle.mdp_parts.specs.FoundEnds.{AreEndsOf};
 
-use crate::columns::{Columns, Sought};
-use crate::ends::{joined_nodes, led_policy, single_nodes, with_picked};
+use crate::columns::{Bounds, Sought};
+use crate::ends::{joined_nodes, lead, single_nodes};
 use crate::layout::{Earning, Layout};
 use crate::proposed::MOST_DIGITS;
-use crate::ranks::max_ranks;
+use crate::ranks::put_ranks;
 use mdp_num::{Frac, Memory};
-use mdp_parts::end_components;
-use mdp_refinement::{Scale, Value, flag_at, item_at, number_at, put, value_at};
+use mdp_parts::{Ends, end_components};
+use mdp_refinement::{Scale, Value, put, value_at};
 use mdp_reward::{Start, start_of};
 use mdp_rows::{Dir, Marks, Model};
 use std::alloc::{AllocError, Global};
@@ -53,117 +54,74 @@ fn settled_states(
     Ok(Settled { known, is_infinite })
 }
 
-/// What columns come to, with a policy and ranks.
-fn proposed(
-    alloc: Global,
-    sought: Sought<'_>,
-    columns: &Columns,
-    choices: Vec<u32>,
-    ranks: Vec<u32>,
-) -> Result<ProposedReward, AllocError> {
-    Ok(ProposedReward {
-        lower: sought.values(alloc, &columns.lower)?,
-        upper: sought.values(alloc, &columns.upper)?,
-        choices,
+/// Bounds with these ranks.
+fn proposed(bounds: Bounds, ranks: Vec<u32>) -> ProposedReward {
+    ProposedReward {
+        lower: bounds.lower,
+        upper: bounds.upper,
+        choices: bounds.choices,
         ranks,
-    })
-}
-
-/// The ranks of states of finite reward along a policy, and the known ones of the others. None where the policy misses the goals from one.
-fn finite_ranks(
-    alloc: Global,
-    model: &Model,
-    goals: &Marks,
-    is_infinite: &[bool],
-    choices: &[u32],
-    known: &[u32],
-) -> Result<Option<Vec<u32>>, Memory>
-    requires { length goals.now ≡ states_of model.now }
-{
-    let found = max_ranks(alloc, model, goals, choices, is_infinite)?;
-    let mut ranks = known.to_vec(alloc)?;
-    for s in 0..model.states() {
-        if !flag_at(is_infinite, s) {
-            match item_at(&found, s as usize, None) {
-                Some(rank) => put(&mut ranks, s, rank),
-                None => return Ok(None),
-            }
-        }
     }
-    Ok(Some(ranks))
 }
 
-/// Bounds of the least rewards with a policy. Where that misses the goals it is the one to begin with, and no upper value is known but that of goals.
-fn with_policy(
+/// Bounds of the least rewards with ranks. Where their policy misses the goals it is the one to begin with, and no upper value is known but that of goals.
+fn with_ranks(
     alloc: Global,
-    sought: Sought<'_>,
-    columns: &Columns,
-    choices: Vec<u32>,
+    layout: Layout<'_>,
+    bounds: Bounds,
     goals: &Marks,
     start: Start,
 ) -> Result<ProposedReward, Memory>
-    requires { length goals.now ≡ states_of sought.layout.earning.model.now }
+    requires { length goals.now ≡ states_of layout.earning.model.now }
 {
-    let (model, known) = (sought.layout.earning.model, sought.layout.known);
-    let is_infinite = sought.layout.is_barred;
-    if let Some(ranks) = finite_ranks(alloc, model, goals, is_infinite, &choices, &start.known)? {
-        return Ok(proposed(alloc, sought, columns, choices, ranks)?);
+    let (model, barred) = (layout.earning.model, layout.is_barred);
+    let mut near = proposed(bounds, start.known);
+    if put_ranks(alloc, model, goals, &near.choices, barred, &mut near.ranks)? {
+        return Ok(near);
     }
-    let found = finite_ranks(
-        alloc,
-        model,
-        goals,
-        is_infinite,
-        &start.policy,
-        &start.known,
-    )?;
-    let ranks = found.unwrap_or(start.known);
-    let mut near = proposed(alloc, sought, columns, start.policy, ranks)?;
+    near.choices = start.policy;
+    put_ranks(alloc, model, goals, &near.choices, barred, &mut near.ranks)?;
     for s in 0..model.states() {
-        if value_at(known, s).is_none() {
+        if value_at(layout.known, s).is_none() {
             put(&mut near.upper, s, None);
         }
     }
     Ok(near)
 }
 
-/// Bounds of the least rewards where each state is a node.
-fn least_single(
+/// Bounds where the states of an end component are a node.
+fn on_ends(
     alloc: Global,
     sought: Sought<'_>,
-    goals: &Marks,
-    start: Start,
-) -> Result<ProposedReward, Memory>
-    requires { length goals.now ≡ states_of sought.layout.earning.model.now }
+    model: &Model,
+    ends: &Ends,
+    given: &[u32],
+) -> Result<Bounds, AllocError>
+    requires { AreEndsOf model.now ends.now }
 {
-    let columns = sought.refined_columns(alloc)?;
-    let choices = with_picked(alloc, &columns.upper.picked, &start.policy)?;
-    with_policy(alloc, sought, &columns, choices, goals, start)
-}
-
-/// Bounds of the least rewards where the states of an end component of the model of free choices are a node.
-fn least_joined(
-    alloc: Global,
-    sought: Sought<'_>,
-    free: &Model,
-    goals: &Marks,
-    start: Start,
-) -> Result<ProposedReward, Memory>
-    requires { length goals.now ≡ states_of sought.layout.earning.model.now }
-{
-    let ends = end_components(alloc, free)?;
-    let nodes = joined_nodes(alloc, free, &ends, &[])?;
+    let nodes = joined_nodes(alloc, model, ends, &[])?;
     let layout = Layout {
         nodes: &nodes,
         ..sought.layout
     };
-    let joined = Sought { layout, ..sought };
-    let columns = joined.refined_columns(alloc)?;
-    let choices = led_policy(alloc, free, &ends, &columns.upper.picked, &start.policy)?;
-    with_policy(alloc, joined, &columns, choices, goals, start)
+    Sought { layout, ..sought }.bounds(alloc, given)
 }
 
-/// Bounds of the least rewards. The states of an end component by choices of reward 0 share one value.
+/// Bounds of the least rewards where the states of an end component of the model of free choices share one value.
+fn joined(
+    alloc: Global,
+    sought: Sought<'_>,
+    free: &Model,
+    given: &[u32],
+) -> Result<Bounds, Memory> {
+    let ends = end_components(alloc, free)?;
+    let mut bounds = on_ends(alloc, sought, free, &ends, given)?;
+    let picked = bounds.columns.picked(sought.dir);
+    lead(alloc, free, &ends, picked, &mut bounds.choices)?;
+    Ok(bounds)
+}
+
+/// Bounds of the least rewards.
 fn least(
     alloc: Global,
     sought: Sought<'_>,
@@ -172,19 +130,20 @@ fn least(
 ) -> Result<ProposedReward, Memory>
     requires { length goals.now ≡ states_of sought.layout.earning.model.now }
 {
-    if !sought.layout.has_free() {
-        return least_single(alloc, sought, goals, start);
-    }
-    let free = sought.layout.free_model(alloc)?;
-    least_joined(alloc, sought, &free, goals, start)
+    let bounds = if sought.layout.has_free() {
+        let free = sought.layout.free_model(alloc)?;
+        joined(alloc, sought, &free, &start.policy)?
+    } else {
+        sought.bounds(alloc, &start.policy)?
+    };
+    with_ranks(alloc, sought.layout, bounds, goals, start)
 }
 
 /// Bounds of the greatest rewards. No choice of a state of finite reward leads to one of infinite reward, and no end component is among these states but for
 /// goals.
-fn greatest(alloc: Global, sought: Sought<'_>, start: Start) -> Result<ProposedReward, AllocError> {
-    let columns = sought.refined_columns(alloc)?;
-    let choices = with_picked(alloc, &columns.lower.picked, &start.policy)?;
-    proposed(alloc, sought, &columns, choices, start.known)
+fn greatest(alloc: Global, sought: Sought<'_>, start: Start) -> Result<ProposedReward, Memory> {
+    let bounds = sought.bounds(alloc, &start.policy)?;
+    Ok(proposed(bounds, start.known))
 }
 
 /// Proposes bounds of the greatest or the least expected reward until a goal, under the reward name of place `name`, as multiples of 10 to the power of
@@ -203,12 +162,7 @@ pub fn propose_reward(
 {
     model.known();
     let start = start_of(alloc, model, goals, dir)?;
-    let Settled { known, is_infinite } = settled_states(
-        alloc,
-        model.states(),
-        goals,
-        &start.finite,
-    )?;
+    let settled = settled_states(alloc, model.states(), goals, &start.finite)?;
     let nodes = single_nodes(alloc, model.states())?;
     let earning = Earning {
         model,
@@ -218,8 +172,8 @@ pub fn propose_reward(
     let sought = Sought {
         layout: Layout {
             earning,
-            known: &known,
-            is_barred: &is_infinite,
+            known: &settled.known,
+            is_barred: &settled.is_infinite,
             ..Layout::new(earning, &nodes)
         },
         dir,
@@ -231,7 +185,7 @@ pub fn propose_reward(
         },
     };
     match dir {
-        Dir::Max => Ok(greatest(alloc, sought, start)?),
+        Dir::Max => greatest(alloc, sought, start),
         Dir::Min => least(alloc, sought, goals, start),
     }
 }

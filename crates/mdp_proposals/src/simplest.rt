@@ -18,20 +18,14 @@ struct Terms {
 }
 
 impl Terms {
-    /// Those of a fraction in lowest terms.
-    fn of(value: &Frac) -> Terms {
-        Terms {
-            num: value.num(),
-            den: value.den(),
-        }
+    /// A numerator over a denominator.
+    fn new(num: i128, den: i128) -> Terms {
+        Terms { num, den }
     }
 
     /// The negation.
     fn negated(self) -> Option<Terms> {
-        Some(Terms {
-            num: self.num.checked_neg()?,
-            den: self.den,
-        })
+        Some(Terms::new(self.num.checked_neg()?, self.den))
     }
 
     /// The greatest whole number that is at most a fraction of at least 0.
@@ -65,26 +59,15 @@ fn simplest_from(lower: Terms, upper: Terms) -> Option<Frac> {
         let whole = low.floor()?;
         let rest = low.rest(whole)?;
         let over = high.rest(whole)?;
-        if rest == 0 || over >= high.den {
-            let term = if rest == 0 {
-                whole
-            } else {
-                whole.checked_add(1)?
-            };
-            let simplest = last.next(before, term)?;
-            return Frac::try_new(simplest.num, simplest.den).ok();
+        let is_between = rest > 0 && over >= high.den;
+        let convergent = last.next(before, whole.checked_add(i128::from(is_between))?)?;
+        if rest == 0 || is_between {
+            return Frac::try_new(convergent.num, convergent.den).ok();
         }
-        let convergent = last.next(before, whole)?;
         before = last;
         last = convergent;
-        let reciprocal = Terms {
-            num: low.den,
-            den: rest,
-        };
-        low = Terms {
-            num: high.den,
-            den: over,
-        };
+        let reciprocal = Terms::new(low.den, rest);
+        low = Terms::new(high.den, over);
         high = reciprocal;
     }
     None
@@ -102,22 +85,9 @@ fn simplest_terms(lower: Terms, upper: Terms) -> Option<Frac> {
     Some(magnitude.negate())
 }
 
-/// The simplest fraction from a lower to an upper value; the lower value where a term is past 128 bits.
-fn simplest_between(lower: &Frac, upper: &Frac) -> Frac {
-    simplest_terms(Terms::of(lower), Terms::of(upper)).unwrap_or(*lower)
-}
-
 /// The simplest fraction from a lower to an upper value in units of 1 over `one`; the lower value where a term is past 128 bits.
 fn simplest_of_units(lower: i128, upper: i128, one: i128) -> Frac {
-    let low = Terms {
-        num: lower,
-        den: one,
-    };
-    let high = Terms {
-        num: upper,
-        den: one,
-    };
-    match simplest_terms(low, high) {
+    match simplest_terms(Terms::new(lower, one), Terms::new(upper, one)) {
         Some(simplest) => simplest,
         None => fraction(lower, one),
     }
@@ -135,8 +105,8 @@ pub fn simplest_values(
     ensures { IfOk result (λ values. length values.items ≡ states) }
 {
     let mut list = vec![in alloc; Frac::whole(0); states as usize]?;
-    for place in 0..list.len().min(is_sought.len()) {
-        if is_sought[place] {
+    for place in 0..list.len() {
+        if item_at(is_sought, place, false) {
             let (least, greatest) = (item_at(lower, place, 0), item_at(upper, place, 0));
             list[place] = simplest_of_units(least, greatest, one);
         }
@@ -144,17 +114,18 @@ pub fn simplest_values(
     Ok(list)
 }
 
-/// The simplest fraction from a lower to an upper value, where both are there; else the lower one.
+/// The simplest fraction from a lower to an upper value, where both are there and no term is past 128 bits; else the lower one.
 fn simplest_reward(lower: Option<Frac>, upper: Option<Frac>) -> Option<Frac> {
     match (lower, upper) {
-        (Some(least), Some(greatest)) => Some(simplest_between(&least, &greatest)),
+        (Some(least), Some(greatest)) => {
+            let (low, high) = (
+                Terms::new(least.num(), least.den()),
+                Terms::new(greatest.num(), greatest.den()),
+            );
+            simplest_terms(low, high).or(lower)
+        }
         _ => lower,
     }
-}
-
-/// The value as an upper one, where there is an upper bound.
-fn capped(value: Option<Frac>, upper: Option<Frac>) -> Option<Frac> {
-    if upper.is_some() { value } else { None }
 }
 
 /// The simplest fraction of each flagged state from its lower to its upper value; the lower one where one of them is missing, and none of the others.
@@ -168,8 +139,8 @@ pub fn simplest_rewards(
     ensures { IfOk result (λ values. length values.items ≡ states) }
 {
     let mut list = vec![in alloc; None; states as usize]?;
-    for place in 0..list.len().min(is_sought.len()) {
-        if is_sought[place] {
+    for place in 0..list.len() {
+        if item_at(is_sought, place, false) {
             let (least, greatest) = (item_at(lower, place, None), item_at(upper, place, None));
             list[place] = simplest_reward(least, greatest);
         }
@@ -188,7 +159,9 @@ pub fn all_capped(
 {
     let mut list = vec![in alloc; None; states as usize]?;
     for place in 0..list.len() {
-        list[place] = capped(item_at(values, place, None), item_at(upper, place, None));
+        if item_at(upper, place, None).is_some() {
+            list[place] = item_at(values, place, None);
+        }
     }
     Ok(list)
 }
@@ -215,8 +188,8 @@ pub fn simplest_near_values(
 {
     let room = room_of(digits);
     let mut list = vec![in alloc; Frac::whole(0); states as usize]?;
-    for place in 0..list.len().min(is_sought.len()) {
-        if is_sought[place] {
+    for place in 0..list.len() {
+        if item_at(is_sought, place, false) {
             list[place] = simplest_near(item_at(values, place, 0), room, one);
         }
     }
