@@ -49,11 +49,7 @@ fn in_certificate(alloc: Global, bytes: &[u8]) -> Result<Vec<u32>, Refusal>
     ensures named { Names result (in_certificate (cert_text.outcome bytes.now)) }
     ensures not_of_model { IfErr (named result) (λ e. is_of_model (Err e) ≡ false) }
 {
-    match read_cert(alloc, bytes) {
-        Ok(cert) => of_body(cert.body),
-        Err(CertError::At { line, kind }) => Err(Refusal::CertText { line, kind }),
-        Err(CertError::Memory) => Err(Refusal::Memory),
-    }
+    of_body(read_cert(alloc, bytes)?.body)
 }
 
 /// The choices that a certificate of bounds names.
@@ -61,11 +57,7 @@ fn in_bounds(alloc: Global, bytes: &[u8]) -> Result<Vec<u32>, Refusal>
     ensures named { Names result (in_bounds (bounds_text.outcome bytes.now)) }
     ensures not_of_model { IfErr (named result) (λ e. is_of_model (Err e) ≡ false) }
 {
-    match read_bounds(alloc, bytes) {
-        Ok(cert) => Ok(of_bounds(cert.body)),
-        Err(CertError::At { line, kind }) => Err(Refusal::CertText { line, kind }),
-        Err(CertError::Memory) => Err(Refusal::Memory),
-    }
+    Ok(of_bounds(read_bounds(alloc, bytes)?.body))
 }
 
 /// The choices that a certificate of discounted rewards names.
@@ -73,11 +65,7 @@ fn in_discount(alloc: Global, bytes: &[u8]) -> Result<Vec<u32>, Refusal>
     ensures named { Names result (in_discount (discount_text.outcome bytes.now)) }
     ensures not_of_model { IfErr (named result) (λ e. is_of_model (Err e) ≡ false) }
 {
-    match read_discount(alloc, bytes) {
-        Ok(cert) => Ok(cert.choices),
-        Err(CertError::At { line, kind }) => Err(Refusal::CertText { line, kind }),
-        Err(CertError::Memory) => Err(Refusal::Memory),
-    }
+    Ok(read_discount(alloc, bytes)?.choices)
 }
 
 /// The choices that a certificate of bounds of discounted rewards names.
@@ -85,14 +73,8 @@ fn in_discount_bounds(alloc: Global, bytes: &[u8]) -> Result<Vec<u32>, Refusal>
     ensures named { Names result (in_discount_bounds (discount_bounds_text.outcome bytes.now)) }
     ensures not_of_model { IfErr (named result) (λ e. is_of_model (Err e) ≡ false) }
 {
-    match read_discount_bounds(alloc, bytes) {
-        Ok(cert) => {
-            let bounds = cert.bounds;
-            Ok(bounds.choices)
-        }
-        Err(CertError::At { line, kind }) => Err(Refusal::CertText { line, kind }),
-        Err(CertError::Memory) => Err(Refusal::Memory),
-    }
+    let bounds = read_discount_bounds(alloc, bytes)?.bounds;
+    Ok(bounds.choices)
 }
 
 /// That a certificate of bounds of a subsystem names none.
@@ -100,11 +82,8 @@ fn in_subsystem_bounds(alloc: Global, bytes: &[u8]) -> Result<Vec<u32>, Refusal>
     ensures named { Names result (in_subsystem_bounds (subsystem_text.outcome bytes.now)) }
     ensures not_of_model { IfErr (named result) (λ e. is_of_model (Err e) ≡ false) }
 {
-    match read_subsystem_bounds(alloc, bytes) {
-        Ok(_) => Err(Refusal::QueryChoice),
-        Err(CertError::At { line, kind }) => Err(Refusal::CertText { line, kind }),
-        Err(CertError::Memory) => Err(Refusal::Memory),
-    }
+    read_subsystem_bounds(alloc, bytes)?;
+    Err(Refusal::QueryChoice)
 }
 
 /// The choices of a policy's text.
