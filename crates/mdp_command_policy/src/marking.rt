@@ -42,10 +42,7 @@ fn states_on_way(
     let Some(label) = stay else {
         return Ok(None);
     };
-    match states_with(alloc, model, label) {
-        Ok(marks) => Ok(Some(marks)),
-        Err(refusal) => Err(refusal),
-    }
+    Ok(Some(states_with(alloc, model, label)?))
 }
 
 /// The states that the labels name, that of the way first.
@@ -60,12 +57,8 @@ pub(crate) fn marks_of(
     ensures goals { IfOk result (λ marks. length marks.goals ≡ states_of model.now) }
     ensures not_of_model { IfErr (plain_error result) (λ e. is_of_model (Err e) ≡ false) }
 {
-    let stays = match states_on_way(alloc, model, stay) {
-        Ok(stays) => stays,
-        Err(refusal) => return Err(refusal),
-    };
-    match states_with(alloc, model, label) {
-        Ok(goals) => Ok(Marked { stays, goals }),
-        Err(refusal) => Err(refusal),
-    }
+    Ok(Marked {
+        stays: states_on_way(alloc, model, stay)?,
+        goals: states_with(alloc, model, label)?,
+    })
 }

@@ -81,10 +81,7 @@ fn of_policy(
     if policy.len() != model.states() as usize {
         return Err(Refusal::QuerySize);
     }
-    let marks = match marks_of(alloc, model, stay, label) {
-        Ok(marks) => marks,
-        Err(refusal) => return Err(refusal),
-    };
+    let marks = marks_of(alloc, model, stay, label)?;
     if !takes_choices(model, policy) {
         return Err(Refusal::QueryChoice);
     }
