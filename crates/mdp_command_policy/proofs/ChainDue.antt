@@ -9,7 +9,7 @@ use Rattle.mdp_drn.specs.Writing.{text_of}
 use Rattle.mdp_job.specs.Refusal.{PlainRefusal, no_memory, query_size, query_choice}
 use Rattle.mdp_command.specs.Said.{Said}
 use Rattle.mdp_policy.specs.Chain.{chain_of, NamesNoChoice}
-use Rattle.mdp_command_policy.specs.{ChainDue.{choices_in, IsChoiceDue, IsSizeDue, IsTextDue, IsChainDue}, ChainLaws.{IsDueOnce, SomethingIsDue}}
+use Rattle.mdp_command_policy.specs.{ChainDue.{choices_in, IsChoiceDue, IsSizeDue, IsTextDue}, ChainLaws.{IsDueOnce, SomethingIsDue}}
 
 not_both : {Q : Type 0} (m : Mdp) (policy : List ℕ) → IsPolicy m policy → NamesNoChoice m policy → Q
 not_both m policy is other = let in_range = is.in_range other.state other.below in let past = other.past in absurd (omega (arith, in_range, past))

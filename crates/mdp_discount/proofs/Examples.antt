@@ -1,6 +1,6 @@
 -- Discounted rows, computed.
 use Rattle.std.proofs.Common.{◌≡◌, [], ◌∷◌, refl}
-use Rattle.mdp_math.specs.{Gcd.{gcd, gcd_with_fuel}, Rational.{ℚ, of_int, ratio, neg_ℚ, ◌+ℚ◌, ◌*ℚ◌, le_ℚ}}
+use Rattle.mdp_math.specs.{Gcd.{gcd, gcd_with_fuel}, Rational.{of_int, ratio, neg_ℚ, ◌+ℚ◌, ◌*ℚ◌, le_ℚ}}
 use Rattle.mdp_math.specs.Written.{narrow, narrow_ℚ, written_add, written_mul, written_compare}
 use Rattle.mdp_spec.proofs.Small.{entry, number, over}
 use Rattle.mdp_discount.specs.Problem.{discounted_row}

@@ -1,5 +1,5 @@
 -- A query has one end at most, and an answer meets the rules.
-use Rattle.std.proofs.Common.{◌≡◌, ℕ, ◌<◌, List, Option, Some, None, Result, Ok, Err, refl, sym, ◌∙◌, subst, take}
+use Rattle.std.proofs.Common.{◌≡◌, ℕ, List, Option, Some, None, Result, Ok, Err, refl, sym, ◌∙◌, subst, take}
 use Rattle.mdp_math.specs.Rational.{ℚ}
 use Rattle.mdp_spec.specs.Mdp.{Mdp, states_of}
 use Rattle.mdp_rows.specs.declared.dir.Dir.{Dir}

@@ -2,7 +2,7 @@
 --     bias     that of the policy: the inner one where a node stops, and elsewhere by elimination
 --     excess   the most that any exit earns by the inner bias beyond the gain and the inner bias, and at least 0
 --     bound    the inner bias, moved by the excess for each step
-use Rattle.std.specs.Prelude.{ℕ, zero, suc, Bool, true, false, List, [], ◌∷◌, length, map, slice_index, slice_index_or, Option, Some, None, Result, Ok, Err}
+use Rattle.std.specs.Prelude.{ℕ, zero, suc, Bool, true, false, List, [], ◌∷◌, length, map, slice_index, slice_index_or, Some, None, Result, Ok, Err}
 use Rattle.std.specs.List.{range_with_len}
 use Rattle.mdp_math.specs.{Rational.{ℚ}, Result.{◌>>=◌}}
 use Rattle.mdp_spec.specs.Mdp.{Entry, states_of, choices_at, row_at, value_at}

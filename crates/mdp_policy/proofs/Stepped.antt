@@ -1,13 +1,12 @@
 -- What is computed of a policy's chain within a number of steps, and bounds of it and of the discounted reward, are the policy's own on the model.
-use Rattle.std.proofs.Common.{◌≡◌, ℕ, ◌<◌, inl, inr, Bool, List, Option, Some, None, IfSome, sym, subst, ◌∙◌, arith}
+use Rattle.std.proofs.Common.{◌≡◌, ℕ, ◌<◌, inl, inr, List, Option, Some, None, IfSome, sym, subst, ◌∙◌, arith}
 use Rattle.mdp_math.specs.{Rational.{ℚ, ◌+ℚ◌, ◌*ℚ◌, ◌≤ℚ◌}, Power.{pow_ℚ}}
-use Rattle.mdp_spec.specs.{Mdp.{Mdp, states_of, value_at}, Row.{IsMdp}, Tree.{Tree, IsStrategy, IsPolicy, unfolded}, Pay.{total}, Bounds.{reward_at}}
+use Rattle.mdp_spec.specs.{Mdp.{Mdp, states_of}, Row.{IsMdp}, Tree.{IsStrategy, IsPolicy, unfolded}, Pay.{total}, Bounds.{reward_at}}
 use Rattle.mdp_rows.specs.declared.dir.Dir.TheVariants.{Max, Min}
-use Rattle.mdp_horizon.specs.{Table.{unfolded_steps, IsTable}, Between.{Claimed, MaxBetween, MinBetween}, Objective.{Objective, value_of}, Objective.Objective.{until, total as total_in}}
+use Rattle.mdp_horizon.specs.{Table.{unfolded_steps, IsTable}, Between.{Claimed}, Objective.{Objective, value_of}, Objective.Objective.{until, total as total_in}}
 use Rattle.mdp_horizon.proofs.Backward.{unfolded_steps_fits}
 use Rattle.mdp_discount_rules.specs.{Disc.{disc}, Rules.{IsFactor}}
-use Rattle.mdp_discount_rules.specs.Between.{DiscountMaxBetween, DiscountMinBetween}
-use Rattle.mdp_policy.specs.{Chain.{chain_of}, ChainLaws.{TotalIsOwn, StepBoundsAreOwn, DiscountBoundsAreOwn}, Own.{IsOwn, OwnTotal, OwnWithin, OwnDiscountBetween}}
+use Rattle.mdp_policy.specs.{Chain.{chain_of}, ChainLaws.{TotalIsOwn, StepBoundsAreOwn, DiscountBoundsAreOwn}, Own.{IsOwn, OwnWithin, OwnDiscountBetween}}
 use Rattle.mdp_policy.proofs.{Chains.{chain_is_mdp}, Trees.{totals_kept, untils_kept, discounts_kept}, Owned.{inside, tree_of}}
 
 -- a claim on one number is one on another that is the same

@@ -1,4 +1,4 @@
-use Rattle.std.proofs.Common.{◌≡◌, ℕ, ◌<◌, ◌≤◌, ◌-◌, ◌*◌, inl, inr, Option, IfNone, subst, arith}
+use Rattle.std.proofs.Common.{◌≡◌, ℕ, ◌-◌, ◌*◌, inl, inr, IfNone, subst, arith}
 use Rattle.std.proofs.lemmas.Bool.{cases_lt}
 use Rattle.mdp_search_bounds.specs.Tried.{IsVain}
 use Rattle.mdp_search_bounds.proofs.ladder.held_with_fewer.Goals as goal
