@@ -5,7 +5,8 @@ use Rattle.mdp_spec.specs.Mdp.{Mdp}
 use Rattle.mdp_rows.specs.declared.rule.RowRule.{RowRule}
 use Rattle.mdp_job.specs.{Job.{PlainTask, PlainPairTask, Asked, reads_model, reads_second}, Refusal.{no_job, read_certificate, long_model, long_certificate, no_memory}, declared.words_error.WordsError.{WordsError}}
 use Rattle.mdp_command.proofs.{Ends.{end_of_read, end_of_second, model_was_read}, FileBytes.{or_nothing, had_nothing}}
-use Rattle.mdp_command.specs.{Files.{model_due, second_due, IsDueToModel, IsDueToSecond, IsDueToPair}, Read.{IsModelReadToEnd, IsSecondReadToEnd, IsModelWorked, IsWorkOnModel, IsPairWorked, IsWorkOnPair, is_of_model}, Said.{Said}}
+use Rattle.mdp_command.specs.Files.{model_due, second_due, IsDueToModel, IsDueToSecond, IsDueToPair}
+use Rattle.mdp_command.specs.{Read.{IsModelReadToEnd, IsSecondReadToEnd, IsModelWorked, IsWorkOnModel, IsPairWorked, IsWorkOnPair, is_of_model}, Said.{Said}}
 use Rattle.mdp_command.specs.Streams.{Input, IsStill}
 use Rattle.mdp_app.specs.{Decided.{IsTextDecided, IsDecided}, Due.{IsDue, IsModelRead}, Run.{IsFromBytes, HasCause}, Shown.{IsTaskPrinted, IsPairPrinted, IsShown}}
 

@@ -129,7 +129,8 @@ pub(crate) fn on_pair<S: Source, C: Source>(
     model: &mut S,
     second: &mut C,
 ) -> Result<Vec<u8>, Refusal>
-    ensures read { IsWorkOnPair rule (IsPairDue (plain_pair task.now)) (AreShownOf (IsPairPrinted (plain_pair task.now)) rule) (input S.left S.faults model.old model.new) (input C.left C.faults second.old second.new) (said result) }
+    ensures read { IsWorkOnPair rule (IsPairDue (plain_pair task.now)) (AreShownOf (IsPairPrinted (plain_pair task.now)) rule)
+        (input S.left S.faults model.old model.new) (input C.left C.faults second.old second.new) (said result) }
     ensures unread { IsTrue (is_of_model (said result)) → second.new ≡ second.old }
     ensures model_end { IsModelReadToEnd (input S.left S.faults model.old model.new) (said result) }
     ensures second_end { IsFalse (is_of_model (said result)) → IsSecondReadToEnd (input C.left C.faults second.old second.new) (said result) }
