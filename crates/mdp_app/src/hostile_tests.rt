@@ -68,8 +68,8 @@ fn write_faults(alloc: Global, room: usize, call: u64, taken: usize) -> bool {
     fork_ends(alloc, room, call, Status::WriteFault, taken)
 }
 
-/// A sink that fails at each one of its calls while a certificate is written in pieces of 16 bytes: the seventh call takes 13 bytes, the eighth is the
-/// flush. A store of 40 bytes has no room for the third piece.
+/// A sink that fails at each one of its calls while a certificate is written in pieces of 16 bytes: the seventh call takes 13 bytes, the eighth is
+/// the flush. A store of 40 bytes has no room for the third piece.
 fn each_write_faults(alloc: Global) -> bool {
     write_faults(alloc, 200, 0, 0)
         && write_faults(alloc, 200, 1, 16)

@@ -1,8 +1,8 @@
-//! The program: each command is a step on the files that its words name. `solve` prints a certificate of the best values of a model, `witness` one of a
-//! subsystem that reaches a threshold, `check` holds a certificate against a model, `drill` solves a model that is drawn from a number, `horizon` prints
-//! the best values within so many steps, `policy` the values of a given policy, `chain` the model with the choices of a given policy alone, `discount` a
-//! certificate of the best discounted rewards, `discount-check` holds such a certificate against a model, `bounds` prints a certificate of lower and
-//! upper values, or one of a subsystem that reaches a threshold by them, and `bounds-check` holds one against a model.
+//! The program: each command is a step on the files that its words name. `solve` prints a certificate of the best values of a model, `witness` one of
+//! a subsystem that reaches a threshold, `check` holds a certificate against a model, `drill` solves a model that is drawn from a number, `horizon`
+//! prints the best values within so many steps, `policy` the values of a given policy, `chain` the model with the choices of a given policy alone,
+//! `discount` a certificate of the best discounted rewards, `discount-check` holds such a certificate against a model, `bounds` prints a certificate
+//! of lower and upper values, or one of a subsystem that reaches a threshold by them, and `bounds-check` holds one against a model.
 #![tactic(auto)]
 
 #[cfg(test)]

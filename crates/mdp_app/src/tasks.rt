@@ -121,7 +121,8 @@ fn answer_to_pair(
     }
 }
 
-/// Reads the model and then the second file, each to its end, and answers what is asked of both. The second one isn't read where the model is refused.
+/// Reads the model and then the second file, each to its end, and answers what is asked of both. The second one isn't read where the model is
+/// refused.
 pub(crate) fn on_pair<S: Source, C: Source>(
     alloc: Global,
     rule: RowRule,

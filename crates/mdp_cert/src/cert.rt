@@ -6,8 +6,8 @@ use crate::claim::Claim;
 use crate::widths::{body_narrow, claim_narrow, init_narrow};
 use mdp_text::Init;
 
-/// A certificate: its claim, the number of states, from 1 to 2^20, the initial state with its value, and a body of the claim's kind with an entry per state.
-/// For a subsystem the initial state has no value, and the body has an entry per kept state.
+/// A certificate: its claim, the number of states, from 1 to 2^20, the initial state with its value, and a body of the claim's kind with an entry per
+/// state. For a subsystem the initial state has no value, and the body has an entry per kept state.
 #[derive(Drop)]
 pub struct Cert {
     pub claim: Claim,

@@ -31,8 +31,8 @@ pub enum Claim {
         dir: Dir,
         name: Vec<u8>,
     },
-    /// On the kept states alone the greatest, or the least, probability of reaching the label from the initial state is at least the threshold, by way
-    /// of states with the label `stay` alone where there is one.
+    /// On the kept states alone the greatest, or the least, probability of reaching the label from the initial state is at least the threshold, by
+    /// way of states with the label `stay` alone where there is one.
     Witness {
         dir: Dir,
         stay: Option<Vec<u8>>,

@@ -9,7 +9,8 @@ pub fn text_law()
     ensures words { AreSameWords }
 {}
 
-/// Bytes are a text of a certificate or they are refused, and not both. A refusal names the first line that breaks a rule: the lines before it break none, and the bytes behind it change nothing.
+/// Bytes are a text of a certificate or they are refused, and not both. A refusal names the first line that breaks a rule: the lines before it break
+/// none, and the bytes behind it change nothing.
 pub fn refusal_law()
     ensures covered { IsReadOrRefused }
     ensures apart { IsNotBoth }

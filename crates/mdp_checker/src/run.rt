@@ -23,8 +23,8 @@ fn answer_to_words<S: Source, C: Source>(
     }
 }
 
-/// Does all that the program does: judges the words, reads the model and then the certificate, holds the one against the other, and writes `yes` or the
-/// line of a refusal. All of the text is in memory before the first write.
+/// Does all that the program does: judges the words, reads the model and then the certificate, holds the one against the other, and writes `yes` or
+/// the line of a refusal. All of the text is in memory before the first write.
 pub fn run<S: Source, C: Source, K: Sink>(
     alloc: Global,
     words: &[String],

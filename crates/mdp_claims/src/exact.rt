@@ -14,8 +14,8 @@ pub struct ReachCert {
     pub ranks: Vec<u32>,
 }
 
-/// Rewards until a goal, a memoryless policy and ranks that are said to be the greatest or the least rewards: one of each per state. A value of none is
-/// infinite.
+/// Rewards until a goal, a memoryless policy and ranks that are said to be the greatest or the least rewards: one of each per state. A value of none
+/// is infinite.
 #[derive(Drop)]
 pub struct RewardCert {
     pub values: Vec<Option<Frac>>,

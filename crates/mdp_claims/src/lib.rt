@@ -1,5 +1,5 @@
-//! What certificates hold, and what can be said of one: the bodies of claims, the rules by name, faults and verdicts. Types alone, so that the texts of
-//! certificates and the crates of the rules need not wait for one another.
+//! What certificates hold, and what can be said of one: the bodies of claims, the rules by name, faults and verdicts. Types alone, so that the texts
+//! of certificates and the crates of the rules need not wait for one another.
 #![tactic(auto)]
 
 mod bounds;

@@ -110,8 +110,8 @@ pub fn check_query(
     of_text(alloc, wanted, model, bytes)
 }
 
-/// Reads the model to its end and judges its text, then the certificate, then holds the one against the other. The certificate is of the wanted kind, or
-/// of that which its first line names. The second source isn't read where the model is refused.
+/// Reads the model to its end and judges its text, then the certificate, then holds the one against the other. The certificate is of the wanted kind,
+/// or of that which its first line names. The second source isn't read where the model is refused.
 pub fn check_files<S: Source, C: Source>(
     alloc: Global,
     rule: RowRule,

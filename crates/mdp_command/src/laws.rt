@@ -9,7 +9,8 @@ use mdp_drn::model_law;
 use mdp_subsystem_bounds::{subsystem_bounds_law, subsystem_bounds_text_law};
 
 /// Laws of a check, for certificates of each kind: a `yes` is due exactly where the bytes are accepted, and the claim of an accepted certificate is
-/// true of the model, which no other is answered `yes`. Bytes read as a certificate exactly where they are its text, and a text names the kind of its certificate.
+/// true of the model, which no other is answered `yes`. Bytes read as a certificate exactly where they are its text, and a text names the kind of its
+/// certificate.
 pub fn check_law()
     ensures accepted { (kind : CertificateKind) → YesIsAccepted (checker_of kind) }
     ensures yes { (kind : CertificateKind) → YesIsTrue (checker_of kind) }
@@ -30,8 +31,8 @@ pub fn check_law()
     model_law();
 }
 
-/// What a no at rule 1 to a certificate of discounted rewards, or of bounds of them, means: what the line `init` says of the model's initial state is false.
-/// Where that is false and the answer is no, it is at no other rule.
+/// What a no at rule 1 to a certificate of discounted rewards, or of bounds of them, means: what the line `init` says of the model's initial state is
+/// false. Where that is false and the answer is no, it is at no other rule.
 pub fn discount_start_law()
     ensures exact { ExactNoOfInit }
     ensures bounds { BoundsNoOfInit }

@@ -1,6 +1,6 @@
-//! What every command stands on: what a run says, its words, its sources and its sink, and its files, read to their ends. And certificates of every kind
-//! held against a model, from the bytes of two sources: what the commands `check`, `discount-check` and `bounds-check` do, and the program mdp_checker. No
-//! search stands below this crate.
+//! What every command stands on: what a run says, its words, its sources and its sink, and its files, read to their ends. And certificates of every
+//! kind held against a model, from the bytes of two sources: what the commands `check`, `discount-check` and `bounds-check` do, and the program
+//! mdp_checker. No search stands below this crate.
 #![tactic(auto)]
 
 mod checking;

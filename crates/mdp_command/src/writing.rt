@@ -28,7 +28,8 @@ fn write_refusal<K: Sink>(alloc: Global, refusal: &Refusal, out: &mut K) -> Stat
     }
 }
 
-/// Writes what a run says, the text of its work or the line of a refusal, and ends with its status. All of the text is in memory before the first write.
+/// Writes what a run says, the text of its work or the line of a refusal, and ends with its status. All of the text is in memory before the first
+/// write.
 pub fn write_answer<K: Sink>(alloc: Global, answer: Result<Vec<u8>, Refusal>, out: &mut K) -> Status
     ensures { EndsWith result (output K.taken K.settled K.faults out.old out.new) (said answer) }
 {

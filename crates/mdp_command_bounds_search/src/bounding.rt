@@ -76,8 +76,8 @@ fn bounds_of_until(
     }
 }
 
-/// Bounds of the rewards of a name until a label, or the first refusal: the name is looked up first, then the label, then it is asked whether a reward of
-/// this name is below 0.
+/// Bounds of the rewards of a name until a label, or the first refusal: the name is looked up first, then the label, then it is asked whether a
+/// reward of this name is below 0.
 fn bounds_of_reward(
     alloc: Global,
     model: &Model,

@@ -23,10 +23,10 @@ fn certificate_text(alloc: Global, cert: &DiscountBoundsCert) -> Result<Vec<u8>,
     Ok(text)
 }
 
-/// Looks for lower and upper values between which the greatest, or the least, rewards of this name lie, where a step later counts `factor` times as much.
-/// Gives the text of their certificate, or the refusal of a name that isn't there. There are such bounds for every model that has the name, as
-/// `bounds_discount_search_law` says, though values may be missing. None is, and they are as near as the digits say, unless the exact query, or a check of its
-/// answer as bounds, is too wide. The factor is at least 0 and below 1.
+/// Looks for lower and upper values between which the greatest, or the least, rewards of this name lie, where a step later counts `factor` times as
+/// much. Gives the text of their certificate, or the refusal of a name that isn't there. There are such bounds for every model that has the name, as
+/// `bounds_discount_search_law` says, though values may be missing. None is, and they are as near as the digits say, unless the exact query, or a
+/// check of its answer as bounds, is too wide. The factor is at least 0 and below 1.
 pub fn bounds_discount_query(
     alloc: Global,
     model: &Model,

@@ -1,5 +1,5 @@
-//! The command `bounds`, on a model that was read: certified lower and upper bounds of the best values of a query, with a policy, for every model; and
-//! subsystems that are shown to come to a threshold by lower values.
+//! The command `bounds`, on a model that was read: certified lower and upper bounds of the best values of a query, with a policy, for every model;
+//! and subsystems that are shown to come to a threshold by lower values.
 #![tactic(auto)]
 
 mod bounding;

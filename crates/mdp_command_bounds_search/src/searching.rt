@@ -20,9 +20,9 @@ fn certificate_text(alloc: Global, cert: &BoundsCert) -> Result<Vec<u8>, Refusal
     Ok(text)
 }
 
-/// Looks for lower and upper values between which the greatest, or the least, values of the query lie: probabilities, rewards until a label, or mean payoffs.
-/// Gives the text of their certificate, or the refusal of a query that doesn't fit the model. There are such bounds for every model that the query fits, as
-/// `bounds_search_law` says. They are as near as the digits say, unless the exact query is too wide.
+/// Looks for lower and upper values between which the greatest, or the least, values of the query lie: probabilities, rewards until a label, or mean
+/// payoffs. Gives the text of their certificate, or the refusal of a query that doesn't fit the model. There are such bounds for every model that the
+/// query fits, as `bounds_search_law` says. They are as near as the digits say, unless the exact query is too wide.
 pub fn bounds_query(
     alloc: Global,
     model: &Model,

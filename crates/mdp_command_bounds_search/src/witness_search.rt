@@ -118,9 +118,9 @@ impl Asked<'_> {
     }
 }
 
-/// Searches a subsystem on which the best probability, in the direction, of reaching a state with the label from the one initial state, by way of states with
-/// the label `stay` alone where there is one, is still at least the threshold. Gives the text of a certificate that shows it by lower values, or the first
-/// refusal: the labels are looked up first, then the one initial state.
+/// Searches a subsystem on which the best probability, in the direction, of reaching a state with the label from the one initial state, by way of
+/// states with the label `stay` alone where there is one, is still at least the threshold. Gives the text of a certificate that shows it by lower
+/// values, or the first refusal: the labels are looked up first, then the one initial state.
 pub fn bounds_witness_query(
     alloc: Global,
     model: &Model,

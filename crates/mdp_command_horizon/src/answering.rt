@@ -43,8 +43,8 @@ pub(crate) fn stay_word(stay: Option<&[u8]>) -> &[u8]
     }
 }
 
-/// The best probabilities of coming, from states with the label `stay` or any states, to states with `label` within so many steps, and a choice of each
-/// state for each step: the labels are looked up first, then it is asked whether the table would be too large.
+/// The best probabilities of coming, from states with the label `stay` or any states, to states with `label` within so many steps, and a choice of
+/// each state for each step: the labels are looked up first, then it is asked whether the table would be too large.
 pub fn horizon_query(
     alloc: Global,
     model: &Model,

@@ -10,9 +10,9 @@ use mdp_job::Refusal;
 use mdp_rows::{Dir, Model};
 use std::alloc::Global;
 
-/// Bounds of the best probability of coming, from states with the label `stay` or any states, to states with `label` within so many steps: lower and upper
-/// values that are rounded outward to so many digits, from 1 to 30, and a table. It's never too wide. The labels are looked up first, then it is asked
-/// whether the table would be too large.
+/// Bounds of the best probability of coming, from states with the label `stay` or any states, to states with `label` within so many steps: lower and
+/// upper values that are rounded outward to so many digits, from 1 to 30, and a table. It's never too wide. The labels are looked up first, then it
+/// is asked whether the table would be too large.
 pub fn until_bounds_query(
     alloc: Global,
     model: &Model,

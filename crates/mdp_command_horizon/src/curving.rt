@@ -9,8 +9,9 @@ use mdp_job::Refusal;
 use mdp_rows::{Dir, Model};
 use std::alloc::Global;
 
-/// Bounds of the best probability of coming from the initial state, by way of states with the label `stay` or any states, to states with `label`, within
-/// each number of steps from 0 to `steps`. It's never too wide, and makes no table of choices. The labels are looked up first, then the initial state.
+/// Bounds of the best probability of coming from the initial state, by way of states with the label `stay` or any states, to states with `label`,
+/// within each number of steps from 0 to `steps`. It's never too wide, and makes no table of choices. The labels are looked up first, then the
+/// initial state.
 #[tactic(auto, using(mdp_text::proofs::InitialState::initial_below))]
 pub fn until_curve_query(
     alloc: Global,

@@ -16,15 +16,15 @@ pub fn total_text_law()
     total_law();
 }
 
-/// The same of `bounds` within a number of steps: a text that is due spells lower and upper values, between which the best ones lie, and a table that comes
-/// to the lower ones, or for the least doesn't pass the upper ones.
+/// The same of `bounds` within a number of steps: a text that is due spells lower and upper values, between which the best ones lie, and a table that
+/// comes to the lower ones, or for the least doesn't pass the upper ones.
 pub fn horizon_bounds_law()
     ensures until { UntilTextIsBetween }
     ensures total { TotalTextIsBetween }
 {}
 
-/// The same of `curve`: a text that is due spells for each number of steps a lower and an upper value of the one initial state, between which the best
-/// one lies.
+/// The same of `curve`: a text that is due spells for each number of steps a lower and an upper value of the one initial state, between which the
+/// best one lies.
 pub fn horizon_curve_law()
     ensures until { UntilTextIsCurve }
     ensures total { TotalTextIsCurve }

@@ -49,8 +49,8 @@ fn of_text(alloc: Global, model: &Model, bytes: &[u8]) -> Result<Vec<u8>, Refusa
     }
 }
 
-/// Judges a text, which is a policy's or a certificate's that names one, and gives the text of the policy's chain: the model in which each state keeps only
-/// the policy's choice.
+/// Judges a text, which is a policy's or a certificate's that names one, and gives the text of the policy's chain: the model in which each state
+/// keeps only the policy's choice.
 pub fn chain_query(alloc: Global, model: &Model, bytes: &[u8]) -> Result<Vec<u8>, Refusal>
     ensures due { (said result ≡ Err no_memory) ⊎ IsChainDue model.now bytes.now (said result) }
     ensures printed { IfOk (said result) (IsChainPrinted model.now bytes.now) }

@@ -106,8 +106,8 @@ fn of_text(
     }
 }
 
-/// Judges the text of a policy, and gives the probabilities with which it comes to a state with the label, by way of states with the label `stay` alone where
-/// it is given, and the first changes that raise and that lower one.
+/// Judges the text of a policy, and gives the probabilities with which it comes to a state with the label, by way of states with the label `stay`
+/// alone where it is given, and the first changes that raise and that lower one.
 pub fn policy_query(
     alloc: Global,
     model: &Model,

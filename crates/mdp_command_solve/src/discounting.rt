@@ -45,8 +45,8 @@ fn certificate_text(alloc: Global, cert: &DiscountCert) -> Result<Vec<u8>, Refus
     }
 }
 
-/// The text of the certificate of the greatest or the least rewards of this name, where a step later counts `factor` times as much, or its refusal: the
-/// name is looked up first. The factor is at least 0 and below 1.
+/// The text of the certificate of the greatest or the least rewards of this name, where a step later counts `factor` times as much, or its refusal:
+/// the name is looked up first. The factor is at least 0 and below 1.
 pub fn discount_query(
     alloc: Global,
     model: &Model,

@@ -97,9 +97,9 @@ impl Asked<'_> {
     }
 }
 
-/// The text of the certificate of a subsystem on which the best probability, in the direction, of reaching a state with the label from the one initial
-/// state, by way of states with the label `stay` alone where there is one, is still at least the threshold; or its refusal: the label is looked up
-/// first, and that of the states on the way, then the one initial state.
+/// The text of the certificate of a subsystem on which the best probability, in the direction, of reaching a state with the label from the one
+/// initial state, by way of states with the label `stay` alone where there is one, is still at least the threshold; or its refusal: the label is
+/// looked up first, and that of the states on the way, then the one initial state.
 pub fn witness_query(
     alloc: Global,
     model: &Model,

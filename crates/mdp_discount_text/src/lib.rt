@@ -1,5 +1,5 @@
-//! The text of certificates of the discounted reward, and of certificates of its bounds, a `mdp-bounds 1`: written, and read exactly, with the first line
-//! that breaks a rule. The lines of the states are those of mdp_cert.
+//! The text of certificates of the discounted reward, and of certificates of its bounds, a `mdp-bounds 1`: written, and read exactly, with the first
+//! line that breaks a rule. The lines of the states are those of mdp_cert.
 #![tactic(auto)]
 
 mod bounds_head_lines;

@@ -18,7 +18,8 @@ use std::alloc::{AllocError, Global};
 /// The longest line that is read.
 pub(crate) const LONGEST_LINE: usize = 65_536;
 
-/// What the lines so far have spelled: entries of the header and what may come next, or the number of choices that was announced and the model so far.
+/// What the lines so far have spelled: entries of the header and what may come next, or the number of choices that was announced and the model so
+/// far.
 #[derive(Drop)]
 pub(crate) enum Part {
     Header { header: Header, next: NextLine },

@@ -28,7 +28,8 @@ impl Model for ListSink {
 }
 
 impl ListSink {
-    /// A sink that fills `store`, takes at most `chunk` bytes in a write, and fails at the calls whose numbers are in `fails`. Writes and flushes are numbered together, and the first call has number 0.
+    /// A sink that fills `store`, takes at most `chunk` bytes in a write, and fails at the calls whose numbers are in `fails`. Writes and flushes are
+    /// numbered together, and the first call has number 0.
     pub fn new(store: Vec<u8>, chunk: usize, fails: Vec<u64>) -> ListSink
         requires { 1 ≤ chunk }
         ensures { result ≡ record { taken = []; room = vec_len store; settled = 0; chunk = chunk; plan = plan_of fails.items } }

@@ -26,7 +26,8 @@ impl Model for ListSource {
 }
 
 impl ListSource {
-    /// A source of these bytes, which gives at most `chunk` of them in a call and fails at the calls whose numbers are in `fails`. The first call has number 0.
+    /// A source of these bytes, which gives at most `chunk` of them in a call and fails at the calls whose numbers are in `fails`. The first call has
+    /// number 0.
     pub fn new(bytes: Vec<u8>, chunk: usize, fails: Vec<u64>) -> ListSource
         requires { 1 ≤ chunk }
         ensures { result ≡ record { left = bytes.items; chunk = chunk; plan = plan_of fails.items } }

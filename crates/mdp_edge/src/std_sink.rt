@@ -7,7 +7,8 @@ use crate::source::Failed;
 use std::io::Write;
 use std::marker::Model;
 
-/// Bytes to outside. As a `Sink` it tells nothing of them. A call that is interrupted is made again, at most 1,000 times in all, and a write that takes nothing is a fault.
+/// Bytes to outside. As a `Sink` it tells nothing of them. A call that is interrupted is made again, at most 1,000 times in all, and a write that
+/// takes nothing is a fault.
 #[derive(Drop)]
 pub struct StdSink<W> {
     inner: W,

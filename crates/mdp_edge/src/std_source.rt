@@ -6,7 +6,8 @@ use crate::source::{Failed, Source};
 use std::io::Read;
 use std::marker::Model;
 
-/// Bytes from outside, or from nowhere where what should have been read could not be opened. As a `Source` it tells nothing of them. A call that is interrupted is made again, at most 1,000 times in all.
+/// Bytes from outside, or from nowhere where what should have been read could not be opened. As a `Source` it tells nothing of them. A call that is
+/// interrupted is made again, at most 1,000 times in all.
 #[derive(Drop)]
 pub struct StdSource<R> {
     inner: Option<R>,

@@ -100,9 +100,9 @@ fn answers(alloc: Global, values: Values, columns: usize) -> Result<Vec<Vec<Frac
     Ok(answers)
 }
 
-/// Solves x = c + Q x over the active states, for each column c: one value per state, 0 at states that aren't active. Some ranks show that each active
-/// state leaves; what they are doesn't matter to the solution. `Wide` names the state at whose step the written elimination first has a term past
-/// width.
+/// Solves x = c + Q x over the active states, for each column c: one value per state, 0 at states that aren't active. Some ranks show that each
+/// active state leaves; what they are doesn't matter to the solution. `Wide` names the state at whose step the written elimination first has a term
+/// past width.
 pub fn solve_leaving<R: RowsOf>(
     alloc: Global,
     rows: &R,

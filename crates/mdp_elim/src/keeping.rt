@@ -19,8 +19,8 @@ use mdp_wide::Unfinished;
 use std::alloc::{AllocError, Global};
 use std::marker::Model;
 
-/// The equations of a chain's states, each solved for its value by those of smaller states, and the values. They are kept, so that a chain that differs
-/// in some rows is solved again at those states alone from which one comes to a row that differs. Their entries stand in an arena.
+/// The equations of a chain's states, each solved for its value by those of smaller states, and the values. They are kept, so that a chain that
+/// differs in some rows is solved again at those states alone from which one comes to a row that differs. Their entries stand in an arena.
 #[derive(Drop)]
 pub struct Kept<'a> {
     solved: Vec<KeptEquation<'a>>,
@@ -209,9 +209,9 @@ impl<'a> Kept<'a> {
         &self.first
     }
 
-    /// Solves x = c + Q x over the active states, for each column c, at these states, which ascend. All others have the equations for which `self` was solved,
-    /// and lead to none of these. `Wide` names the state at whose step the written elimination of the whole chain first has a term past width. After an error
-    /// nothing is known of what is kept.
+    /// Solves x = c + Q x over the active states, for each column c, at these states, which ascend. All others have the equations for which `self`
+    /// was solved, and lead to none of these. `Wide` names the state at whose step the written elimination of the whole chain first has a term past
+    /// width. After an error nothing is known of what is kept.
     pub fn solve_again<R: RowsOf>(
         &mut self,
         alloc: Global,

@@ -56,16 +56,16 @@ pub enum Task<'a> {
         name: &'a [u8],
         steps: u32,
     },
-    /// `discount MODEL ROWS DIR NAME FACTOR`: the best reward of this name, without end, where each step counts the factor less than the one before it;
-    /// the factor is at least 0 and below 1.
+    /// `discount MODEL ROWS DIR NAME FACTOR`: the best reward of this name, without end, where each step counts the factor less than the one before
+    /// it; the factor is at least 0 and below 1.
     Discount {
         dir: Dir,
         name: &'a [u8],
         factor: Frac,
     },
     /// `bounds MODEL ROWS DIR reach LABEL DIGITS`, `bounds MODEL ROWS DIR until A B DIGITS`, `bounds MODEL ROWS DIR reward NAME LABEL DIGITS` and
-    /// `bounds MODEL ROWS DIR mean NAME DIGITS`: a lower and an upper value for each state, between which the best value, in the direction, lies, and a
-    /// policy; the search tries for so many digits, from 1 to 30.
+    /// `bounds MODEL ROWS DIR mean NAME DIGITS`: a lower and an upper value for each state, between which the best value, in the direction, lies, and
+    /// a policy; the search tries for so many digits, from 1 to 30.
     Bounds {
         dir: Dir,
         query: Query<'a>,
@@ -93,8 +93,8 @@ pub enum Task<'a> {
         factor: Frac,
         digits: u32,
     },
-    /// `bounds MODEL ROWS DIR witness LABEL THRESHOLD` and `bounds MODEL ROWS DIR witness until A B THRESHOLD`: a subsystem as `witness` asks for, shown by
-    /// bounds in place of exact values.
+    /// `bounds MODEL ROWS DIR witness LABEL THRESHOLD` and `bounds MODEL ROWS DIR witness until A B THRESHOLD`: a subsystem as `witness` asks for,
+    /// shown by bounds in place of exact values.
     BoundsWitness {
         dir: Dir,
         stay: Option<&'a [u8]>,
@@ -124,8 +124,8 @@ pub enum Task<'a> {
 pub enum PairTask<'a> {
     /// `check MODEL ROWS CERT`: whether the certificate holds of the model.
     Check,
-    /// `policy MODEL ROWS POLICY reach LABEL` and `policy MODEL ROWS POLICY until A B`: the probabilities with which a given policy reaches a state with
-    /// the label, on a way that keeps to states with the label `stay` (to any states, where that is none), and where another choice is better.
+    /// `policy MODEL ROWS POLICY reach LABEL` and `policy MODEL ROWS POLICY until A B`: the probabilities with which a given policy reaches a state
+    /// with the label, on a way that keeps to states with the label `stay` (to any states, where that is none), and where another choice is better.
     Policy {
         stay: Option<&'a [u8]>,
         label: &'a [u8],
@@ -191,9 +191,9 @@ fn job_by<'a>(command: &str, words: &'a [String]) -> Result<Job<'a>, WordsError>
 }
 
 /// The job that the words are, or the first refusal: `Command`, then `Number`, `Rows`, `Direction` and `Objective`, and `Number` again where an
-/// objective has another number of words; for `drill` `Drill`, for `horizon` and `total` `Steps`, for `policy` `Objective` behind `Rows`, for `discount`
-/// `Factor` and for `witness` `Threshold` behind `Direction`, and for `bounds` and `curve` `Steps` or `Factor`, where the objective has one, and `Digits`
-/// behind all of these, or `Threshold` alone. It takes no memory.
+/// objective has another number of words; for `drill` `Drill`, for `horizon` and `total` `Steps`, for `policy` `Objective` behind `Rows`, for
+/// `discount` `Factor` and for `witness` `Threshold` behind `Direction`, and for `bounds` and `curve` `Steps` or `Factor`, where the objective has
+/// one, and `Digits` behind all of these, or `Threshold` alone. It takes no memory.
 pub fn job_of<'a>(words: &'a [String]) -> Result<Job<'a>, WordsError>
     ensures { asked result ≡ job_of words.now }
 {

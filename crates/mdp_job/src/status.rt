@@ -12,8 +12,8 @@ pub enum Status {
     Words,
     /// The model's text was refused.
     Model,
-    /// The certificate or the policy doesn't belong to the model, or a reward name or a label isn't in it, or it hasn't exactly one initial state, or a
-    /// reward until a goal is below 0, or there are too many steps.
+    /// The certificate or the policy doesn't belong to the model, or a reward name or a label isn't in it, or it hasn't exactly one initial state, or
+    /// a reward until a goal is below 0, or there are too many steps.
     Query,
     /// A written term of the check is past width.
     TooWide,

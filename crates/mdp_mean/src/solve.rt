@@ -16,8 +16,8 @@ use mdp_wide::SolveError;
 use std::alloc::Global;
 
 /// The greatest or the least mean payoff from each state, under the reward name of place `m`, by policy iteration in each end component and over the
-/// quotient by these: for each state a gain, a bound, a bias and a choice, and the spread, held against the rules of certificates. `TooWide` is the first
-/// written term past width of these parts, of their join, or of that check.
+/// quotient by these: for each state a gain, a bound, a bias and a choice, and the spread, held against the rules of certificates. `TooWide` is the
+/// first written term past width of these parts, of their join, or of that check.
 pub fn solve_mean(alloc: Global, model: &Model, m: u32, dir: Dir) -> Result<MeanCert, SolveError>
     requires name { m < length model.now.names }
     ensures path { Solves plain (EndsSo dir model.now m) result }

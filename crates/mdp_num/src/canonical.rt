@@ -45,8 +45,8 @@ fn unsigned(is_negative: bool, bytes: &[u8]) -> Option<Frac>
     Some(Frac::from_lowest(is_negative, num, den))
 }
 
-/// The fraction of which the bytes are the canonical spelling: the numerator in decimal without leading zeros, with `-` in front where it is negative,
-/// and where the denominator isn't 1, `/` and the denominator, in lowest terms and both in width.
+/// The fraction of which the bytes are the canonical spelling: the numerator in decimal without leading zeros, with `-` in front where it is
+/// negative, and where the denominator isn't 1, `/` and the denominator, in lowest terms and both in width.
 pub fn read_canonical(bytes: &[u8]) -> Option<Frac>
     ensures value { result ≡ canonical_of bytes.now }
     ensures found { IfSome result (λ f. bytes.now ≡ spelling f) }

@@ -119,9 +119,10 @@ fn terms(bytes: &[u8]) -> Result<(u128, u128), NumeralError>
 
 /// Reads `digits [. digits] [(e or E) [+ or -] digits]` or `digits / digits`, exactly and at any length.
 ///
-/// `Shape` where the text is neither. A fraction is `ZeroDen` where its denominator is 0, else `Large` where a term as spelled is above 10 ^ 36.
-/// Of a decimal let d be all its digits as one number without the zeros at their end, and e the exponent, less the count of places, plus the count of those zeros:
-/// it is `Large` where d is above 10 ^ 36, where e is below -36, and where e is at least 0 and d times 10 ^ e is above 10 ^ 36; 0 is never `Large`.
+/// `Shape` where the text is neither. A fraction is `ZeroDen` where its denominator is 0, else `Large` where a term as spelled is above 10 ^ 36. Of a
+/// decimal let d be all its digits as one number without the zeros at their end, and e the exponent, less the count of places, plus the count of
+/// those zeros: it is `Large` where d is above 10 ^ 36, where e is below -36, and where e is at least 0 and d times 10 ^ e is above 10 ^ 36; 0 is
+/// never `Large`.
 #[tactic(auto, unfolding(crate::specs::Numeral::numeral_of))]
 pub fn read_numeral(bytes: &[u8]) -> Result<Frac, NumeralError>
     ensures value { result ≡ numeral_of bytes.now }

@@ -131,8 +131,8 @@ impl Dependents {
         Ok(())
     }
 
-    /// The nodes that come to one of the changed ones by a policy with one choice for each node: the changed ones, and with a node each one whose choice
-    /// depends on its value. They ascend. No mark may stand, and none does behind it; where memory is refused some may.
+    /// The nodes that come to one of the changed ones by a policy with one choice for each node: the changed ones, and with a node each one whose
+    /// choice depends on its value. They ascend. No mark may stand, and none does behind it; where memory is refused some may.
     pub(crate) fn coming_to(
         &self,
         alloc: Global,
@@ -155,8 +155,8 @@ impl Dependents {
         Ok(finish(marks, found))
     }
 
-    /// These nodes, and those with a choice that depends on the value of one of them. They ascend. No mark may stand, and none does behind it; where memory is
-    /// refused some may.
+    /// These nodes, and those with a choice that depends on the value of one of them. They ascend. No mark may stand, and none does behind it; where
+    /// memory is refused some may.
     pub(crate) fn with_dependents(
         &self,
         alloc: Global,

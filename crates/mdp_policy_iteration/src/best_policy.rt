@@ -32,8 +32,8 @@ pub(crate) struct Last {
     pub(crate) policy: Vec<u32>,
 }
 
-/// The rest of the path from a first policy, whose evaluation and whose changes are given: from round to round only nodes that come to a change are evaluated
-/// anew, and choices are compared only at these and at nodes with a choice that leads to one of them.
+/// The rest of the path from a first policy, whose evaluation and whose changes are given: from round to round only nodes that come to a change are
+/// evaluated anew, and choices are compared only at these and at nodes with a choice that leads to one of them.
 fn improve_further<P: ShortestPath>(
     alloc: Global,
     problem: &P,
@@ -93,8 +93,8 @@ fn last_of<P: ShortestPath>(
     }
 }
 
-/// Policy iteration from a start policy (Howard 1960): the last policy of the path, its round and its values, or the first term past width. The rows of its
-/// evaluations stand in an arena, which it makes and drops.
+/// Policy iteration from a start policy (Howard 1960): the last policy of the path, its round and its values, or the first term past width. The rows
+/// of its evaluations stand in an arena, which it makes and drops.
 pub fn improve<P: ShortestPath>(
     alloc: Global,
     problem: &P,

@@ -206,8 +206,8 @@ fn put_values<P: ShortestPath>(
     }
 }
 
-/// The evaluation of a policy, kept so that the next policy is evaluated at those nodes alone that come to a change: which nodes are active, the constants of
-/// their equations, what elimination keeps, with its rows in an arena, and the values.
+/// The evaluation of a policy, kept so that the next policy is evaluated at those nodes alone that come to a change: which nodes are active, the
+/// constants of their equations, what elimination keeps, with its rows in an arena, and the values.
 #[derive(Drop)]
 pub(crate) struct Evaluation<'a> {
     active: Marks,
@@ -255,8 +255,8 @@ impl<'a> Evaluation<'a> {
         self.values
     }
 
-    /// Evaluates a policy at these nodes, which ascend. All others have the rows for which `self` was evaluated, and come to none of these. An error names the
-    /// first place at which a written term of the whole evaluation is past width.
+    /// Evaluates a policy at these nodes, which ascend. All others have the rows for which `self` was evaluated, and come to none of these. An error
+    /// names the first place at which a written term of the whole evaluation is past width.
     pub(crate) fn evaluate<P: ShortestPath>(
         &mut self,
         alloc: Global,

@@ -11,8 +11,8 @@ pub struct Leader {
     pub choice: Option<u32>,
 }
 
-/// The leader after choice `c`, which is worth `sum`, has been compared with it: it takes the place of the best one where it is strictly better. `Wide` where
-/// a term of the comparison is past width.
+/// The leader after choice `c`, which is worth `sum`, has been compared with it: it takes the place of the best one where it is strictly better.
+/// `Wide` where a term of the comparison is past width.
 pub fn judged(dir: Dir, c: u32, best: Leader, sum: Frac) -> Result<Leader, Wide>
     ensures value { IfOk result (λ next. judged dir c (shown best) sum ≡ Some (shown next)) }
     ensures wide { IfErr result (λ _. judged dir c (shown best) sum ≡ None) }

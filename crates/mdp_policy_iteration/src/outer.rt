@@ -24,8 +24,8 @@ fn plus_outer(
     sum.add(&term)
 }
 
-/// `start`, and for each entry of a row to a node that isn't active its probability times the value of its target: the constant of an active node's equation.
-/// One mark and one value for each node. `Wide` where a term is past width.
+/// `start`, and for each entry of a row to a node that isn't active its probability times the value of its target: the constant of an active node's
+/// equation. One mark and one value for each node. `Wide` where a term is past width.
 pub fn outer_sum(row: Row<'_>, active: &Marks, start: &Frac, values: &[Frac]) -> Result<Frac, Wide>
     requires active { All (λ t. t < length active.now) row.targets.now }
     requires values { All (λ t. t < length values.now) row.targets.now }

@@ -12,8 +12,8 @@ use crate::shortest_path::ShortestPath;
 use mdp_rows::Pred;
 use std::alloc::Global;
 
-/// One round of a policy: it is evaluated at the affected nodes of the scope, and choices are compared at the compared ones. A node that isn't affected has the
-/// value of the round before, and no choice improves a node that isn't compared. The changes; where there are none the path ends.
+/// One round of a policy: it is evaluated at the affected nodes of the scope, and choices are compared at the compared ones. A node that isn't
+/// affected has the value of the round before, and no choice improves a node that isn't compared. The changes; where there are none the path ends.
 pub(crate) fn round_of<P: ShortestPath>(
     alloc: Global,
     problem: &P,

@@ -28,7 +28,8 @@ enum Stage {
     InRow,
 }
 
-/// The vectors of a model while it is made, state by state, choice by choice, entry by entry. One that has refused answers the same refusal from then on.
+/// The vectors of a model while it is made, state by state, choice by choice, entry by entry. One that has refused answers the same refusal from then
+/// on.
 #[derive(Drop)]
 pub struct Assembly {
     announced: u32,

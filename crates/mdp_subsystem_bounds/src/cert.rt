@@ -9,9 +9,9 @@ use mdp_num::Frac;
 use mdp_rows::Dir;
 use mdp_text::{all_narrow, all_short};
 
-/// A certificate of bounds of a subsystem: on the kept states alone the greatest, or the least, probability of reaching the label from the initial state
-/// `start` is at least the threshold, by way of states with the label `stay` alone where there is one. There are 1 to 2^20 states with one of each list;
-/// the names have 1 to 255 bytes without `"` and line feed; the threshold is at least 0, and the initial state is one of the states.
+/// A certificate of bounds of a subsystem: on the kept states alone the greatest, or the least, probability of reaching the label from the initial
+/// state `start` is at least the threshold, by way of states with the label `stay` alone where there is one. There are 1 to 2^20 states with one of
+/// each list; the names have 1 to 255 bytes without `"` and line feed; the threshold is at least 0, and the initial state is one of the states.
 #[derive(Drop)]
 pub struct SubsystemBoundsCert {
     pub dir: Dir,

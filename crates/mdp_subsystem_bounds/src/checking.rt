@@ -75,8 +75,8 @@ fn answered(alloc: Global, model: &Model, cert: &SubsystemBoundsCert) -> Answer
     }
 }
 
-/// Holds a certificate of bounds of a subsystem against a model: the numbers of states, then the labels, then rule 1 and the rules of the claim. After yes
-/// the claim is true of the model, whoever made the certificate.
+/// Holds a certificate of bounds of a subsystem against a model: the numbers of states, then the labels, then rule 1 and the rules of the claim.
+/// After yes the claim is true of the model, whoever made the certificate.
 pub fn check_subsystem_bounds(alloc: Global, model: &Model, cert: &SubsystemBoundsCert) -> Answer
     ensures answer { (result ≡ Answer.Memory) ⊎ (result ≡ answer_to model.now (plain cert.now)) }
     ensures accepted { (result ≡ Answer.Memory) ⊎ ((result ≡ Answer.Yes) ↔ IsAccepted model.now (plain cert.now)) }

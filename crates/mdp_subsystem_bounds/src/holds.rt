@@ -53,9 +53,9 @@ fn with_start(before: Verdict, lower: &[Frac], start: u32, threshold: &Frac) -> 
     }
 }
 
-/// Whether lower values, a policy and ranks show that on the kept states alone the greatest, or the least, probability of reaching a goal from the start
-/// is at least the threshold: what rules 2 to 8 say of them on the model of the kept states, and rule 24 at the end. Yes, the first rule that is false
-/// with its place, or the place of the first sum past width where that comes before.
+/// Whether lower values, a policy and ranks show that on the kept states alone the greatest, or the least, probability of reaching a goal from the
+/// start is at least the threshold: what rules 2 to 8 say of them on the model of the kept states, and rule 24 at the end. Yes, the first rule that
+/// is false with its place, or the place of the first sum past width where that comes before.
 pub fn holds_subsystem_bounds(
     alloc: Global,
     model: &Model,

@@ -1,7 +1,7 @@
 ghost use Rattle.mdp_subsystem_bounds.specs.Laws.{RulesReach, YesIsAccepted, AcceptedIsBound, IsReadFromText, IsReadBack, IsOneText, AreSameWords};
 
-/// Laws of bounds of subsystems: what meets the rules reaches the threshold on the kept states; yes is answered exactly where a certificate is accepted,
-/// and the claim of an accepted certificate is true of the model.
+/// Laws of bounds of subsystems: what meets the rules reaches the threshold on the kept states; yes is answered exactly where a certificate is
+/// accepted, and the claim of an accepted certificate is true of the model.
 pub fn subsystem_bounds_law()
     ensures rules { RulesReach }
     ensures accepted { YesIsAccepted }

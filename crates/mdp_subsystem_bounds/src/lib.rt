@@ -1,5 +1,5 @@
-//! Bounds of witnessing subsystems: certificates by which the best probability of reaching a goal on kept states alone is at least a threshold, shown by
-//! lower values in place of exact ones. Their rules, their checker, and their text, a kind of `mdp-bounds 1`. No search stands below this crate.
+//! Bounds of witnessing subsystems: certificates by which the best probability of reaching a goal on kept states alone is at least a threshold, shown
+//! by lower values in place of exact ones. Their rules, their checker, and their text, a kind of `mdp-bounds 1`. No search stands below this crate.
 #![tactic(auto)]
 
 mod cert;

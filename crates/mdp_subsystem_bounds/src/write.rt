@@ -134,8 +134,8 @@ fn push_lines(out: &mut Vec<u8>, cert: &SubsystemBoundsCert) -> Result<(), Memor
     push_states(out, cert)
 }
 
-/// Appends the text of a certificate of bounds of a subsystem, with a line for each longest run of states with the same words. After `Memory` the text is
-/// as before.
+/// Appends the text of a certificate of bounds of a subsystem, with a line for each longest run of states with the same words. After `Memory` the
+/// text is as before.
 pub fn write_subsystem_bounds(cert: &SubsystemBoundsCert, out: &mut Vec<u8>) -> Result<(), Memory>
     ensures text { OnOk result (out.new.items ≡ out.old.items ++ text_of (plain cert.now)) }
     ensures unchanged { OnErr result (out.new.items ≡ out.old.items) }

@@ -17,6 +17,8 @@ const ATTEMPT_DIGITS: u32 = 12;
 const MOST_ZEROS: u32 = 18;
 
 impl Query<'_, '_> {
+    ghost use Rattle.mdp_subsystem_search.specs.Asked.{for_kept};
+
     /// So many digits more than the zeros that the threshold begins with.
     pub(crate) fn digits_more(&self, digits: u32) -> u32 {
         let mut shifted = float_of(&self.threshold);
@@ -44,7 +46,7 @@ impl Query<'_, '_> {
         room: &mut Room,
     ) -> Result<Option<ReachBoundsCert>, Memory>
         requires { length kept.now ≡ states_of self.now.model.now }
-        ensures { IfOk result (λ found. IfSome found (IsReaching self.now.dir (sub_of self.now.model.now self.now.goals.now kept.now) self.now.goals.now self.now.start self.now.threshold)) }
+        ensures { IfOk result (λ found. IfSome found (for_kept self.now kept.now IsReaching)) }
     {
         let sub = self.model.cut(alloc, kept, self.goals)?;
         room.take(&sub);
@@ -61,7 +63,7 @@ impl Query<'_, '_> {
         room: &mut Room,
     ) -> Result<bool, Memory>
         requires { length kept.now ≡ states_of self.now.model.now }
-        ensures { IfOk result (λ is_short. is_short ≡ true → IsShort self.now.dir (sub_of self.now.model.now self.now.goals.now kept.now) self.now.goals.now self.now.start self.now.threshold) }
+        ensures { IfOk result (λ is_short. is_short ≡ true → for_kept self.now kept.now IsShort) }
     {
         let sub = self.model.cut(alloc, kept, self.goals)?;
         room.take(&sub);

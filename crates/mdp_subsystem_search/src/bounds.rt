@@ -25,6 +25,8 @@ fn named(alloc: Global, dir: Dir, states: u32, choices: Vec<u32>) -> Result<Vec<
 }
 
 impl Query<'_, '_> {
+    ghost use Rattle.mdp_subsystem_search.specs.Asked.{for_model, LiesBetween, IsTrivial, AreLowerBounds};
+
     /// The bounds that the search proposes for a model of as many states.
     pub(crate) fn proposed(
         &self,
@@ -50,8 +52,8 @@ impl Query<'_, '_> {
         requires states { states_of sub.now ≡ states_of self.now.model.now }
         requires sizes { HasSizes (states_of self.now.model.now) cert.now }
         ensures rules { (result ≡ true) ↔ AreHeld self.now.dir sub.now self.now.goals.now cert.now }
-        ensures between { result ≡ true → LieBetween self.now.dir sub.now self.now.goals.now cert.now.lower.items cert.now.upper.items cert.now.choices.items }
-        ensures trivial { IsTrivialReach sub.now self.now.goals.now cert.now.lower.items cert.now.upper.items cert.now.choices.items cert.now.ranks.items → result ≡ true }
+        ensures between { result ≡ true → LiesBetween self.now sub.now cert.now }
+        ensures trivial { IsTrivial self.now sub.now cert.now → result ≡ true }
     {
         matches!(
             holds_bounds_reach(sub, self.goals, self.dir, cert),
@@ -109,9 +111,9 @@ impl Query<'_, '_> {
     ) -> Result<Option<ReachBoundsCert>, Memory>
         requires states { states_of sub.now ≡ states_of self.now.model.now }
         requires sizes { HasSizes (states_of self.now.model.now) cert }
-        ensures some { IfOk result (λ found. IfSome found (IsReaching self.now.dir sub.now self.now.goals.now self.now.start self.now.threshold)) }
-        ensures none { IfOk result (λ found. IfNone found (self.now.threshold ≤ℚ value_at cert.lower.items self.now.start → IsReachBounds self.now.dir sub.now self.now.goals.now cert.lower.items
-            (ones self.now.model.now) (named self.now.dir (states_of self.now.model.now) cert.choices.items) cert.ranks.items → ⊥)) }
+        ensures some { IfOk result (λ found. IfSome found (for_model self.now sub.now IsReaching)) }
+        ensures none { IfOk result (λ found. IfNone found
+            (self.now.threshold ≤ℚ value_at cert.lower.items self.now.start → AreLowerBounds self.now sub.now cert.lower.items cert.choices.items cert.ranks.items → ⊥)) }
     {
         let sided = self.one_sided(alloc, cert)?;
         if self.is_reached(&sided) && self.holds(sub, &sided) {
@@ -147,7 +149,7 @@ impl Query<'_, '_> {
     ) -> Result<bool, AllocError>
         requires states { states_of sub.now ≡ states_of self.now.model.now }
         requires sizes { HasSizes (states_of self.now.model.now) cert }
-        ensures { IfOk result (λ is_short. is_short ≡ true → IsShort self.now.dir sub.now self.now.goals.now self.now.start self.now.threshold) }
+        ensures { IfOk result (λ is_short. is_short ≡ true → for_model self.now sub.now IsShort) }
     {
         let sided = self.upper_sided(alloc, cert)?;
         Ok(self.is_missed(&sided) && self.holds(sub, &sided))

@@ -55,13 +55,15 @@ fn unshown(error: WitnessError, lower: Frac, upper: Frac) -> Unshown
 }
 
 impl Query<'_, '_> {
+    ghost use Rattle.mdp_subsystem_search.specs.Asked.{for_query, KeepsMax, KeepsMin, AreLowerBounds};
+
     /// The exact answer on the states that an exact subsystem keeps, as bounds, where it isn't too wide and the rules say yes to it.
     fn answer_on(&self, alloc: Global, found: &Subsystem) -> Result<Option<Found>, Memory>
         requires shape { HasShape self.now.dir self.now.model.now (plain found.now) }
-        requires max { self.now.dir ≡ Max → SubMax self.now.model.now self.now.goals.now (kept_in self.now.model.now (plain found.now)) self.now.start self.now.threshold }
-        requires min { self.now.dir ≡ Min → SubMin self.now.model.now self.now.goals.now (kept_in self.now.model.now (plain found.now)) self.now.start self.now.threshold }
-        ensures some { IfOk result (λ answer. IfSome answer (IsFound self.now.dir self.now.model.now self.now.goals.now self.now.start self.now.threshold)) }
-        ensures none { IfOk result (λ answer. IfNone answer (IsKeptWide self.now.dir self.now.model.now self.now.goals.now self.now.start self.now.threshold (plain found.now))) }
+        requires max { self.now.dir ≡ Max → KeepsMax self.now (plain found.now) }
+        requires min { self.now.dir ≡ Min → KeepsMin self.now (plain found.now) }
+        ensures some { IfOk result (λ answer. IfSome answer (for_query self.now IsFound)) }
+        ensures none { IfOk result (λ answer. IfNone answer (for_query self.now IsKeptWide (plain found.now))) }
     {
         self.model.known();
         let kept = marks_of(alloc, self.model.states(), kept_by(found))?;
@@ -86,9 +88,8 @@ impl Query<'_, '_> {
         requires sub { sub.now ≡ sub_of self.now.model.now self.now.goals.now kept }
         requires sizes { HasOneEach self.now.model.now (reach.plain answer) }
         requires reaches { self.now.threshold ≤ℚ value_at answer.values.items self.now.start }
-        ensures some { IfOk result (λ found. IfSome found (IsFound self.now.dir self.now.model.now self.now.goals.now self.now.start self.now.threshold)) }
-        ensures none { IfOk result (λ found. IfNone found (IsReachBounds self.now.dir sub.now self.now.goals.now answer.values.items (ones self.now.model.now)
-            (named self.now.dir (states_of self.now.model.now) answer.choices.items) answer.ranks.items → ⊥)) }
+        ensures some { IfOk result (λ found. IfSome found (for_query self.now IsFound)) }
+        ensures none { IfOk result (λ found. IfNone found (AreLowerBounds self.now sub.now answer.values.items answer.choices.items answer.ranks.items → ⊥)) }
     {
         let upper = answer.values.to_vec(alloc)?;
         let cert = ReachBoundsCert {
@@ -111,14 +112,14 @@ impl Query<'_, '_> {
         lower: Frac,
         upper: Frac,
     ) -> Result<Found, Unshown>
-        requires open { IsOpen self.now.dir self.now.model.now self.now.goals.now self.now.start self.now.threshold lower upper }
-        requires ends { EndsSo self.now.dir self.now.model.now self.now.goals.now self.now.start self.now.threshold (Ok (plain found.now)) }
+        requires open { for_query self.now IsOpen lower upper }
+        requires ends { for_query self.now EndsSo (Ok (plain found.now)) }
         requires shape { HasShape self.now.dir self.now.model.now (plain found.now) }
-        requires max { self.now.dir ≡ Max → SubMax self.now.model.now self.now.goals.now (kept_in self.now.model.now (plain found.now)) self.now.start self.now.threshold }
-        requires min { self.now.dir ≡ Min → SubMin self.now.model.now self.now.goals.now (kept_in self.now.model.now (plain found.now)) self.now.start self.now.threshold }
-        ensures found { IfOk result (IsFound self.now.dir self.now.model.now self.now.goals.now self.now.start self.now.threshold) }
-        ensures below { IfErr result (λ error. IfBelow error (IsBelow self.now.dir self.now.model.now self.now.goals.now self.now.start self.now.threshold)) }
-        ensures undecided { IfErr result (λ error. IfUndecided error (IsUndecided self.now.dir self.now.model.now self.now.goals.now self.now.start self.now.threshold)) }
+        requires max { self.now.dir ≡ Max → KeepsMax self.now (plain found.now) }
+        requires min { self.now.dir ≡ Min → KeepsMin self.now (plain found.now) }
+        ensures found { IfOk result (for_query self.now IsFound) }
+        ensures below { IfErr result (λ error. IfBelow error (for_query self.now IsBelow)) }
+        ensures undecided { IfErr result (λ error. IfUndecided error (for_query self.now IsUndecided)) }
     {
         match self.answer_on(alloc, found)? {
             Some(answer) => Ok(answer),
@@ -129,10 +130,10 @@ impl Query<'_, '_> {
     /// What the exact query of the subsystem comes to, where the threshold lies between a lower and an upper value.
     pub(crate) fn exact(&self, alloc: Global, lower: Frac, upper: Frac) -> Result<Found, Unshown>
         requires threshold { of_int (pos 0) ≤ℚ self.now.threshold }
-        requires open { IsOpen self.now.dir self.now.model.now self.now.goals.now self.now.start self.now.threshold lower upper }
-        ensures found { IfOk result (IsFound self.now.dir self.now.model.now self.now.goals.now self.now.start self.now.threshold) }
-        ensures below { IfErr result (λ error. IfBelow error (IsBelow self.now.dir self.now.model.now self.now.goals.now self.now.start self.now.threshold)) }
-        ensures undecided { IfErr result (λ error. IfUndecided error (IsUndecided self.now.dir self.now.model.now self.now.goals.now self.now.start self.now.threshold)) }
+        requires open { for_query self.now IsOpen lower upper }
+        ensures found { IfOk result (for_query self.now IsFound) }
+        ensures below { IfErr result (λ error. IfBelow error (for_query self.now IsBelow)) }
+        ensures undecided { IfErr result (λ error. IfUndecided error (for_query self.now IsUndecided)) }
     {
         match witness(
             alloc,

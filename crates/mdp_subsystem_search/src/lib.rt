@@ -1,6 +1,7 @@
-//! The search for a witnessing subsystem by bounds, which any model has: kept states on which the greatest, or the least, probability of reaching a goal
-//! from the start is still at least a threshold, by lower values that meet the rules of certified bounds. States leave in the order of what the goals lose
-//! by them, by halves; each attempt is judged by the rules before it counts. What the search guesses, in floats and in whole numbers, has no clause.
+//! The search for a witnessing subsystem by bounds, which any model has: kept states on which the greatest, or the least, probability of reaching a
+//! goal from the start is still at least a threshold, by lower values that meet the rules of certified bounds. States leave in the order of what the
+//! goals lose by them, by halves; each attempt is judged by the rules before it counts. What the search guesses, in floats and in whole numbers, has
+//! no clause.
 #![tactic(auto)]
 
 mod attempt;

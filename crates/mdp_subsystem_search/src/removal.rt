@@ -23,8 +23,8 @@ const MOST_ATTEMPTS: u32 = 1_000_000;
 /// How often as many states as may go by their weights are taken out at once.
 const LIGHT_ROUNDS: u32 = 60;
 
-/// Up to what part of what the lower value of the start is over the threshold they weigh together at first. Where they go that was too little: states on one
-/// way lose the goals the same. Where they have to stay it was too much.
+/// Up to what part of what the lower value of the start is over the threshold they weigh together at first. Where they go that was too little: states
+/// on one way lose the goals the same. Where they have to stay it was too much.
 const FIRST_PART: f64 = 0.99;
 
 const LEAST_PART: f64 = 0.01;
@@ -74,6 +74,8 @@ fn push_halves(pieces: &mut Vec<Vec<u32>>, mut piece: Vec<u32>) -> Result<(), Al
 }
 
 impl Query<'_, '_> {
+    ghost use Rattle.mdp_subsystem_search.specs.Asked.{for_query};
+
     /// Takes out a piece, where what is left still comes to the threshold. Whether it does.
     fn take_out(
         &self,
@@ -82,8 +84,8 @@ impl Query<'_, '_> {
         piece: &[u32],
         room: &mut Room,
     ) -> Result<bool, Memory>
-        requires { IsFound self.now.dir self.now.model.now self.now.goals.now self.now.start self.now.threshold found.old }
-        ensures { IfOk result (λ _. IsFound self.now.dir self.now.model.now self.now.goals.now self.now.start self.now.threshold found.new) }
+        requires { for_query self.now IsFound found.old }
+        ensures { IfOk result (λ _. for_query self.now IsFound found.new) }
     {
         let fewer = cleared(alloc, self.model.states(), &found.kept, piece)?;
         match self.attempt(alloc, &fewer, self.attempt_digits(), room)? {
@@ -103,8 +105,8 @@ impl Query<'_, '_> {
         mut pieces: Vec<Vec<u32>>,
         room: &mut Room,
     ) -> Result<Found, Memory>
-        requires { IsFound self.now.dir self.now.model.now self.now.goals.now self.now.start self.now.threshold found }
-        ensures { IfOk result (IsFound self.now.dir self.now.model.now self.now.goals.now self.now.start self.now.threshold) }
+        requires { for_query self.now IsFound found }
+        ensures { IfOk result (for_query self.now IsFound) }
     {
         let mut left = found;
         for _ in 0..MOST_ATTEMPTS {
@@ -123,8 +125,8 @@ impl Query<'_, '_> {
 
     /// The same kept states with bounds of fewer digits, where the search proposes such.
     fn shortened(&self, alloc: Global, found: Found) -> Result<Found, Memory>
-        requires { IsFound self.now.dir self.now.model.now self.now.goals.now self.now.start self.now.threshold found }
-        ensures { IfOk result (IsFound self.now.dir self.now.model.now self.now.goals.now self.now.start self.now.threshold) }
+        requires { for_query self.now IsFound found }
+        ensures { IfOk result (for_query self.now IsFound) }
     {
         let Found { kept, cert } = found;
         let mut room = Room::none();
@@ -138,7 +140,7 @@ impl Query<'_, '_> {
 
     /// The kept states in the order in which they are tried.
     fn order(&self, alloc: Global, found: &Found) -> Result<Vec<Weighed>, AllocError>
-        requires { IsFound self.now.dir self.now.model.now self.now.goals.now self.now.start self.now.threshold found.now }
+        requires { for_query self.now IsFound found.now }
     {
         order_of(
             alloc,
@@ -157,8 +159,8 @@ impl Query<'_, '_> {
         float_of(&lower) - float_of(&self.threshold)
     }
 
-    /// Takes out the states that the start doesn't lead to, and as many as weigh no more than a part of what the lower value is over the threshold. Whether
-    /// there are such, and what is left still comes to the threshold.
+    /// Takes out the states that the start doesn't lead to, and as many as weigh no more than a part of what the lower value is over the threshold.
+    /// Whether there are such, and what is left still comes to the threshold.
     fn take_light(
         &self,
         alloc: Global,
@@ -166,8 +168,8 @@ impl Query<'_, '_> {
         part: f64,
         room: &mut Room,
     ) -> Result<bool, Memory>
-        requires { IsFound self.now.dir self.now.model.now self.now.goals.now self.now.start self.now.threshold found.old }
-        ensures { IfOk result (λ _. IsFound self.now.dir self.now.model.now self.now.goals.now self.now.start self.now.threshold found.new) }
+        requires { for_query self.now IsFound found.old }
+        ensures { IfOk result (λ _. for_query self.now IsFound found.new) }
     {
         let order = self.order(alloc, found)?;
         let light = light_states(alloc, &order, part * self.spare(found))?;
@@ -179,8 +181,8 @@ impl Query<'_, '_> {
 
     /// What is left when light states are taken out again and again: first those alone that the start doesn't lead to.
     fn without_light(&self, alloc: Global, found: Found, room: &mut Room) -> Result<Found, Memory>
-        requires { IsFound self.now.dir self.now.model.now self.now.goals.now self.now.start self.now.threshold found }
-        ensures { IfOk result (IsFound self.now.dir self.now.model.now self.now.goals.now self.now.start self.now.threshold) }
+        requires { for_query self.now IsFound found }
+        ensures { IfOk result (for_query self.now IsFound) }
     {
         let mut left = found;
         self.take_light(alloc, &mut left, -1.0, room)?;
@@ -197,8 +199,8 @@ impl Query<'_, '_> {
 
     /// What is left when states are taken out: first those that the start doesn't lead to, and those that weigh little; then by halves.
     pub(crate) fn removed(&self, alloc: Global, found: Found) -> Result<Found, Memory>
-        requires { IsFound self.now.dir self.now.model.now self.now.goals.now self.now.start self.now.threshold found }
-        ensures { IfOk result (IsFound self.now.dir self.now.model.now self.now.goals.now self.now.start self.now.threshold) }
+        requires { for_query self.now IsFound found }
+        ensures { IfOk result (for_query self.now IsFound) }
     {
         let mut room = Room::of(self.model, REMOVAL_ENTRIES, REMOVAL_PASSES);
         let near = self.without_light(alloc, found, &mut room)?;

@@ -14,12 +14,14 @@ use mdp_rows::{Dir, Marks, Model};
 use std::alloc::Global;
 
 impl Query<'_, '_> {
+    ghost use Rattle.mdp_subsystem_search.specs.Asked.{for_query};
+
     /// Kept states on which the best probability comes to the threshold: those that are left when states are taken out, or those of the exact query.
     fn found(&self, alloc: Global) -> Result<Found, Unshown>
         requires { of_int (pos 0) ≤ℚ self.now.threshold }
-        ensures found { IfOk result (IsFound self.now.dir self.now.model.now self.now.goals.now self.now.start self.now.threshold) }
-        ensures below { IfErr result (λ error. IfBelow error (IsBelow self.now.dir self.now.model.now self.now.goals.now self.now.start self.now.threshold)) }
-        ensures undecided { IfErr result (λ error. IfUndecided error (IsUndecided self.now.dir self.now.model.now self.now.goals.now self.now.start self.now.threshold)) }
+        ensures found { IfOk result (for_query self.now IsFound) }
+        ensures below { IfErr result (λ error. IfBelow error (for_query self.now IsBelow)) }
+        ensures undecided { IfErr result (λ error. IfUndecided error (for_query self.now IsUndecided)) }
     {
         match self.standing(alloc)? {
             Standing::Reaches(cert) => {
@@ -32,8 +34,8 @@ impl Query<'_, '_> {
     }
 }
 
-/// Kept states on which the greatest, or the least, probability of reaching a goal from `start` is still at least `threshold`, with bounds that show it,
-/// and which of them were shown to be needed.
+/// Kept states on which the greatest, or the least, probability of reaching a goal from `start` is still at least `threshold`, with bounds that show
+/// it, and which of them were shown to be needed.
 pub fn search_subsystem(
     alloc: Global,
     model: &Model,

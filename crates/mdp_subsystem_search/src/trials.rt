@@ -15,6 +15,8 @@ const TRIAL_ENTRIES: u64 = 1_048_576;
 const TRIAL_PASSES: u64 = 5;
 
 impl Query<'_, '_> {
+    ghost use Rattle.mdp_subsystem_search.specs.Asked.{for_query};
+
     /// Whether it is shown that without a kept state the best probability is below the threshold.
     fn is_needed(
         &self,
@@ -25,7 +27,7 @@ impl Query<'_, '_> {
     ) -> Result<bool, Memory>
         requires each { length kept.now ≡ states_of self.now.model.now }
         requires state { s < states_of self.now.model.now }
-        ensures { IfOk result (λ needed. needed ≡ true → IsNeeded self.now.dir self.now.model.now self.now.goals.now self.now.start self.now.threshold kept.now s) }
+        ensures { IfOk result (λ needed. needed ≡ true → for_query self.now IsNeeded kept.now s) }
     {
         let mut others = copied(alloc, self.model.states(), kept)?;
         others.set(s, false);
@@ -36,7 +38,7 @@ impl Query<'_, '_> {
     pub(crate) fn needed(&self, alloc: Global, kept: &Marks) -> Result<Marks, Memory>
         requires { length kept.now ≡ states_of self.now.model.now }
         ensures each { IfOk result (λ needed. length needed ≡ states_of self.now.model.now) }
-        ensures needed { IfOk result (AreNeeded self.now.dir self.now.model.now self.now.goals.now self.now.start self.now.threshold kept.now) }
+        ensures needed { IfOk result (for_query self.now AreNeeded kept.now) }
     {
         let mut room = Room::of(self.model, TRIAL_ENTRIES, TRIAL_PASSES);
         let mut needed = Marks::empty(alloc, self.model.states())?;

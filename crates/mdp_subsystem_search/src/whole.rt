@@ -27,12 +27,14 @@ fn others(alloc: Global, states: u32, goals: &Marks) -> Result<Marks, AllocError
 }
 
 impl Query<'_, '_> {
+    ghost use Rattle.mdp_subsystem_search.specs.Asked.{for_query, LiesBetween};
+
     /// How the model stands to the threshold by bounds that the rules say yes to.
     fn standing_by(&self, cert: &ReachBoundsCert) -> Standing
         requires sizes { HasSizes (states_of self.now.model.now) cert.now }
-        requires between { LieBetween self.now.dir self.now.model.now self.now.goals.now cert.now.lower.items cert.now.upper.items cert.now.choices.items }
+        requires between { LiesBetween self.now self.now.model.now cert.now }
         requires under { value_at cert.now.lower.items self.now.start <ℚ self.now.threshold }
-        ensures { StandsSo self.now.dir self.now.model.now self.now.goals.now self.now.start self.now.threshold result }
+        ensures { for_query self.now StandsSo result }
     {
         let upper = cert.upper[self.start as usize];
         if self.is_missed(cert) {
@@ -44,7 +46,7 @@ impl Query<'_, '_> {
 
     /// How the model stands to the threshold by what the search proposes with so many digits, where the rules say yes to it.
     fn standing_with(&self, alloc: Global, digits: u32) -> Result<Option<Standing>, Memory>
-        ensures { IfOk result (λ found. IfSome found (StandsSo self.now.dir self.now.model.now self.now.goals.now self.now.start self.now.threshold)) }
+        ensures { IfOk result (λ found. IfSome found (for_query self.now StandsSo)) }
     {
         let cert = self.proposed(alloc, self.model, digits)?;
         if self.is_reached(&cert) {
@@ -59,7 +61,7 @@ impl Query<'_, '_> {
 
     /// How the model stands to the threshold by the bounds that say nothing.
     fn standing_by_nothing(&self, alloc: Global) -> Result<Standing, Memory>
-        ensures { IfOk result (StandsSo self.now.dir self.now.model.now self.now.goals.now self.now.start self.now.threshold) }
+        ensures { IfOk result (for_query self.now StandsSo) }
     {
         self.model.known();
         let cert = trivial_reach(alloc, self.model, self.goals)?;
@@ -74,7 +76,7 @@ impl Query<'_, '_> {
 
     /// How the model stands to the threshold by the most digits, else by the bounds that say nothing.
     fn standing_with_most(&self, alloc: Global) -> Result<Standing, Memory>
-        ensures { IfOk result (StandsSo self.now.dir self.now.model.now self.now.goals.now self.now.start self.now.threshold) }
+        ensures { IfOk result (for_query self.now StandsSo) }
     {
         match self.standing_with(alloc, MOST_DIGITS)? {
             Some(standing) => Ok(standing),
@@ -84,7 +86,7 @@ impl Query<'_, '_> {
 
     /// How the model stands to the threshold: by few digits, where they tell on which side of it; else by more.
     pub(crate) fn standing(&self, alloc: Global) -> Result<Standing, Memory>
-        ensures { IfOk result (StandsSo self.now.dir self.now.model.now self.now.goals.now self.now.start self.now.threshold) }
+        ensures { IfOk result (for_query self.now StandsSo) }
     {
         let few = self.standing_with(alloc, self.attempt_digits())?;
         if !is_decided(&few) {
@@ -98,8 +100,8 @@ impl Query<'_, '_> {
 
     /// Each state that is no goal is kept.
     pub(crate) fn whole(&self, alloc: Global, cert: ReachBoundsCert) -> Result<Found, Memory>
-        requires { IsReaching self.now.dir self.now.model.now self.now.goals.now self.now.start self.now.threshold cert }
-        ensures { IfOk result (IsFound self.now.dir self.now.model.now self.now.goals.now self.now.start self.now.threshold) }
+        requires { for_query self.now IsReaching cert }
+        ensures { IfOk result (for_query self.now IsFound) }
     {
         fewer_law();
         let kept = others(alloc, self.model.states(), self.goals)?;

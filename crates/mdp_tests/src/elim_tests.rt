@@ -101,7 +101,8 @@ fn visits_are<R: RowsOf>(alloc: Global, chain: &Chain<'_, R>) -> bool
     are(&found, &[part(12, 5), part(3, 5), Frac::whole(0)])
 }
 
-/// Whether `solve_leaving` gives this value at state 0 of `RARE`, in width, and names state 1 where the product of its value and the chance has 39 digits.
+/// Whether `solve_leaving` gives this value at state 0 of `RARE`, in width, and names state 1 where the product of its value and the chance has 39
+/// digits.
 fn rare_is_solved<R: RowsOf>(alloc: Global, chain: &Chain<'_, R>) -> bool
     requires states { length (R.rows chain.now.rows.now) ≡ 3 }
     requires active { length chain.now.active.now ≡ 3 }

@@ -1,5 +1,5 @@
-//! The tests of the libraries: of numbers, sources, models and texts, of passes over a model and of the solvers. The crate has no code but tests, so that no other crate
-//! is proved twice for them.
+//! The tests of the libraries: of numbers, sources, models and texts, of passes over a model and of the solvers. The crate has no code but tests, so
+//! that no other crate is proved twice for them.
 #![tactic(auto)]
 
 #[cfg(test)]

@@ -30,8 +30,8 @@ fn push_signs(signs: &str, text: &mut String) -> Result<(), AllocError> {
     Ok(())
 }
 
-/// The model of a short text. It begins with the number of states and `#`. `;` stands between states; a state is its number, `*` if it is a goal and `!`
-/// if it is blocked; `|` begins a choice, behind which its reward may stand in brackets, and a blank begins each entry.
+/// The model of a short text. It begins with the number of states and `#`. `;` stands between states; a state is its number, `*` if it is a goal and
+/// `!` if it is blocked; `|` begins a choice, behind which its reward may stand in brackets, and a blank begins each entry.
 pub(crate) fn model_of(alloc: Global, signs: &str) -> Option<Model> {
     let Ok(mut text) = String::from_str(alloc, "@type: MDP\n@nr_states\n") else {
         return None;

@@ -68,7 +68,8 @@ pub fn push_number(out: &mut Vec<u8>, states: u64) -> Result<(), Memory>
     push_parts(out, &[Bytes(b"states "), Whole(states), Bytes(b"\n")])
 }
 
-/// Appends the word `init` and the initial state: a line's front, or all but the end of a line without a value. After `Memory` the text begins as before.
+/// Appends the word `init` and the initial state: a line's front, or all but the end of a line without a value. After `Memory` the text begins as
+/// before.
 pub fn push_start(out: &mut Vec<u8>, state: u32) -> Result<(), Memory>
     ensures text { OnOk result (out.new.items ≡ out.old.items ++ init_text (Start state)) }
     ensures front { Keeps out.old.items out.new.items }

@@ -1,4 +1,5 @@
-//! Where a written term is past width: the part of a computation, the round, the policy, the state and the choice; and why a computation isn't finished.
+//! Where a written term is past width: the part of a computation, the round, the policy, the state and the choice; and why a computation isn't
+//! finished.
 #![tactic(auto)]
 
 mod too_wide;

@@ -1,6 +1,7 @@
 //! The search for a witnessing subsystem: a set of states on which the best probability of reaching a goal from the start is still at least a
-//! threshold, with a certificate that shows it, and from which no single state more can go. It begins with a first set and tries to leave out one state
-//! after the other. For the greatest probability a set is evaluated by the expected visits of a policy, for the least one by a query of its subsystem.
+//! threshold, with a certificate that shows it, and from which no single state more can go. It begins with a first set and tries to leave out one
+//! state after the other. For the greatest probability a set is evaluated by the expected visits of a policy, for the least one by a query of its
+//! subsystem.
 #![tactic(auto)]
 
 mod first;

@@ -18,8 +18,8 @@ pub fn evaluation_law()
     ensures visits { VisitsAreExact }
 {}
 
-/// The trials of a first set leave one set. What they leave still reaches the threshold, where the first set does; and in the trial of each state that stays and isn't marked as wide
-/// the set fell below the threshold. So for both directions.
+/// The trials of a first set leave one set. What they leave still reaches the threshold, where the first set does; and in the trial of each state
+/// that stays and isn't marked as wide the set fell below the threshold. So for both directions.
 pub fn left_law()
     ensures max_one { VisitsLeaveOne }
     ensures max_reaches { VisitsLeftReach }
