@@ -52,7 +52,8 @@ pub fn run<S: Source, C: Source, K: Sink>(
         (output K.taken K.settled K.faults out.old out.new) result }
 
     // Where the work was done, the text that the sink took is due to the job, and what it says is true.
-    ensures done { result ≡ Status.Done → IsWorkDone (job_of words.now) (input S.left S.faults model.old model.new) (input C.left C.faults second.old second.new)
+    ensures done { result ≡ Status.Done → IsWorkDone (job_of words.now) (input S.left S.faults model.old model.new)
+        (input C.left C.faults second.old second.new)
         (output K.taken K.settled K.faults out.old out.new) }
 
     // Where a text is due, the work is done, but for faults that were counted and want of memory; and but for bounds of a witness between which the
@@ -82,7 +83,8 @@ pub fn run_on_files<F: Source + Drop, M: FnOnce(&str) -> F, O: FnOnce(&str) -> F
 ) -> Status
     requires model { M.IsAlwaysCallable open_model }
     requires second { O.IsAlwaysCallable open_second }
-    ensures { OnFiles (FnOnceReturnsAt M.FnOnce open_model) (FnOnceReturnsAt O.FnOnce open_second) F.left F.faults (model_path (job_of words.now) words.now) (second_path (job_of words.now) words.now)
+    ensures { OnFiles (FnOnceReturnsAt M.FnOnce open_model) (FnOnceReturnsAt O.FnOnce open_second) F.left F.faults
+        (model_path (job_of words.now) words.now) (second_path (job_of words.now) words.now)
         (λ model second. HasRun (job_of words.now) model second (output K.taken K.settled K.faults out.old out.new) result) }
 {
     let paths = paths_of(words, &job_of(words));

@@ -2,7 +2,8 @@
 
 ghost use Rattle.std.specs.Prelude.{◌≡◌, ◌⊎◌, false, Err, IfOk, IsTrue, IsFalse};
 ghost use Rattle.mdp_job.specs.Job.{plain_task, plain_pair};
-ghost use Rattle.mdp_command.specs.{Prelude.{IsModelReadToEnd, IsSecondReadToEnd, no_memory, said, input}, Read.{IsWorkOnModel, IsWorkOnPair, is_of_model}, Shown.{IsShownOf, AreShownOf}};
+ghost use Rattle.mdp_command.specs.Prelude.{IsModelReadToEnd, IsSecondReadToEnd, no_memory, said, input};
+ghost use Rattle.mdp_command.specs.{Read.{IsWorkOnModel, IsWorkOnPair, is_of_model}, Shown.{IsShownOf, AreShownOf}};
 ghost use Rattle.mdp_app.specs.{Due.{IsTaskDue, IsPairDue}, InRange.{IsTaskInRange}, Shown.{IsTaskPrinted, IsPairPrinted}};
 
 use mdp_command::{CertificateKind, check_query, read_model, read_second};
@@ -90,7 +91,8 @@ pub(crate) fn on_model<S: Source>(
     model: &mut S,
 ) -> Result<Vec<u8>, Refusal>
     requires { IsTaskInRange (plain_task task.now) }
-    ensures read { IsWorkOnModel rule (IsTaskDue (plain_task task.now)) (IsShownOf (IsTaskPrinted (plain_task task.now)) rule) (input S.left S.faults model.old model.new) (said result) }
+    ensures read { IsWorkOnModel rule (IsTaskDue (plain_task task.now)) (IsShownOf (IsTaskPrinted (plain_task task.now)) rule)
+        (input S.left S.faults model.old model.new) (said result) }
     ensures end { IsModelReadToEnd (input S.left S.faults model.old model.new) (said result) }
 {
     match read_model(alloc, model, rule) {

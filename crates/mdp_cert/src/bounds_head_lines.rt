@@ -63,7 +63,8 @@ fn init_at(infinite: bool, states: u32, line: u64, text: &[u8]) -> Result<Bounds
 /// Reads the lines 2 to 4, of claim, states and init, and gives the bytes behind them.
 #[tactic(auto, unfolding(crate::specs::BoundsReading::head_from))]
 pub(crate) fn head_from(alloc: Global, bytes: &[u8]) -> Result<(Head, &[u8]), CertError>
-    ensures { MatchResult result (λ p. head_from (place 2 bytes.now) ≡ Ok (plain_head p.0, place 5 p.1.now)) (λ e. Refuses e (head_from (place 2 bytes.now))) }
+    ensures { MatchResult result (λ p. head_from (place 2 bytes.now) ≡ Ok (plain_head p.0, place 5 p.1.now))
+        (λ e. Refuses e (head_from (place 2 bytes.now))) }
 {
     let (text, rest) = next_line(2, bytes)?;
     let claim = bounds_claim_at(alloc, 2, text)?;

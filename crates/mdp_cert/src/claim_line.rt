@@ -1,7 +1,8 @@
 ghost use Rattle.std.specs.Prelude.{◌≡◌, Ok, Some, None, IfOk, MatchResult, MatchOption, option_and_then, option_map};
 ghost use Rattle.mdp_rows.specs.Name.{is_name};
 ghost use Rattle.mdp_cert.specs.{Cert.{plain_claim}, Reading.{closed_name, name_behind, two_names, upper_claim, reach_front}};
-ghost use Rattle.mdp_cert.specs.Reading.{reach_claim, until_front, until_claim, reward_front, reward_claim, mean_front, mean_claim, threshold_of, name_and_threshold, witness_front, witness_claim, claim_to, claim_of, claim_at};
+ghost use Rattle.mdp_cert.specs.Reading.{reach_claim, until_front, until_claim, reward_front, reward_claim, mean_front, mean_claim, threshold_of};
+ghost use Rattle.mdp_cert.specs.Reading.{name_and_threshold, witness_front, witness_claim, claim_to, claim_of, claim_at};
 ghost use Rattle.mdp_cert.specs.Reading.{names_and_threshold, witness_until_front, witness_until_claim, subsystem_claim};
 ghost use Rattle.mdp_cert.specs.Answer.{said_claim};
 ghost use Rattle.mdp_text.specs.{Words.{behind, name_and_rest}, Answer.{Refuses}};
@@ -160,7 +161,8 @@ fn witness_claim(dir: Dir, text: &[u8]) -> Option<ClaimWords<'_>>
 
 /// The name before the first quote, and the name and the threshold behind `" "` there.
 fn names_and_threshold(text: &[u8]) -> Option<(&[u8], &[u8], Frac)>
-    ensures { MatchOption result (names_and_threshold text.now ≡ None) (λ said. names_and_threshold text.now ≡ Some (said.0.now, said.1.now, said.2)) }
+    ensures { MatchOption result (names_and_threshold text.now ≡ None) (λ said. names_and_threshold text.now
+        ≡ Some (said.0.now, said.1.now, said.2)) }
 {
     let (stay, rest) = cut_name(text)?;
     match name_and_threshold(rest.strip_prefix(b"\" \"")?) {

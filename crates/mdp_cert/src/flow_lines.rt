@@ -1,7 +1,8 @@
 ghost use Rattle.std.specs.{Prelude.{◌≡◌, ◌&&◌, ◌++◌, ◌∷◌, [], nat_lt, IfOk, OnOk, length, filter_map, option_and_then}, List.{join_with_byte}};
 ghost use Rattle.mdp_text.specs.Answer.{Keeps};
 ghost use Rattle.mdp_cert.specs.{declared.flow_line.FlowLine.TheVariants.{Keep, Send}, Cert.{is_next, is_next_flow, plain_body}};
-ghost use Rattle.mdp_cert.specs.Witness.{keep_at, flow_at, flow_line_at, kept_in, mark_in, flow_in, flow_line_words, flow_listed, keep_lines, flow_lines, flow_body};
+ghost use Rattle.mdp_cert.specs.Witness.{keep_at, flow_at, flow_line_at, kept_in, mark_in, flow_in, flow_line_words, flow_listed, keep_lines};
+ghost use Rattle.mdp_cert.specs.Witness.{flow_lines, flow_body};
 
 use crate::body::Body;
 use crate::flow_line::FlowLine;

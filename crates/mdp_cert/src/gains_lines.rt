@@ -22,7 +22,8 @@ pub(crate) fn push_gains(
     cert: &MeanBoundsCert,
 ) -> Result<(), Memory>
     requires { length (gains_of cert.now.lower.items cert.now.upper.items cert.now.bound.items cert.now.bias.items cert.now.choices.items) ≡ states }
-    ensures text { OnOk result (out.new.items ≡ out.old.items ++ closed_lines Two gains_columns (gains_of cert.now.lower.items cert.now.upper.items cert.now.bound.items cert.now.bias.items cert.now.choices.items)) }
+    ensures text { OnOk result (out.new.items ≡ out.old.items ++ closed_lines Two gains_columns
+        (gains_of cert.now.lower.items cert.now.upper.items cert.now.bound.items cert.now.bias.items cert.now.choices.items)) }
     ensures front { Keeps out.old.items out.new.items }
 {
     let bias = LentPair {
@@ -52,7 +53,8 @@ pub(crate) fn mean_cert(
     spread: Frac,
     entries: &[Gains],
 ) -> Result<MeanBoundsCert, AllocError>
-    ensures { IfOk result (λ c. gains c.lower.items c.upper.items c.bound.items c.bias.items c.choices.items c.spread ≡ mean_body spread entries.now) }
+    ensures { IfOk result (λ c. gains c.lower.items c.upper.items c.bound.items c.bias.items c.choices.items c.spread
+        ≡ mean_body spread entries.now) }
 {
     Ok(MeanBoundsCert {
         lower: column_of::<First, _>(alloc, entries)?,

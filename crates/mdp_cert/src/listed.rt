@@ -59,7 +59,8 @@ pub(crate) fn listed_to_end<L: Line>(
     bytes: &[u8],
 ) -> Result<(Vec<L>, u64, &[u8]), CertError>
     requires { line < 2 ^ 32 }
-    ensures { let read = listed_to_end L.listed states (place line bytes.now) in MatchResult result (λ p. read ≡ Ok (p.0.items, place p.1 p.2.now)) (λ e. Refuses e read) }
+    ensures { let read = listed_to_end L.listed states (place line bytes.now) in
+        MatchResult result (λ p. read ≡ Ok (p.0.items, place p.1 p.2.now)) (λ e. Refuses e read) }
 {
     let mut lines = Vec::new(alloc);
     let mut before = None;

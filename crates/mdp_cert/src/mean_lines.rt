@@ -24,7 +24,8 @@ pub(crate) fn push_means(
     cert: &MeanCert,
 ) -> Result<(), Memory>
     requires { length (means cert.now.gains.items cert.now.bound.items cert.now.bias.items cert.now.choices.items) ≡ states }
-    ensures text { OnOk result (out.new.items ≡ out.old.items ++ closed_lines version mean_columns (means cert.now.gains.items cert.now.bound.items cert.now.bias.items cert.now.choices.items)) }
+    ensures text { OnOk result (out.new.items ≡ out.old.items ++ closed_lines version mean_columns
+        (means cert.now.gains.items cert.now.bound.items cert.now.bias.items cert.now.choices.items)) }
     ensures front { Keeps out.old.items out.new.items }
 {
     let bias = LentPair {

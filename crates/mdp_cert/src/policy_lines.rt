@@ -26,7 +26,8 @@ pub(crate) fn push_policy<V: Value>(
     ranks: &[u32],
 ) -> Result<(), Memory>
     requires { length (policies values.now choices.now ranks.now) ≡ states }
-    ensures text { OnOk result (out.new.items ≡ out.old.items ++ closed_lines version (policy_columns V.value) (policies values.now choices.now ranks.now)) }
+    ensures text { OnOk result (out.new.items ≡ out.old.items ++ closed_lines version (policy_columns V.value)
+        (policies values.now choices.now ranks.now)) }
     ensures front { Keeps out.old.items out.new.items }
 {
     let choices = LentPair {

@@ -113,7 +113,8 @@ fn push_two_and_threshold<'a>(
     label: &'a [u8],
     threshold: &Frac,
 ) -> Result<(), Memory>
-    ensures text { OnOk result (out.new.items ≡ out.old.items ++ line (front.now ++ (stay.now ++ 34 ∷ 32 ∷ 34 ∷ (label.now ++ 34 ∷ 32 ∷ spelling threshold.now)))) }
+    ensures text { OnOk result (out.new.items ≡ out.old.items ++ line (front.now
+        ++ (stay.now ++ 34 ∷ 32 ∷ 34 ∷ (label.now ++ 34 ∷ 32 ∷ spelling threshold.now)))) }
     ensures front { Keeps out.old.items out.new.items }
 {
     push_parts(

@@ -26,7 +26,8 @@ pub(crate) fn push_ranked<V: Value>(
     ranks: &[u32],
 ) -> Result<(), Memory>
     requires { length (ranked_of lower.now upper.now choices.now ranks.now) ≡ states }
-    ensures text { OnOk result (out.new.items ≡ out.old.items ++ closed_lines Two (ranked_columns V.value) (ranked_of lower.now upper.now choices.now ranks.now)) }
+    ensures text { OnOk result (out.new.items ≡ out.old.items ++ closed_lines Two (ranked_columns V.value)
+        (ranked_of lower.now upper.now choices.now ranks.now)) }
     ensures front { Keeps out.old.items out.new.items }
 {
     let choices = LentPair {

@@ -36,7 +36,8 @@ fn mean_from(
     states: u32,
     bytes: &[u8],
 ) -> Result<(Body, u64, &[u8]), CertError>
-    ensures { let read = mean_from version states (place 5 bytes.now) in MatchResult result (λ p. read ≡ Ok (plain_body p.0, place p.1 p.2.now)) (λ e. Refuses e read) }
+    ensures { let read = mean_from version states (place 5 bytes.now) in
+        MatchResult result (λ p. read ≡ Ok (plain_body p.0, place p.1 p.2.now)) (λ e. Refuses e read) }
 {
     let (text, rest) = next_line(5, bytes)?;
     let spread = spread_at(5, text)?;
@@ -51,7 +52,8 @@ fn kept_from(
     states: u32,
     bytes: &[u8],
 ) -> Result<(Body, u64, &[u8]), CertError>
-    ensures { let read = kept_from dir states (place 5 bytes.now) in MatchResult result (λ p. read ≡ Ok (plain_body p.0, place p.1 p.2.now)) (λ e. Refuses e read) }
+    ensures { let read = kept_from dir states (place 5 bytes.now) in MatchResult result (λ p. read ≡ Ok (plain_body p.0, place p.1 p.2.now))
+        (λ e. Refuses e read) }
 {
     match dir {
         Dir::Max => {
@@ -74,7 +76,8 @@ fn body_from<'a>(
     states: u32,
     bytes: &'a [u8],
 ) -> Result<(Body, u64, &'a [u8]), CertError>
-    ensures { let read = body_from version (plain_claim claim.now) states (place 5 bytes.now) in MatchResult result (λ p. read ≡ Ok (plain_body p.0, place p.1 p.2.now)) (λ e. Refuses e read) }
+    ensures { let read = body_from version (plain_claim claim.now) states (place 5 bytes.now) in
+        MatchResult result (λ p. read ≡ Ok (plain_body p.0, place p.1 p.2.now)) (λ e. Refuses e read) }
 {
     match claim {
         Claim::Upper { .. } => {

@@ -26,7 +26,8 @@ fn numbered<'a, E: Entry>(
     text: &'a [u8],
     due: &[u8],
 ) -> Result<&'a [u8], Refusal>
-    ensures words { let found = words_behind due.now (numbers + E.columns.width) line text.now in MatchResult result (λ a. found ≡ Ok (words a.now)) (λ e. found ≡ Err e) }
+    ensures words { let found = words_behind due.now (numbers + E.columns.width) line text.now in
+        MatchResult result (λ a. found ≡ Ok (words a.now)) (λ e. found ≡ Err e) }
     ensures count { IfOk result (λ a. length (words a.now) ≡ numbers + E.columns.width) }
     ensures some { IfOk result (λ a. numbers < length (words a.now)) }
 {
@@ -63,7 +64,8 @@ fn is_no_run(states: u32, due: u32, first: u32, last: u32) -> bool
 /// The entry of the line `run A B WORDS`, where A is the state that is due, and how many states follow A.
 #[tactic(auto, unfolding(crate::specs::Reading::run_at, crate::specs::Reading::entry_at, mdp_text::specs::Words::whole_at))]
 fn run_at<E: Entry>(states: u32, due: u32, line: u64, text: &[u8]) -> Result<(E, u32), Refusal>
-    ensures said { let due_run = run_at E.columns states due line text.now in MatchResult result (λ r. due_run ≡ Ok (run r.0 r.1)) (λ e. due_run ≡ Err e) }
+    ensures said { let due_run = run_at E.columns states due line text.now in
+        MatchResult result (λ r. due_run ≡ Ok (run r.0 r.1)) (λ e. due_run ≡ Err e) }
     ensures inside { IfOk result (λ r. due + r.1 < states) }
 {
     let behind = numbered::<E>(2, line, text, b"run")?;
@@ -88,7 +90,8 @@ fn line_of_states<E: Entry>(
     text: &[u8],
 ) -> Result<(E, u32), Refusal>
     requires { due < states }
-    ensures said { let due_run = line_of_states E.columns states due line text.now in MatchResult result (λ r. due_run ≡ Ok (run r.0 r.1)) (λ e. due_run ≡ Err e) }
+    ensures said { let due_run = line_of_states E.columns states due line text.now in
+        MatchResult result (λ r. due_run ≡ Ok (run r.0 r.1)) (λ e. due_run ≡ Err e) }
     ensures inside { IfOk result (λ r. due + r.1 < states) }
 {
     if begins_with(text, b"run") {
@@ -118,7 +121,8 @@ fn longest_at<E: Entry>(
     text: &[u8],
 ) -> Result<(E, u32), Refusal>
     requires { due < states }
-    ensures said { let due_run = longest_at E.columns states due before.now line text.now in MatchResult result (λ r. due_run ≡ Ok (run r.0 r.1)) (λ e. due_run ≡ Err e) }
+    ensures said { let due_run = longest_at E.columns states due before.now line text.now in
+        MatchResult result (λ r. due_run ≡ Ok (run r.0 r.1)) (λ e. due_run ≡ Err e) }
     ensures inside { IfOk result (λ r. due + r.1 < states) }
 {
     let (entry, more) = line_of_states(states, due, line, text)?;
@@ -136,7 +140,8 @@ fn run_in<E: Entry>(
     text: &[u8],
 ) -> Result<(E, u32), Refusal>
     requires { due < states }
-    ensures said { let due_run = run_in version E.columns states due before.now line text.now in MatchResult result (λ r. due_run ≡ Ok (run r.0 r.1)) (λ e. due_run ≡ Err e) }
+    ensures said { let due_run = run_in version E.columns states due before.now line text.now in
+        MatchResult result (λ r. due_run ≡ Ok (run r.0 r.1)) (λ e. due_run ≡ Err e) }
     ensures inside { IfOk result (λ r. due + r.1 < states) }
 {
     match version {
@@ -166,7 +171,8 @@ fn entries_from<'a, E: Entry>(
 ) -> Result<(u64, &'a [u8]), CertError>
     requires empty { entries.now.items ≡ [] }
     requires line { line < 2 ^ 32 }
-    ensures said { let read = entries_from version E.columns states (place line bytes.now) in MatchResult result (λ p. read ≡ Ok (entries.new.items, place p.0 p.1.now)) (λ e. Refuses e read) }
+    ensures said { let read = entries_from version E.columns states (place line bytes.now) in
+        MatchResult result (λ p. read ≡ Ok (entries.new.items, place p.0 p.1.now)) (λ e. Refuses e read) }
     ensures lines { IfOk result (λ p. p.0 ≤ line + states) }
 {
     let mut before = None;
@@ -196,7 +202,8 @@ fn lines_to_end<'a, E: Entry>(
 ) -> Result<(u64, &'a [u8]), CertError>
     requires empty { entries.now.items ≡ [] }
     requires line { line < 2 ^ 32 }
-    ensures { let read = entries_to_end version E.columns states (place line bytes.now) in MatchResult result (λ p. read ≡ Ok (entries.new.items, place p.0 p.1.now)) (λ e. Refuses e read) }
+    ensures { let read = entries_to_end version E.columns states (place line bytes.now) in
+        MatchResult result (λ p. read ≡ Ok (entries.new.items, place p.0 p.1.now)) (λ e. Refuses e read) }
 {
     let (next, rest) = entries_from(entries, version, states, line, bytes)?;
     let (text, rest) = next_line(next, rest)?;
@@ -213,7 +220,8 @@ pub fn entries_to_end<E: Entry>(
     bytes: &[u8],
 ) -> Result<(Vec<E>, u64, &[u8]), CertError>
     requires { line < 2 ^ 32 }
-    ensures { let read = entries_to_end version E.columns states (place line bytes.now) in MatchResult result (λ p. read ≡ Ok (p.0.items, place p.1 p.2.now)) (λ e. Refuses e read) }
+    ensures { let read = entries_to_end version E.columns states (place line bytes.now) in
+        MatchResult result (λ p. read ≡ Ok (p.0.items, place p.1 p.2.now)) (λ e. Refuses e read) }
 {
     let mut entries = Vec::new(alloc);
     let (next, rest) = lines_to_end(&mut entries, version, states, line, bytes)?;

@@ -2,7 +2,8 @@ ghost use Rattle.std.specs.Prelude.{◌≡◌, ◌⊎◌, ◌↔◌, IfOk, Some,
 ghost use Rattle.mdp_spec.specs.Mdp.{states_of};
 ghost use Rattle.mdp_cert.specs.{Cert.{plain_claim}, BoundsPlain.{plain}};
 ghost use Rattle.mdp_farkas.specs.Verdict.{IfYes, IsYes};
-ghost use Rattle.mdp_check.specs.{Check.{reward_place}, Bounds.{bounds_verdict, bounds_answer_to, AreValidBounds, LiesBetween, IsBoundsAccepted, IsBoundsTrue}};
+ghost use Rattle.mdp_check.specs.Check.{reward_place};
+ghost use Rattle.mdp_check.specs.Bounds.{bounds_verdict, bounds_answer_to, AreValidBounds, LiesBetween, IsBoundsAccepted, IsBoundsTrue};
 
 use crate::answer::{Answer, answer_of};
 use crate::bounds_initial::bounds_init_verdict;

@@ -2,7 +2,8 @@ ghost use Rattle.std.specs.Prelude.{◌≡◌, ◌⊎◌, ◌↔◌, IfOk, Some,
 ghost use Rattle.mdp_spec.specs.Mdp.{states_of};
 ghost use Rattle.mdp_cert.specs.{Plain.{plain}, Cert.{plain_claim}};
 ghost use Rattle.mdp_farkas.specs.Verdict.{IfYes, IsYes};
-ghost use Rattle.mdp_check.specs.Check.{labelled_marks, marks_by, reward_place, goal_marks, answer_to, body_verdict, IsBound, BoundOf, IsAccepted, IsValidBody};
+ghost use Rattle.mdp_check.specs.Check.{labelled_marks, marks_by, reward_place, goal_marks, answer_to, body_verdict, IsBound, BoundOf, IsAccepted};
+ghost use Rattle.mdp_check.specs.Check.{IsValidBody};
 
 use crate::answer::{Answer, answer_of};
 use crate::initial::{init_verdict, start_of};

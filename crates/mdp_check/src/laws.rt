@@ -1,4 +1,5 @@
-ghost use Rattle.mdp_check.specs.{Laws.{YesIsAccepted, AcceptedIsBound, InitIsChecked, NoOfInit}, BoundsLaws.{YesAcceptsBounds, AcceptedBoundsAreTrue, BoundsNoOfInit}};
+ghost use Rattle.mdp_check.specs.Laws.{YesIsAccepted, AcceptedIsBound, InitIsChecked, NoOfInit};
+ghost use Rattle.mdp_check.specs.BoundsLaws.{YesAcceptsBounds, AcceptedBoundsAreTrue, BoundsNoOfInit};
 
 /// Laws of checking: yes is answered exactly where a certificate is accepted, and the claim of an accepted certificate is true of the model.
 pub fn checking_law()

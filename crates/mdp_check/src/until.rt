@@ -4,7 +4,8 @@ ghost use Rattle.mdp_rows.specs.declared.dir.Dir.TheVariants.{Max, Min};
 ghost use Rattle.mdp_farkas.specs.{Verdict.{verdict_of, IfYes, IsYes}, Reach.{reach_checks, IsReach}};
 ghost use Rattle.mdp_bounds.specs.Reach.{bounds_checks, IsReachBounds};
 ghost use Rattle.mdp_subsystem_rules.specs.{Flow.{flow_total}, Kept.{kept_marks}, Shape.{IsFlowShape, IsFloorShape}};
-ghost use Rattle.mdp_subsystem_rules.specs.{FlowChecks.{flow_checks, HoldsFlow}, FloorChecks.{floor_checks, HoldsFloor}, Until.{SubUntilMax, SubUntilMaxWithin, SubUntilMin}};
+ghost use Rattle.mdp_subsystem_rules.specs.{FlowChecks.{flow_checks, HoldsFlow}, FloorChecks.{floor_checks, HoldsFloor}};
+ghost use Rattle.mdp_subsystem_rules.specs.Until.{SubUntilMax, SubUntilMaxWithin, SubUntilMin};
 ghost use Rattle.mdp_check.specs.Check.{stay_marks, way_of, way_by, flow_bound, floor_bound};
 
 use mdp_bounds::holds_bounds_reach;
@@ -65,10 +66,14 @@ pub(crate) fn until_verdict(
     requires values { length cert.now.values.items ≡ states_of model.now }
     requires choices { length cert.now.choices.items ≡ states_of model.now }
     requires ranks { length cert.now.ranks.items ≡ states_of model.now }
-    ensures verdict { IfOk result (λ v. v ≡ verdict_of (reach_checks dir (way_of model.now goals.now stay.now) goals.now cert.now.values.items cert.now.choices.items cert.now.ranks.items)) }
-    ensures rules { IfOk result (λ v. IsYes v ↔ IsReach dir (way_of model.now goals.now stay.now) goals.now cert.now.values.items cert.now.choices.items cert.now.ranks.items) }
-    ensures max { dir ≡ Max → IfOk result (λ v. IfYes v (UntilMax model.now (stay_marks model.now stay.now) goals.now cert.now.values.items cert.now.choices.items)) }
-    ensures min { dir ≡ Min → IfOk result (λ v. IfYes v (UntilMin model.now (stay_marks model.now stay.now) goals.now cert.now.values.items cert.now.choices.items)) }
+    ensures verdict { IfOk result (λ v. v ≡ verdict_of (reach_checks dir
+        (way_of model.now goals.now stay.now) goals.now cert.now.values.items cert.now.choices.items cert.now.ranks.items)) }
+    ensures rules { IfOk result (λ v. IsYes v ↔ IsReach dir (way_of model.now goals.now stay.now) goals.now cert.now.values.items
+        cert.now.choices.items cert.now.ranks.items) }
+    ensures max { dir ≡ Max → IfOk result (λ v. IfYes v (UntilMax model.now
+        (stay_marks model.now stay.now) goals.now cert.now.values.items cert.now.choices.items)) }
+    ensures min { dir ≡ Min → IfOk result (λ v. IfYes v (UntilMin model.now
+        (stay_marks model.now stay.now) goals.now cert.now.values.items cert.now.choices.items)) }
 {
     model.known();
     let way = way_of(alloc, model, goals, stay)?;
@@ -197,10 +202,14 @@ pub(crate) fn until_bounds_verdict(
     requires upper { length cert.now.upper.items ≡ states_of model.now }
     requires choices { length cert.now.choices.items ≡ states_of model.now }
     requires ranks { length cert.now.ranks.items ≡ states_of model.now }
-    ensures verdict { IfOk result (λ v. v ≡ verdict_of (bounds_checks dir (way_of model.now goals.now stay.now) goals.now cert.now.lower.items cert.now.upper.items cert.now.choices.items cert.now.ranks.items)) }
-    ensures rules { IfOk result (λ v. IsYes v ↔ IsReachBounds dir (way_of model.now goals.now stay.now) goals.now cert.now.lower.items cert.now.upper.items cert.now.choices.items cert.now.ranks.items) }
-    ensures max { dir ≡ Max → IfOk result (λ v. IfYes v (UntilMaxBetween model.now (stay_marks model.now stay.now) goals.now cert.now.lower.items cert.now.upper.items cert.now.choices.items)) }
-    ensures min { dir ≡ Min → IfOk result (λ v. IfYes v (UntilMinBetween model.now (stay_marks model.now stay.now) goals.now cert.now.lower.items cert.now.upper.items cert.now.choices.items)) }
+    ensures verdict { IfOk result (λ v. v ≡ verdict_of (bounds_checks dir
+        (way_of model.now goals.now stay.now) goals.now cert.now.lower.items cert.now.upper.items cert.now.choices.items cert.now.ranks.items)) }
+    ensures rules { IfOk result (λ v. IsYes v ↔ IsReachBounds dir (way_of model.now goals.now stay.now) goals.now cert.now.lower.items
+        cert.now.upper.items cert.now.choices.items cert.now.ranks.items) }
+    ensures max { dir ≡ Max → IfOk result (λ v. IfYes v (UntilMaxBetween model.now
+        (stay_marks model.now stay.now) goals.now cert.now.lower.items cert.now.upper.items cert.now.choices.items)) }
+    ensures min { dir ≡ Min → IfOk result (λ v. IfYes v (UntilMinBetween model.now
+        (stay_marks model.now stay.now) goals.now cert.now.lower.items cert.now.upper.items cert.now.choices.items)) }
 {
     model.known();
     let way = way_of(alloc, model, goals, stay)?;

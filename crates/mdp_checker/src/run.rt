@@ -1,6 +1,7 @@
 ghost use Rattle.std.specs.{Fn.{FnOnceReturnsAt}, Prelude.{◌≡◌}};
 ghost use Rattle.mdp_command.specs.{Opened.{OnFiles}, Prelude.{said, input, output}};
-ghost use Rattle.mdp_checker.specs.{Run.{IsDecided, IsAnswered, IsYesTrue, IsYesTrueOfText, IsComplete, HasRun}, Words.{asked, model_path, cert_path}};
+ghost use Rattle.mdp_checker.specs.Run.{IsDecided, IsAnswered, IsYesTrue, IsYesTrueOfText, IsComplete, HasRun};
+ghost use Rattle.mdp_checker.specs.Words.{asked, model_path, cert_path};
 
 use mdp_command::{check_files, check_law, write_answer};
 use mdp_drn::{model_law, written_law};
@@ -37,11 +38,13 @@ pub fn run<S: Source, C: Source, K: Sink>(
         (output K.taken K.settled K.faults out.old out.new) result }
 
     // Where the work was done, yes was written, and the claim of the certificate is true of the model.
-    ensures done { result ≡ Status.Done → IsYesTrue (asked words.now) (input S.left S.faults model.old model.new) (input C.left C.faults cert.old cert.new)
+    ensures done { result ≡ Status.Done → IsYesTrue (asked words.now) (input S.left S.faults model.old model.new)
+        (input C.left C.faults cert.old cert.new)
         (output K.taken K.settled K.faults out.old out.new) }
 
     // The same of a model in the one text that is written of it, with no word of how other texts are read.
-    ensures done_of_text { result ≡ Status.Done → IsYesTrueOfText (asked words.now) (input S.left S.faults model.old model.new) (input C.left C.faults cert.old cert.new)
+    ensures done_of_text { result ≡ Status.Done → IsYesTrueOfText (asked words.now) (input S.left S.faults model.old model.new)
+        (input C.left C.faults cert.old cert.new)
         (output K.taken K.settled K.faults out.old out.new) }
 
     // To bytes that are accepted yes is said, but for faults that were counted and want of memory.
@@ -82,7 +85,8 @@ pub fn run_on_files<F: Source + Drop, M: FnOnce(&str) -> F, O: FnOnce(&str) -> F
 ) -> Status
     requires model { M.IsAlwaysCallable open_model }
     requires cert { O.IsAlwaysCallable open_cert }
-    ensures { OnFiles (FnOnceReturnsAt M.FnOnce open_model) (FnOnceReturnsAt O.FnOnce open_cert) F.left F.faults (model_path words.now) (cert_path words.now)
+    ensures { OnFiles (FnOnceReturnsAt M.FnOnce open_model) (FnOnceReturnsAt O.FnOnce open_cert) F.left F.faults (model_path words.now)
+        (cert_path words.now)
         (λ model cert. HasRun (asked words.now) model cert (output K.taken K.settled K.faults out.old out.new) result) }
 {
     let paths = paths_of(words);

@@ -1,6 +1,7 @@
 ghost use Rattle.std.specs.Prelude.{◌≡◌, ◌⊎◌, false, Err, IfOk, IsTrue, IsFalse};
 ghost use Rattle.mdp_command.specs.{Prelude.{IsModelReadToEnd, IsSecondReadToEnd, no_memory, said, input}, Accepted.{exact}, Read.{is_of_model}};
-ghost use Rattle.mdp_command.specs.{CheckDue.{said_to_text, IsCheckDue}, Kinds.{as_answer, discounted, between, discounted_between, subsystem_between, checker_for}};
+ghost use Rattle.mdp_command.specs.CheckDue.{said_to_text, IsCheckDue};
+ghost use Rattle.mdp_command.specs.Kinds.{as_answer, discounted, between, discounted_between, subsystem_between, checker_for};
 ghost use Rattle.mdp_command.specs.CheckShown.{IsCheckPrinted, IsCheckRead};
 
 use crate::files::{read_model, read_second};

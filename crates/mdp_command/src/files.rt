@@ -1,7 +1,8 @@
 ghost use Rattle.std.specs.Prelude.{◌≡◌, ◌⊎◌, false, Err, IfOk};
 ghost use Rattle.mdp_spec.specs.Row.{IsMdp};
 ghost use Rattle.mdp_job.specs.Refusal.{read_model, read_certificate};
-ghost use Rattle.mdp_command.specs.{Files.{model_due, second_due}, Read.{IsRead, IsModelReadToEnd, IsSecondReadToEnd, is_of_model}, Said.{said, plain_error}, Streams.{input}};
+ghost use Rattle.mdp_command.specs.{Files.{model_due, second_due}, Read.{IsRead, IsModelReadToEnd, IsSecondReadToEnd, is_of_model}};
+ghost use Rattle.mdp_command.specs.{Said.{said, plain_error}, Streams.{input}};
 
 use mdp_drn::{FromError, read_from};
 use mdp_edge::{InError, Source, read_all};

@@ -1,4 +1,5 @@
-ghost use Rattle.mdp_command.specs.{Kinds.{checker_of}, CheckLaws.{YesIsAccepted, YesIsTrue, AcceptedIsTrue, ReadsItsText, NamesItsKind}, declared.kind.CertificateKind.{CertificateKind}};
+ghost use Rattle.mdp_command.specs.{Kinds.{checker_of}, CheckLaws.{YesIsAccepted, YesIsTrue, AcceptedIsTrue, ReadsItsText, NamesItsKind}};
+ghost use Rattle.mdp_command.specs.{declared.kind.CertificateKind.{CertificateKind}};
 ghost use Rattle.mdp_command.specs.DiscountStart.{ExactNoOfInit, BoundsNoOfInit};
 
 use mdp_cert::{bounds_text_law, text_law};

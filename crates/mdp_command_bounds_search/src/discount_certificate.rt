@@ -2,7 +2,8 @@ ghost use Rattle.std.specs.Prelude.{◌≡◌, Some, length, IfOk, IfSome, IsTru
 ghost use Rattle.mdp_spec.specs.{Labels.{initial_of, place_of}, Mdp.{states_of}};
 ghost use Rattle.mdp_claims.specs.declared.verdict.Verdict.TheVariants.{Yes};
 ghost use Rattle.mdp_discount_rules.specs.Rules.{IsFactor};
-ghost use Rattle.mdp_discount_rules.specs.{BoundsCert.{IsValueNarrow, is_init, Fits}, BoundsCheck.{init_check, IsAccepted}, BoundsChecks.{IsDiscountBounds}, BoundsPlain.{plain}};
+ghost use Rattle.mdp_discount_rules.specs.{BoundsCert.{IsValueNarrow, is_init, Fits}, BoundsCheck.{init_check, IsAccepted}};
+ghost use Rattle.mdp_discount_rules.specs.{BoundsChecks.{IsDiscountBounds}, BoundsPlain.{plain}};
 ghost use Rattle.mdp_command_bounds_search.specs.DiscountDue.{ClaimsSo};
 
 use mdp_discount_rules::{DiscountBounds, DiscountBoundsCert, InitialBounds};

@@ -1,4 +1,5 @@
-ghost use Rattle.mdp_command_bounds_search.specs.DiscountLaws.{HasADiscountText, DiscountTextLiesBetween, OnlyDiscountTextsAreDue, DiscountTextIsAccepted};
+ghost use Rattle.mdp_command_bounds_search.specs.DiscountLaws.{HasADiscountText, DiscountTextLiesBetween, OnlyDiscountTextsAreDue};
+ghost use Rattle.mdp_command_bounds_search.specs.DiscountLaws.{DiscountTextIsAccepted};
 ghost use Rattle.mdp_command_bounds_search.specs.Laws.{HasAText, TextLiesBetween, OnlyTextsAreDue, TextIsAccepted};
 ghost use Rattle.mdp_command_bounds_search.specs.WitnessLaws.{TextExcludesRefusals, TextIsShown, WitnessTextIsAccepted};
 

@@ -6,7 +6,8 @@ ghost use Rattle.mdp_cert.specs.Cert.{are_names};
 ghost use Rattle.mdp_check.specs.Check.{marks_by, way_by};
 ghost use Rattle.mdp_subsystem_bounds.specs.{Cert.{plain_claim, Fits}, Plain.{plain}, Spelling.{text_of}};
 ghost use Rattle.mdp_command.specs.Prelude.{no_memory, plain_refusal, said};
-ghost use Rattle.mdp_command_bounds_search.specs.{WitnessDue.{name_of, owned_name, claim_by, refusal_of, IsEndDue, IsBoundsWitnessDue}, WitnessMarks.{IsSized, lists_of, certificate_of}};
+ghost use Rattle.mdp_command_bounds_search.specs.WitnessDue.{name_of, owned_name, claim_by, refusal_of, IsEndDue, IsBoundsWitnessDue};
+ghost use Rattle.mdp_command_bounds_search.specs.WitnessMarks.{IsSized, lists_of, certificate_of};
 ghost use Rattle.mdp_command_bounds_search.specs.WitnessShown.{IsBoundsWitnessPrinted};
 
 use crate::witness_certificate::certificate_of;
@@ -75,7 +76,8 @@ impl Asked<'_> {
         requires threshold { of_int (pos 0) ≤ℚ self.now.threshold }
         requires found { IsSized (states_of model.now) found }
         requires least { self.now.dir ≡ Min → All (λ c. c ≡ 0) found.bounds.choices.items }
-        ensures certificate { IfOk result (λ cert. plain cert ≡ certificate_of (claim_by self.now.dir (name_of self.now.stay) self.now.label.now self.now.threshold) start
+        ensures certificate { IfOk result (λ cert. plain cert ≡ certificate_of
+            (claim_by self.now.dir (name_of self.now.stay) self.now.label.now self.now.threshold) start
             (lists_of (states_of model.now) found)) }
         ensures fits { IfOk result (λ cert. Fits (plain cert)) }
     {
@@ -104,7 +106,8 @@ impl Asked<'_> {
         requires threshold { of_int (pos 0) ≤ℚ self.now.threshold }
         ensures due { (said result ≡ Err no_memory) ⊎
             IsEndDue (claim_by self.now.dir (name_of self.now.stay) self.now.label.now self.now.threshold) model.now goals.now start (said result) }
-        ensures printed { IfOk (said result) (IsBoundsWitnessPrinted (claim_by self.now.dir (name_of self.now.stay) self.now.label.now self.now.threshold) model.now) }
+        ensures printed { IfOk (said result) (IsBoundsWitnessPrinted (claim_by self.now.dir
+            (name_of self.now.stay) self.now.label.now self.now.threshold) model.now) }
     {
         model.known();
         subsystem_bounds_law();

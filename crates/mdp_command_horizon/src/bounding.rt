@@ -1,6 +1,7 @@
 ghost use Rattle.std.specs.Prelude.{◌≡◌, ◌⊎◌, ◌≤◌, option_copied, Err, IfOk};
 ghost use Rattle.mdp_command.specs.Prelude.{no_memory, said};
-ghost use Rattle.mdp_command_horizon.specs.{BoundsDue.{IsUntilBoundsDue, IsTotalBoundsDue}, BoundsPrinted.{AreUntilBoundsPrinted, AreTotalBoundsPrinted}};
+ghost use Rattle.mdp_command_horizon.specs.BoundsDue.{IsUntilBoundsDue, IsTotalBoundsDue};
+ghost use Rattle.mdp_command_horizon.specs.BoundsPrinted.{AreUntilBoundsPrinted, AreTotalBoundsPrinted};
 
 use crate::answering::{states_that_stay, states_with, stay_word};
 use crate::laws::horizon_bounds_law;

@@ -1,4 +1,5 @@
-ghost use Rattle.mdp_command_horizon.specs.{BoundsLaws.{UntilTextIsBetween, TotalTextIsBetween}, CurveLaws.{UntilTextIsCurve, TotalTextIsCurve}, Laws.{TextIsAnswer, TotalTextIsAnswer}};
+ghost use Rattle.mdp_command_horizon.specs.{BoundsLaws.{UntilTextIsBetween, TotalTextIsBetween}, CurveLaws.{UntilTextIsCurve, TotalTextIsCurve}};
+ghost use Rattle.mdp_command_horizon.specs.Laws.{TextIsAnswer, TotalTextIsAnswer};
 
 use mdp_horizon::{total_law, until_law};
 

@@ -7,7 +7,8 @@ ghost use Rattle.mdp_discount_text.specs.Reading as discount_bounds_text;
 ghost use Rattle.mdp_discount_text.specs.Text as discount_text;
 ghost use Rattle.mdp_subsystem_bounds.specs.Reading as subsystem_text;
 ghost use Rattle.mdp_policy.specs.Text.{policy_outcome};
-ghost use Rattle.mdp_command_policy.specs.ChainDue.{choices_of_body, choices_of_bounds, in_certificate, in_bounds, in_discount, in_discount_bounds, in_subsystem_bounds, in_policy, choices_in};
+ghost use Rattle.mdp_command_policy.specs.ChainDue.{choices_of_body, choices_of_bounds, in_certificate, in_bounds, in_discount, in_discount_bounds};
+ghost use Rattle.mdp_command_policy.specs.ChainDue.{in_subsystem_bounds, in_policy, choices_in};
 ghost use Rattle.mdp_command_policy.specs.Named.{Names, named};
 ghost use Rattle.mdp_command.specs.Read.{is_of_model};
 

@@ -75,7 +75,8 @@ fn of_policy(
     label: &[u8],
     policy: &[u32],
 ) -> Result<Vec<u8>, Refusal>
-    ensures due { (said result ≡ Err no_memory) ⊎ IsSizeDue (option_copied stay.entry) label.now model.now policy.now (length policy.now == states_of model.now) (said result) }
+    ensures due { (said result ≡ Err no_memory) ⊎ IsSizeDue (option_copied stay.entry) label.now model.now policy.now
+        (length policy.now == states_of model.now) (said result) }
     ensures not_of_model { is_of_model (said result) ≡ false }
 {
     if policy.len() != model.states() as usize {

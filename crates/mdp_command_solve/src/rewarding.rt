@@ -21,7 +21,8 @@ pub(crate) fn solve_named(
     name: &[u8],
     label: &[u8],
 ) -> Result<Vec<u8>, Refusal>
-    ensures due { (said result ≡ Err no_memory) ⊎ IsRewardDue dir name.now label.now model.now (place_of name.now model.now.names) (place_of label.now model.now.labels) (said result) }
+    ensures due { (said result ≡ Err no_memory) ⊎ IsRewardDue dir name.now label.now model.now (place_of name.now model.now.names)
+        (place_of label.now model.now.labels) (said result) }
     ensures printed { IfOk (said result) (IsRewardPrinted dir name.now label.now model.now) }
 {
     model.known();

@@ -49,7 +49,8 @@ fn push_head(out: &mut Vec<u8>, cert: &DiscountBoundsCert) -> Result<(), Memory>
 
 /// Appends the lines of the states, with the line `end`.
 fn push_states(out: &mut Vec<u8>, cert: &DiscountBoundsCert) -> Result<(), Memory>
-    ensures text { let b = cert.now.bounds in OnOk result (out.new.items ≡ out.old.items ++ closed_lines Two between_columns (entries_of b.lower.items b.upper.items b.choices.items)) }
+    ensures text { let b = cert.now.bounds in OnOk result (out.new.items ≡ out.old.items
+        ++ closed_lines Two between_columns (entries_of b.lower.items b.upper.items b.choices.items)) }
     ensures front { Keeps out.old.items out.new.items }
 {
     let bounds = &cert.bounds;

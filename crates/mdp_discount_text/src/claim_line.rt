@@ -1,6 +1,7 @@
 ghost use Rattle.std.specs.{Prelude.{◌≡◌, Ok, Some, None, MatchResult, MatchOption}, Option.{option_map}};
 ghost use Rattle.mdp_text.specs.Answer.{Refuses};
-ghost use Rattle.mdp_discount_text.specs.{Text.{is_factor, factor_of, claim_front, claim_names, claim_to, claim_of, claim_at}, Code.{said_claim, plain_claim}};
+ghost use Rattle.mdp_discount_text.specs.Text.{is_factor, factor_of, claim_front, claim_names, claim_to, claim_of, claim_at};
+ghost use Rattle.mdp_discount_text.specs.Code.{said_claim, plain_claim};
 
 use mdp_num::{Frac, read_canonical};
 use mdp_rows::Dir;

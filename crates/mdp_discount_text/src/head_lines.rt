@@ -30,7 +30,8 @@ pub fn remainder_at(line: u64, text: &[u8]) -> Result<Frac, Refusal>
 /// Reads the lines 2 to 5, of claim, states, init and remainder, and gives the bytes behind them.
 #[tactic(auto, unfolding(crate::specs::Text::head_from))]
 pub(crate) fn head_from(alloc: Global, bytes: &[u8]) -> Result<(Head, &[u8]), CertError>
-    ensures { MatchResult result (λ p. head_from (place 2 bytes.now) ≡ Ok (plain_head p.0, place 6 p.1.now)) (λ e. Refuses e (head_from (place 2 bytes.now))) }
+    ensures { MatchResult result (λ p. head_from (place 2 bytes.now) ≡ Ok (plain_head p.0, place 6 p.1.now))
+        (λ e. Refuses e (head_from (place 2 bytes.now))) }
 {
     let (text, rest) = next_line(2, bytes)?;
     let claim = claim_at(alloc, 2, text)?;

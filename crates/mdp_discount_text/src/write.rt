@@ -25,7 +25,8 @@ fn push_head(out: &mut Vec<u8>, cert: &DiscountCert) -> Result<(), Memory>
 
 /// Appends the lines of the states, with the line `end`.
 fn push_states(out: &mut Vec<u8>, cert: &DiscountCert) -> Result<(), Memory>
-    ensures text { OnOk result (out.new.items ≡ out.old.items ++ closed_lines One priced_columns (pairs cert.now.values.items cert.now.choices.items)) }
+    ensures text { OnOk result (out.new.items ≡ out.old.items ++ closed_lines One priced_columns
+        (pairs cert.now.values.items cert.now.choices.items)) }
     ensures front { Keeps out.old.items out.new.items }
 {
     let lists = LentPair {

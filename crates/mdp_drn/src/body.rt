@@ -1,8 +1,10 @@
 ghost use Rattle.std.specs.{Prelude.{◌≡◌, length, map, None, OnOk, IsTrue, Ok, Err, if◌then◌else◌}, List.{All}};
 ghost use Rattle.mdp_num.specs.Meaning.{IsWithinLimit};
-ghost use Rattle.mdp_rows.specs.Draft.{all_closed, choice_closed, state_opened, choice_opened, after_entry, after_label, IsChoiceClosed, has_choice, has_state};
+ghost use Rattle.mdp_rows.specs.Draft.{all_closed, choice_closed, state_opened, choice_opened, after_entry, after_label, IsChoiceClosed, has_choice};
+ghost use Rattle.mdp_rows.specs.Draft.{has_state};
 ghost use Rattle.mdp_rows.specs.Name.{IsName};
-ghost use Rattle.mdp_drn.specs.{Body.{judged, with_labels}, BodyView.{view, IsBody, IsSameBeside, error_of, answer_of, as_announced}, Feeding.{Answers, Gives}};
+ghost use Rattle.mdp_drn.specs.{Body.{judged, with_labels}, BodyView.{view, IsBody, IsSameBeside, error_of, answer_of, as_announced}};
+ghost use Rattle.mdp_drn.specs.Feeding.{Answers, Gives};
 ghost use Rattle.mdp_drn.specs.Reading.{at_end_of, InModel};
 
 use crate::error::{DrnError, DrnKind};
@@ -160,7 +162,8 @@ impl Body {
         requires body { IsBody self.old }
         requires state { IsTrue (has_state self.old.builder) }
         requires names { All IsName (map (λ label. label.now) labels.now) }
-        ensures given { Answers result self.new.builder (judged (view self.old) line (with_labels (map (λ label. label.now) labels.now) self.old.builder)) }
+        ensures given { Answers result self.new.builder (judged (view self.old) line
+            (with_labels (map (λ label. label.now) labels.now) self.old.builder)) }
         ensures beside { IsSameBeside self.old self.new }
         ensures body { OnOk result (IsBody self.new) }
     {

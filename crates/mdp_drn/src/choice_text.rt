@@ -34,7 +34,8 @@ fn push_reward(model: &Model, m: u32, s: u32, c: u32, out: &mut Vec<u8>) -> Resu
     requires name { m < length model.now.names }
     requires state { s < states_of model.now }
     requires choice { c < length (choices_at model.now s) }
-    ensures text { OnOk result (out.new.items ≡ out.old.items ++ (separator_text (codes ", ") m ++ spelling (reward_of (slice_index_or (choices_at model.now s) c no_choice) m))) }
+    ensures text { OnOk result (out.new.items ≡ out.old.items ++ (separator_text (codes ", ") m
+        ++ spelling (reward_of (slice_index_or (choices_at model.now s) c no_choice) m))) }
     ensures front { take (length out.old.items) out.new.items ≡ out.old.items }
 {
     push_separator(m, b", ", out)?;
@@ -45,7 +46,8 @@ fn push_reward(model: &Model, m: u32, s: u32, c: u32, out: &mut Vec<u8>) -> Resu
 fn push_rewards(model: &Model, s: u32, c: u32, out: &mut Vec<u8>) -> Result<(), AllocError>
     requires state { s < states_of model.now }
     requires choice { c < length (choices_at model.now s) }
-    ensures text { OnOk result (out.new.items ≡ out.old.items ++ joined (codes ", ") (map spelling (slice_index_or (choices_at model.now s) c no_choice).rewards)) }
+    ensures text { OnOk result (out.new.items ≡ out.old.items ++ joined (codes ", ")
+        (map spelling (slice_index_or (choices_at model.now s) c no_choice).rewards)) }
     ensures front { take (length out.old.items) out.new.items ≡ out.old.items }
 {
     model.known();

@@ -1,5 +1,6 @@
 ghost use Rattle.std.specs.Prelude.{◌≡◌, ◌+◌, [], false, map, option_map, OnOk, IfOk, IfErr};
-ghost use Rattle.mdp_drn.specs.{Header.{names_or_one, or_else}, BodyView.{IsOneLine}, Ending.{ended, with_last}, Lines.{is_comment}, Labels.{begins_blank}};
+ghost use Rattle.mdp_drn.specs.{Header.{names_or_one, or_else}, BodyView.{IsOneLine}, Ending.{ended, with_last}, Lines.{is_comment}};
+ghost use Rattle.mdp_drn.specs.Labels.{begins_blank};
 ghost use Rattle.mdp_drn.specs.Reading.{InModel, named, at_line, at_end, begun, nothing_read, kept_line};
 ghost use Rattle.mdp_drn.specs.{DocumentView.{document_in, part_in, header_part, part_behind, IsPart, IsHeader, IsBehind}, Feeding.{Answers, Gives}};
 ghost use Rattle.mdp_drn.specs.Header as header_spec;
@@ -37,7 +38,8 @@ pub(crate) struct Document {
 
 /// The names of the reward models: one, called `-`, where none is given.
 fn names_or_one(alloc: Global, names: Option<Vec<Vec<u8>>>) -> Result<Vec<Vec<u8>>, AllocError>
-    ensures { IfOk result (λ given. map (λ n. n.items) given.items ≡ names_or_one (or_else [] (option_map (λ ns. map (λ n. n.items) ns.items) names))) }
+    ensures { IfOk result (λ given. map (λ n. n.items) given.items ≡ names_or_one
+        (or_else [] (option_map (λ ns. map (λ n. n.items) ns.items) names))) }
 {
     match names {
         Some(names) if !names.is_empty() => Ok(names),
@@ -52,7 +54,8 @@ fn names_or_one(alloc: Global, names: Option<Vec<Vec<u8>>>) -> Result<Vec<Vec<u8
 /// The model behind the header, without states.
 fn begin_body(alloc: Global, rule: RowRule, header: &mut Header) -> Result<Body, Memory>
     requires { IsHeader (header_view.view header.old) header_spec.Model }
-    ensures body { IfOk result (λ body. InModel header.old.choices (body_view.view body) ≡ begun rule (header_view.view header.old) header_spec.Model) }
+    ensures body { IfOk result (λ body. InModel header.old.choices (body_view.view body)
+        ≡ begun rule (header_view.view header.old) header_spec.Model) }
     ensures keeps { IfOk result body_view.IsBody }
 {
     let announced = header.states.unwrap_or(0);
@@ -106,7 +109,8 @@ fn take_header_line(
     requires plain { IsOneLine text.now }
     requires comment { is_comment text.now ≡ false }
     requires trimmed { begins_blank text.now ≡ false }
-    ensures taken { Gives (λ part now. part_behind header.new next.new part ≡ now) result (kept_line rule line text.now (header_part header.old next.old)) }
+    ensures taken { Gives (λ part now. part_behind header.new next.new part
+        ≡ now) result (kept_line rule line text.now (header_part header.old next.old)) }
     ensures part { IfOk result (λ part. IsBehind header.new next.new part) }
 {
     match header.take_line(alloc, *next, text) {

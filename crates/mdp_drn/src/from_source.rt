@@ -54,7 +54,8 @@ fn feed_all<S: Source>(source: &mut S, limit: usize, feed: &mut Feed) -> Result<
     requires limit { limit ≤ 2 ^ 32 }
     requires fresh { HasRead feed.old [] }
     ensures rule { feed.new.rule ≡ feed.old.rule }
-    ensures all { IfOk result (λ ended. ended ≡ true → (bytes : List ℕ) × HadLeft (S.left source.old) bytes × (length bytes ≤ limit) × HasRead feed.new bytes) }
+    ensures all { IfOk result (λ ended. ended ≡ true → (bytes : List ℕ) × HadLeft (S.left source.old) bytes × (length bytes ≤ limit) ×
+        HasRead feed.new bytes) }
     ensures end { IfOk result (λ ended. ended ≡ true → IsAtEnd (S.left source.new)) }
     ensures long { IfOk result (λ ended. ended ≡ false → (bytes : List ℕ) × HadLeft (S.left source.old) bytes × (limit < length bytes)) }
     ensures rest { GaveAtMost (S.left source.old) (S.left source.new) (limit + MOST_PIECE) }
@@ -85,7 +86,8 @@ pub fn read_from<S: Source>(
 ) -> Result<Model, FromError>
     requires { limit ≤ 2 ^ 32 }
     // What it reads are all the bytes that were left, at most `limit`; where the source doesn't tell them, some bytes.
-    ensures read { IsRead result → (bytes : List ℕ) × HadLeft (S.left source.old) bytes × (length bytes ≤ limit) × ReadsAs result (outcome rule bytes) }
+    ensures read { IsRead result → (bytes : List ℕ) × HadLeft (S.left source.old) bytes × (length bytes ≤ limit) ×
+        ReadsAs result (outcome rule bytes) }
     ensures end { IsRead result → IsAtEnd (S.left source.new) }
 
     // Each answer but that of a fault and `Long` comes at the end, and of more than `limit` bytes these two alone.

@@ -1,5 +1,6 @@
 ghost use Rattle.std.specs.{Prelude.{◌≡◌, IfOk, map, ◌∷◌, ◌≤◌, ◌<◌, length, not, false}, List.{prefix_len}};
-ghost use Rattle.mdp_drn.specs.{Lines.{is_line_feed, is_blank}, Labels.{is_quote, is_sized, quoted, bare, label_at, labels_in, before_first, from_first}};
+ghost use Rattle.mdp_drn.specs.Lines.{is_line_feed, is_blank};
+ghost use Rattle.mdp_drn.specs.Labels.{is_quote, is_sized, quoted, bare, label_at, labels_in, before_first, from_first};
 ghost use Rattle.mdp_drn.specs.Parsing.{Says, told, both_now, first_label};
 ghost use Rattle.mdp_rows.specs.Name.{IsName};
 

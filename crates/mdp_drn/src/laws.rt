@@ -1,4 +1,5 @@
-ghost use Rattle.mdp_drn.specs.Laws.{RefusedAtFirst, DependsOnNothingBehind, NamesNoLaterLine, NamesLineOfText, DropsBlanks, IsReadByContents, IsMovedByComment, ListsLabelsBySight, ReadsAsModel};
+ghost use Rattle.mdp_drn.specs.Laws.{RefusedAtFirst, DependsOnNothingBehind, NamesNoLaterLine, NamesLineOfText, DropsBlanks, IsReadByContents};
+ghost use Rattle.mdp_drn.specs.Laws.{IsMovedByComment, ListsLabelsBySight, ReadsAsModel};
 
 /// What a reader of the profile may rely on, of any text. A refusal is that of the first line that breaks a rule, or of the end; nothing behind that
 /// line counts, and the line that is named isn't behind it. Comments, blanks and tabs at the ends of lines and a CR change no model and no kind.

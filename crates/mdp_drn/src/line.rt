@@ -1,5 +1,6 @@
 ghost use Rattle.std.specs.{Prelude.{◌≡◌, ◌≤◌, ◌==◌, ◌||◌, length, not}, List.{list_any, prefix_len, suffix_len}};
-ghost use Rattle.mdp_drn.specs.{Lines.{content, is_blank, is_comment, without_blanks_before, without_blanks_behind}, Labels.{begins_blank}, Values.{trimmed}};
+ghost use Rattle.mdp_drn.specs.{Lines.{content, is_blank, is_comment, without_blanks_before, without_blanks_behind}, Labels.{begins_blank}};
+ghost use Rattle.mdp_drn.specs.Values.{trimmed};
 
 /// Whether the byte is a space or a tab.
 pub(crate) fn is_blank(byte: u8) -> bool

@@ -1,6 +1,7 @@
 ghost use Rattle.std.specs.Prelude.{◌≡◌, ◌<◌, ◌++◌, length, take, codes, OnOk};
 ghost use Rattle.mdp_spec.specs.Mdp.{states_of, state_at};
-ghost use Rattle.mdp_drn.specs.{Writing.{joined, label_text, labels_text, states_text}, Pieces.{separator_text, zeros_of, state_line_text, state_text}};
+ghost use Rattle.mdp_drn.specs.Writing.{joined, label_text, labels_text, states_text};
+ghost use Rattle.mdp_drn.specs.Pieces.{separator_text, zeros_of, state_line_text, state_text};
 
 use crate::choice_text::push_choices;
 use crate::push::{push_between, push_bytes, push_separator};

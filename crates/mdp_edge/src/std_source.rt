@@ -1,4 +1,5 @@
-ghost use Rattle.std.specs.{Prelude.{◌≡◌, ◌≤◌, ◌<◌, length, is_some, IsNone, option_and_then, IfOk, IsErr, OnOk, OnErr, None}, Io.KnownBytes.{ReadConsumes}};
+ghost use Rattle.std.specs.Prelude.{◌≡◌, ◌≤◌, ◌<◌, length, is_some, IsNone, option_and_then, IfOk, IsErr, OnOk, OnErr, None};
+ghost use Rattle.std.specs.{Io.KnownBytes.{ReadConsumes}};
 ghost use Rattle.mdp_edge.specs.Faults.{one_more, last_count};
 
 use crate::retrying::read_retrying;

@@ -89,7 +89,8 @@ fn system_of<R: RowsOf>(
 /// The vectors of values: the first one, and the second one where there are two columns.
 fn answers(alloc: Global, values: Values, columns: usize) -> Result<Vec<Vec<Frac>>, AllocError>
     requires { (columns ≡ 1) ⊎ (columns ≡ 2) }
-    ensures { IfOk result (λ xs. map (λ x. x.items) xs.items ≡ columns_of columns (record { first = values.first.items; second = values.second.items })) }
+    ensures { IfOk result (λ xs. map (λ x. x.items) xs.items ≡ columns_of columns
+        (record { first = values.first.items; second = values.second.items })) }
 {
     let Values { first, second } = values;
     let mut answers = Vec::new(alloc);
@@ -113,8 +114,10 @@ pub fn solve_leaving<R: RowsOf>(
     requires leaves { (ranks : List ℕ) × Leaves (R.rows rows.now) active.now ranks }
     requires some_columns { (length columns.now ≡ 1) ⊎ (length columns.now ≡ 2) }
     requires columns { All (λ c. length c.items ≡ length (R.rows rows.now)) columns.now }
-    ensures value { IfOk result (λ xs. written_solution (R.rows rows.now) active.now (map (λ c. c.items) columns.now) ≡ Ok (map (λ x. x.items) xs.items)) }
-    ensures wide { (s : ℕ) → result ≡ Err (Unfinished.TooWide s) → written_solution (R.rows rows.now) active.now (map (λ c. c.items) columns.now) ≡ Err s }
+    ensures value { IfOk result (λ xs. written_solution (R.rows rows.now) active.now (map (λ c. c.items) columns.now)
+        ≡ Ok (map (λ x. x.items) xs.items)) }
+    ensures wide { (s : ℕ) → result ≡ Err (Unfinished.TooWide s) → written_solution (R.rows rows.now) active.now (map (λ c. c.items) columns.now)
+        ≡ Err s }
     ensures place { (s : ℕ) → result ≡ Err (Unfinished.TooWide s) → (s < length (R.rows rows.now)) × (is_active active.now s ≡ true) }
     ensures solves { IfOk result (λ xs. SolveEach (R.rows rows.now) active.now (map (λ c. c.items) columns.now) (map (λ x. x.items) xs.items)) }
 {
@@ -135,10 +138,14 @@ pub fn solve<R: RowsOf>(
     requires leaves { Leaves (R.rows chain.now.rows.now) chain.now.active.now chain.now.ranks.now }
     requires some_columns { (length columns.now ≡ 1) ⊎ (length columns.now ≡ 2) }
     requires columns { All (λ c. length c.items ≡ length (R.rows chain.now.rows.now)) columns.now }
-    ensures value { IfOk result (λ xs. written_solution (R.rows chain.now.rows.now) chain.now.active.now (map (λ c. c.items) columns.now) ≡ Ok (map (λ x. x.items) xs.items)) }
-    ensures wide { (s : ℕ) → result ≡ Err (Unfinished.TooWide s) → written_solution (R.rows chain.now.rows.now) chain.now.active.now (map (λ c. c.items) columns.now) ≡ Err s }
-    ensures place { (s : ℕ) → result ≡ Err (Unfinished.TooWide s) → (s < length (R.rows chain.now.rows.now)) × (is_active chain.now.active.now s ≡ true) }
-    ensures solves { IfOk result (λ xs. SolveEach (R.rows chain.now.rows.now) chain.now.active.now (map (λ c. c.items) columns.now) (map (λ x. x.items) xs.items)) }
+    ensures value { IfOk result (λ xs. written_solution (R.rows chain.now.rows.now) chain.now.active.now (map (λ c. c.items) columns.now)
+        ≡ Ok (map (λ x. x.items) xs.items)) }
+    ensures wide { (s : ℕ) → result ≡ Err (Unfinished.TooWide s) → written_solution (R.rows chain.now.rows.now) chain.now.active.now
+        (map (λ c. c.items) columns.now) ≡ Err s }
+    ensures place { (s : ℕ) → result ≡ Err (Unfinished.TooWide s) → (s < length (R.rows chain.now.rows.now)) ×
+        (is_active chain.now.active.now s ≡ true) }
+    ensures solves { IfOk result (λ xs. SolveEach (R.rows chain.now.rows.now) chain.now.active.now (map (λ c. c.items) columns.now)
+        (map (λ x. x.items) xs.items)) }
 {
     solve_leaving(alloc, chain.rows, chain.active, columns)
 }

@@ -1,6 +1,7 @@
 ghost use Rattle.std.specs.{Prelude.{ℕ, ◌≡◌, ◌≢◌, ◌<◌, ◌^◌, ◌+◌, length, Some, None, Ok, Err, OnOk, IfOk, pos}, List.{All, Contains, remove}};
 ghost use Rattle.mdp_math.specs.Rational.{of_int};
-ghost use Rattle.mdp_elim.specs.{Entries.{Between, entry_to, each}, Elimination.{CanEliminate, divided, substituted, eliminated, solution, no_values}};
+ghost use Rattle.mdp_elim.specs.Entries.{Between, entry_to, each};
+ghost use Rattle.mdp_elim.specs.Elimination.{CanEliminate, divided, substituted, eliminated, solution, no_values};
 ghost use Rattle.mdp_elim.specs.{Finish.{finish, LeadDown, placed}, Predecessors.{IsLinked, IsPutAt, LeadsTo, LeadBelow, at}};
 
 use crate::equation::{Equation, Solved, evaluate};
@@ -169,7 +170,8 @@ pub(crate) fn solve_system(alloc: Global, equations: Vec<Equation>) -> Result<Va
     requires few { length equations.items < 2 ^ 32 }
     requires down { LeadBelow (length equations.items) (length equations.items) equations.items }
     requires can { CanEliminate (length equations.items) equations.items }
-    ensures ok { IfOk result (λ v. solution (length equations.items) equations.items ≡ Ok (record { first = v.first.items; second = v.second.items })) }
+    ensures ok { IfOk result (λ v. solution (length equations.items) equations.items
+        ≡ Ok (record { first = v.first.items; second = v.second.items })) }
     ensures count { IfOk result (λ v. (length v.first.items ≡ length equations.items) × (length v.second.items ≡ length equations.items)) }
     ensures wide { (s : ℕ) → result ≡ Err (Unfinished.TooWide s) → solution (length equations.items) equations.items ≡ Err s }
 {

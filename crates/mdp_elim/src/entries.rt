@@ -2,7 +2,8 @@ ghost use Rattle.std.specs.{Prelude.{ℕ, ◌≡◌, ◌≢◌, ◌<◌, ◌≤�
 ghost use Rattle.std.specs.Result.{result_ok};
 ghost use Rattle.mdp_spec.specs.Written.{written_sum};
 ghost use Rattle.mdp_math.specs.Rational.{of_int};
-ghost use Rattle.mdp_elim.specs.Entries.{Between, LeadsAt, reach, StartsNew, place, entry_to, without, each, divided_entry, plus_row, after, MergesTo, IsTooWide};
+ghost use Rattle.mdp_elim.specs.Entries.{Between, LeadsAt, reach, StartsNew, place, entry_to, without, each, divided_entry, plus_row, after};
+ghost use Rattle.mdp_elim.specs.Entries.{MergesTo, IsTooWide};
 
 use crate::errors::StepError;
 use crate::sums::plus_times;

@@ -242,8 +242,10 @@ pub(crate) fn evaluate(
 ) -> Result<(), StepError>
     requires { All (λ x. (x.target < length first.old.items) × (x.target < length second.old.items)) equation.now.entries }
     ensures more { OnOk result ((length first.new.items ≡ length first.old.items + 1) × (length second.new.items ≡ length second.old.items + 1)) }
-    ensures ok { OnOk result (evaluated equation.now (record { first = first.old.items; second = second.old.items }) ≡ Some (record { first = first.new.items; second = second.new.items })) }
-    ensures wide { result ≡ Err (Unfinished.TooWide tt) → evaluated equation.now (record { first = first.old.items; second = second.old.items }) ≡ None }
+    ensures ok { OnOk result (evaluated equation.now (record { first = first.old.items; second = second.old.items })
+        ≡ Some (record { first = first.new.items; second = second.new.items })) }
+    ensures wide { result ≡ Err (Unfinished.TooWide tt) → evaluated equation.now (record { first = first.old.items; second = second.old.items })
+        ≡ None }
 {
     let (x, y) = equation.sums(first, second)?;
     first.push(x)?;

@@ -1,4 +1,5 @@
-ghost use Rattle.std.specs.{Prelude.{ℕ, List, ◌≡◌, ◌≢◌, ◌<◌, ◌+◌, ◌-◌, suc, length, map, false, Some, None, Ok, Err, OnOk, IfOk, IfSome, pos}, List.{All}};
+ghost use Rattle.std.specs.Prelude.{ℕ, List, ◌≡◌, ◌≢◌, ◌<◌, ◌+◌, ◌-◌, suc, length, map, false, Some, None, Ok, Err, OnOk, IfOk, IfSome, pos};
+ghost use Rattle.std.specs.List.{All};
 ghost use Rattle.mdp_math.specs.Rational.{of_int};
 ghost use Rattle.mdp_spec.specs.Mdp.{value_at};
 ghost use Rattle.mdp_rows.specs.Preds.{is_among};
@@ -66,7 +67,8 @@ fn solve_row(
     requires state { t < length solved.old }
     requires down { LeadToSmaller solved.old }
     requires below { Between 0 (length solved.old) equation.entries }
-    requires can { (sum : spec.Equation) → put_in solved.old (suc t) (length solved.old - suc t) equation ≡ Some sum → entry_to t sum.entries ≢ Some (of_int (pos 1)) }
+    requires can { (sum : spec.Equation) → put_in solved.old (suc t) (length solved.old - suc t) equation ≡ Some sum →
+        entry_to t sum.entries ≢ Some (of_int (pos 1)) }
     ensures ok { OnOk result (IsTried solved.old solved.new t equation None None) }
     ensures wide { (s : ℕ) → result ≡ Err (Unfinished.TooWide s) → IsTried solved.old solved.new t equation None (Some s) }
 {
@@ -91,7 +93,8 @@ fn solve_state(
     requires state { t < length solved.old }
     requires down { LeadToSmaller solved.old }
     requires below { Between 0 (length solved.old) equation.entries }
-    requires can { wide ≡ None → (sum : spec.Equation) → put_in solved.old (suc t) (length solved.old - suc t) equation ≡ Some sum → entry_to t sum.entries ≢ Some (of_int (pos 1)) }
+    requires can { wide ≡ None → (sum : spec.Equation) → put_in solved.old (suc t) (length solved.old - suc t) equation ≡ Some sum →
+        entry_to t sum.entries ≢ Some (of_int (pos 1)) }
     requires wide { IfSome wide (λ low. low < length solved.old) }
     ensures { IfOk result (λ now. IsTried solved.old solved.new t equation wide now) }
 {
@@ -126,7 +129,8 @@ fn solve_states<R: RowsOf>(
     requires others { StaySolved states.now (system (R.rows rows.now) active.now (map (λ c. c.items) columns.now)) solved.old }
     ensures ok { OnOk result (AreSolved (system (R.rows rows.now) active.now (map (λ c. c.items) columns.now)) solved.new) }
     ensures others { OnOk result ((u : ℕ) → is_among u states.now ≡ false → at solved.new u ≡ at solved.old u) }
-    ensures wide { (s : ℕ) → result ≡ Err (Unfinished.TooWide s) → solution (length (R.rows rows.now)) (system (R.rows rows.now) active.now (map (λ c. c.items) columns.now)) ≡ Err s }
+    ensures wide { (s : ℕ) → result ≡ Err (Unfinished.TooWide s) → solution (length (R.rows rows.now))
+        (system (R.rows rows.now) active.now (map (λ c. c.items) columns.now)) ≡ Err s }
 {
     rows.known();
     let mut wide = None;
@@ -227,9 +231,11 @@ impl<'a> Kept<'a> {
         requires ascend { Ascend states.now }
         requires others { CanServe states.now (system (R.rows rows.now) active.now (map (λ c. c.items) columns.now)) self.old }
         ensures kept { OnOk result (IsKept (system (R.rows rows.now) active.now (map (λ c. c.items) columns.now)) self.new) }
-        ensures value { OnOk result (solution (length (R.rows rows.now)) (system (R.rows rows.now) active.now (map (λ c. c.items) columns.now)) ≡ Ok (record { first = self.new.first; second = self.new.second })) }
+        ensures value { OnOk result (solution (length (R.rows rows.now)) (system (R.rows rows.now) active.now (map (λ c. c.items) columns.now))
+            ≡ Ok (record { first = self.new.first; second = self.new.second })) }
         ensures others { OnOk result ((s : ℕ) → is_among s states.now ≡ false → value_at self.new.first s ≡ value_at self.old.first s) }
-        ensures wide { (s : ℕ) → result ≡ Err (Unfinished.TooWide s) → solution (length (R.rows rows.now)) (system (R.rows rows.now) active.now (map (λ c. c.items) columns.now)) ≡ Err s }
+        ensures wide { (s : ℕ) → result ≡ Err (Unfinished.TooWide s) → solution (length (R.rows rows.now))
+            (system (R.rows rows.now) active.now (map (λ c. c.items) columns.now)) ≡ Err s }
     {
         rows.known();
         solve_states(alloc, rows, active, columns, states, &mut self.solved)?;

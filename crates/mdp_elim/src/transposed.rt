@@ -45,7 +45,8 @@ fn push_row(
 ) -> Result<(), AllocError>
     requires targets { All (λ v. v < length active.now) row.targets.now }
     requires states { length equations.old ≡ length active.now }
-    ensures row { OnOk result ((s : ℕ) → at equations.new s ≡ with_row active.now t (entries row.entry.targets.now row.entry.probs.now) s (at equations.old s)) }
+    ensures row { OnOk result ((s : ℕ) → at equations.new s ≡ with_row active.now t (entries row.entry.targets.now row.entry.probs.now) s
+        (at equations.old s)) }
     ensures count { OnOk result (length equations.new ≡ length equations.old) }
 {
     for i in 0..row.targets.len() {
@@ -65,7 +66,8 @@ fn visits_system<R: RowsOf>(
 ) -> Result<Vec<Equation>, AllocError>
     requires active { length chain.now.active.now ≡ length (R.rows chain.now.rows.now) }
     requires start { is_active chain.now.active.now start ≡ true }
-    ensures value { IfOk result (λ es. es.items ≡ system (transposed (R.rows chain.now.rows.now)) chain.now.active.now (unit_column (length (R.rows chain.now.rows.now)) start ∷ [])) }
+    ensures value { IfOk result (λ es. es.items ≡ system (transposed (R.rows chain.now.rows.now)) chain.now.active.now
+        (unit_column (length (R.rows chain.now.rows.now)) start ∷ [])) }
     ensures few { IfOk result (λ es. length es.items < 2 ^ 32) }
 {
     let mut equations = visits_start(alloc, chain.rows.count(), start)?;
@@ -90,7 +92,8 @@ pub fn visits<R: RowsOf>(
     requires start { is_active chain.now.active.now start ≡ true }
     ensures value { IfOk result (λ y. written_visits (R.rows chain.now.rows.now) chain.now.active.now start ≡ Ok y.items) }
     ensures wide { (s : ℕ) → result ≡ Err (Unfinished.TooWide s) → written_visits (R.rows chain.now.rows.now) chain.now.active.now start ≡ Err s }
-    ensures place { (s : ℕ) → result ≡ Err (Unfinished.TooWide s) → (s < length (R.rows chain.now.rows.now)) × (is_active chain.now.active.now s ≡ true) }
+    ensures place { (s : ℕ) → result ≡ Err (Unfinished.TooWide s) → (s < length (R.rows chain.now.rows.now)) ×
+        (is_active chain.now.active.now s ≡ true) }
     ensures solves { IfOk result (λ y. AreVisits (R.rows chain.now.rows.now) chain.now.active.now start y.items) }
 {
     chain.rows.known();

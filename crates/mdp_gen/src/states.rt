@@ -1,5 +1,6 @@
 ghost use Rattle.std.specs.Prelude.{◌≡◌, ◌++◌, ◌+◌, ◌*◌, ◌<◌, length, take, OnOk, IfOk};
-ghost use Rattle.mdp_gen.specs.{Draws.{next}, Layered.{IsShape, target}, Pieces.{row_text, choice_text, state_line_text, initial_text, drawn_text, state_text}};
+ghost use Rattle.mdp_gen.specs.{Draws.{next}, Layered.{IsShape, target}};
+ghost use Rattle.mdp_gen.specs.Pieces.{row_text, choice_text, state_line_text, initial_text, drawn_text, state_text};
 
 use crate::draws::next_draw;
 use crate::push::{push_choice_line, push_entry, push_state_line};

@@ -109,9 +109,11 @@ pub fn avoid_and_meet(
     requires goals { length goals.now ≡ states_of model.now }
     ensures avoiding { IfOk result (λ both. IsGreatestAvoiding model.now goals.now both.avoiding.marks) }
     ensures avoiding_ranks { IfOk result (λ both. both.avoiding.ranks.items ≡ replicate (states_of model.now) 0) }
-    ensures avoiding_choices { IfOk result (λ both. AreLeast model.now goals.now both.avoiding.marks (keeps model.now both.avoiding.marks) both.avoiding.choices.items) }
+    ensures avoiding_choices { IfOk result (λ both. AreLeast model.now goals.now both.avoiding.marks
+        (keeps model.now both.avoiding.marks) both.avoiding.choices.items) }
     ensures meeting { IfOk result (λ both. AreReached (must_step model.now) (marked goals.now) (states_of model.now) both.meeting.marks) }
-    ensures meeting_ranks { IfOk result (λ both. AreLeastRanks (must_step model.now) (marked goals.now) (states_of model.now) both.meeting.marks both.meeting.ranks.items) }
+    ensures meeting_ranks { IfOk result (λ both. AreLeastRanks (must_step model.now) (marked goals.now)
+        (states_of model.now) both.meeting.marks both.meeting.ranks.items) }
     ensures falls { IfOk result (λ both. AllFall model.now goals.now both.meeting.marks both.meeting.ranks.items) }
     ensures meeting_choices { IfOk result (λ both. both.meeting.choices.items ≡ replicate (states_of model.now) 0) }
 {

@@ -1,8 +1,10 @@
 ghost use Rattle.std.specs.{Prelude.{◌≡◌, ◌<◌, ◌+◌, ◌==◌, ℕ, false, [], length, map, replicate, slice_index_or, IfOk}, List.{All, range_with_len}};
 ghost use Rattle.mdp_spec.specs.Mdp.{states_of};
-ghost use Rattle.mdp_graph.specs.{Sets.{marked}, Layers.{AreLeastRanks}, Choices.{plain_rank, AreLeast}, Sure.{inside_step, IsGreatestSure, stays_and_falls}};
+ghost use Rattle.mdp_graph.specs.{Sets.{marked}, Layers.{AreLeastRanks}, Choices.{plain_rank, AreLeast}};
+ghost use Rattle.mdp_graph.specs.Sure.{inside_step, IsGreatestSure, stays_and_falls};
 ghost use Rattle.mdp_graph.specs.{Rounds.{AreRounds}, Ranking.{unranked}, Waiting.{leading_to}};
-ghost use Rattle.mdp_graph.specs.{Forest.{AreFrom, AreKnown, IsUncut, IsForest, AreWide, all_preds, IsAttaching}, Falling.{IsRound}, NextLayer.{AreLayers}};
+ghost use Rattle.mdp_graph.specs.{Forest.{AreFrom, AreKnown, IsUncut, IsForest, AreWide, all_preds, IsAttaching}, Falling.{IsRound}};
+ghost use Rattle.mdp_graph.specs.NextLayer.{AreLayers};
 
 use crate::forest::{Way, attach_all, cut_below, cut_choices, found_ways, take_found, unattached};
 use crate::layers::Layers;
@@ -77,7 +79,8 @@ impl Falling {
         requires wide { AreWide model.now self.old.layers.waiting }
         requires forest { IsForest model.now goals.now self.old.layers.waiting self.old.ways.items (λ _. false) }
         ensures layers { self.new.layers ≡ self.old.layers }
-        ensures attaching { IfOk result (λ fell. IsAttaching model.now goals.now self.old.layers.waiting self.old.ways.items self.new.ways.items broken.now fell.items) }
+        ensures attaching { IfOk result (λ fell. IsAttaching model.now goals.now self.old.layers.waiting self.old.ways.items self.new.ways.items
+            broken.now fell.items) }
     {
         let allowed = &self.layers.waiting;
         let found = found_ways(alloc, model, goals, allowed, &self.ways, broken)?;
@@ -95,7 +98,8 @@ impl Falling {
         requires none { self.old.layers.ranks.items ≡ replicate (states_of model.now) None }
         requires ways { self.old.ways.items ≡ replicate (states_of model.now) None }
         ensures layers { IfOk result (λ fell. AreLayers model.now self.new.layers.preds self.new.layers.waiting self.new.layers.ranks.items) }
-        ensures round { IfOk result (λ fell. IsRound model.now goals.now self.new.layers.ranks.items 0 self.new.layers.waiting self.new.ways.items fell.items) }
+        ensures round { IfOk result (λ fell. IsRound model.now goals.now self.new.layers.ranks.items 0 self.new.layers.waiting self.new.ways.items
+            fell.items) }
     {
         model.known();
         let all = all_states(alloc, model.states())?;
@@ -117,7 +121,8 @@ impl Falling {
         requires some { 0 < length fell.now }
         requires before { IsRound model.now goals.now self.old.layers.ranks.items round self.old.layers.waiting self.old.ways.items fell.now }
         ensures preds { IfOk result (λ next. self.new.layers.preds ≡ all_preds model.now) }
-        ensures after { IfOk result (λ next. IsRound model.now goals.now self.new.layers.ranks.items (round + 1) self.new.layers.waiting self.new.ways.items next.items) }
+        ensures after { IfOk result (λ next. IsRound model.now goals.now self.new.layers.ranks.items
+            (round + 1) self.new.layers.waiting self.new.ways.items next.items) }
         ensures fewer { IfOk result (λ next. unranked self.new.layers.ranks.items < unranked self.old.layers.ranks.items) }
     {
         model.known();
@@ -171,8 +176,10 @@ fn sure_pass(alloc: Global, model: &Model, goals: &Marks, rounds: &[u32]) -> Res
     requires goals { length goals.now ≡ states_of model.now }
     requires rounds { AreRounds model.now goals.now rounds.now }
     ensures marks { IfOk result (λ pass. IsGreatestSure model.now goals.now pass.marks) }
-    ensures ranks { IfOk result (λ pass. AreLeastRanks (inside_step model.now (marked pass.marks)) (marked goals.now) (states_of model.now) pass.marks pass.ranks.items) }
-    ensures choices { IfOk result (λ pass. AreLeast model.now goals.now pass.marks (stays_and_falls model.now pass.marks pass.ranks.items) pass.choices.items) }
+    ensures ranks { IfOk result (λ pass. AreLeastRanks (inside_step model.now (marked pass.marks)) (marked goals.now)
+        (states_of model.now) pass.marks pass.ranks.items) }
+    ensures choices { IfOk result (λ pass. AreLeast model.now goals.now pass.marks
+        (stays_and_falls model.now pass.marks pass.ranks.items) pass.choices.items) }
 {
     model.known();
     let inside = zero_marks(alloc, rounds)?;
@@ -184,8 +191,10 @@ fn sure_pass(alloc: Global, model: &Model, goals: &Marks, rounds: &[u32]) -> Res
 pub fn sure_rounds(alloc: Global, model: &Model, goals: &Marks) -> Result<SureRounds, Memory>
     requires goals { length goals.now ≡ states_of model.now }
     ensures marks { IfOk result (λ sure. IsGreatestSure model.now goals.now sure.pass.marks) }
-    ensures ranks { IfOk result (λ sure. AreLeastRanks (inside_step model.now (marked sure.pass.marks)) (marked goals.now) (states_of model.now) sure.pass.marks sure.pass.ranks.items) }
-    ensures choices { IfOk result (λ sure. AreLeast model.now goals.now sure.pass.marks (stays_and_falls model.now sure.pass.marks sure.pass.ranks.items) sure.pass.choices.items) }
+    ensures ranks { IfOk result (λ sure. AreLeastRanks (inside_step model.now (marked sure.pass.marks)) (marked goals.now)
+        (states_of model.now) sure.pass.marks sure.pass.ranks.items) }
+    ensures choices { IfOk result (λ sure. AreLeast model.now goals.now sure.pass.marks
+        (stays_and_falls model.now sure.pass.marks sure.pass.ranks.items) sure.pass.choices.items) }
     ensures rounds { IfOk result (λ sure. AreRounds model.now goals.now sure.rounds.items) }
 {
     let rounds = rounds_outside(alloc, model, goals)?;

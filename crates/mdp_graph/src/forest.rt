@@ -1,9 +1,11 @@
-ghost use Rattle.std.specs.Prelude.{◌≡◌, ◌<◌, ◌||◌, ◌&&◌, ℕ, List, true, false, not, None, Some, [], length, replicate, slice_index, slice_index_or, IfOk, OnOk};
+ghost use Rattle.std.specs.Prelude.{◌≡◌, ◌<◌, ◌||◌, ◌&&◌, ℕ, List, true, false, not, None, Some, [], length, replicate, slice_index, slice_index_or};
+ghost use Rattle.std.specs.Prelude.{IfOk, OnOk};
 ghost use Rattle.std.specs.List.{All};
 ghost use Rattle.mdp_spec.specs.Mdp.{states_of};
 ghost use Rattle.mdp_rows.specs.Preds.{is_among};
 ghost use Rattle.mdp_graph.specs.Waiting.{leading_to, AreWithin};
-ghost use Rattle.mdp_graph.specs.Forest.{uses, attached, IsCut, AreFrom, AreKnown, IsPruned, IsForest, IsClosed, IsFound, IsGrown, IsTaken, IsFoundWay, HasFound};
+ghost use Rattle.mdp_graph.specs.Forest.{uses, attached, IsCut, AreFrom, AreKnown, IsPruned, IsForest, IsClosed, IsFound, IsGrown, IsTaken};
+ghost use Rattle.mdp_graph.specs.Forest.{IsFoundWay, HasFound};
 ghost use Rattle.mdp_graph.specs.Forest.{IsWayTo, HasWayTo, IsWayInto, HasWayInto, AreWide, all_preds, way_at};
 
 use crate::waiting::Waiting;
@@ -151,7 +153,8 @@ pub(crate) fn found_ways(
     requires ways { length ways.now ≡ states_of model.now }
     requires wide { AreWide model.now allowed.now }
     ensures count { IfOk result (λ found. length found.items ≡ length states.now) }
-    ensures each { IfOk result (λ found. (i : ℕ) → i < length states.now → IsFound model.now goals.now allowed.now ways.now (slice_index states.now i) (way_at found.items i)) }
+    ensures each { IfOk result (λ found. (i : ℕ) → i < length states.now →
+        IsFound model.now goals.now allowed.now ways.now (slice_index states.now i) (way_at found.items i)) }
 {
     let mut found = Vec::new(alloc);
     for s in states {
@@ -171,7 +174,8 @@ pub(crate) fn take_found(
     requires below { All (λ s. s < length ways.old.items) states.now }
     requires goals { length goals.now ≡ length ways.old.items }
     requires found { length found.now ≡ length states.now }
-    ensures grown { IfOk result (λ layer. IsGrown goals.now ways.old.items ways.new.items (IsFoundWay states.now found.now) (HasFound states.now found.now)) }
+    ensures grown { IfOk result (λ layer. IsGrown goals.now ways.old.items ways.new.items (IsFoundWay states.now found.now)
+        (HasFound states.now found.now)) }
     ensures taken { IfOk result (λ layer. IsTaken ways.old.items [] ways.new.items layer.items) }
 {
     let mut layer = Vec::new(alloc);
@@ -227,7 +231,8 @@ fn attach_layer(
     requires below { All (λ t. t < length preds.now) layer.now }
     requires ways { length ways.old.items ≡ length allowed.now }
     requires goals { length goals.now ≡ length allowed.now }
-    ensures grown { IfOk result (λ next. IsGrown goals.now ways.old.items ways.new.items (IsWayInto allowed.now preds.now layer.now) (HasWayInto allowed.now preds.now layer.now)) }
+    ensures grown { IfOk result (λ next. IsGrown goals.now ways.old.items ways.new.items (IsWayInto allowed.now preds.now layer.now)
+        (HasWayInto allowed.now preds.now layer.now)) }
     ensures taken { IfOk result (λ next. IsTaken ways.old.items [] ways.new.items next.items) }
 {
     let mut next = Vec::new(alloc);

@@ -1,4 +1,5 @@
-ghost use Rattle.mdp_graph.specs.Laws.{ChoicesReach, RestStays, RowsFall, RowsStay, EachPolicyMeets, RestAvoids, ChoicesAreSure, ChoicesArrive, SureAreMarked};
+ghost use Rattle.mdp_graph.specs.Laws.{ChoicesReach, RestStays, RowsFall, RowsStay, EachPolicyMeets, RestAvoids, ChoicesAreSure, ChoicesArrive};
+ghost use Rattle.mdp_graph.specs.Laws.{SureAreMarked};
 ghost use Rattle.mdp_graph.specs.Laws.{RoundsFall, ZeroIsSure, TreesMiss, PolicyAvoids, ChoicesMiss, RestMeets, StaysSure, TreesArrive, JoinedMisses};
 
 /// By the choices of `may_reach` each marked state can come to a target within as many steps as its rank. No choice of a state that is neither

@@ -45,7 +45,8 @@ impl Layers {
         requires layers { AreLayers model.now self.old.preds self.old.waiting self.old.ranks.items }
         requires below { All (λ s. s < states_of model.now) states.now }
         ensures layers { IfOk result (λ met. AreLayers model.now self.new.preds self.new.waiting self.new.ranks.items) }
-        ensures next { IfOk result (λ met. IsNext model.now self.new.preds self.old.waiting self.new.waiting self.old.ranks.items self.new.ranks.items states.now rank met.items) }
+        ensures next { IfOk result (λ met. IsNext model.now self.new.preds self.old.waiting self.new.waiting self.old.ranks.items
+            self.new.ranks.items states.now rank met.items) }
     {
         model.known();
         let mut layer = Vec::new(alloc);

@@ -47,8 +47,10 @@ impl Pass {
         ensures marks { IfOk result (λ pass. pass.marks ≡ map is_some ranks.now) }
         ensures ranks { IfOk result (λ pass. pass.ranks.items ≡ map plain_rank ranks.now) }
         ensures choices { IfOk result (λ pass. pass.choices.items ≡ choices.items) }
-        ensures reached { IfOk result (λ pass. (step : (ℕ → Bool) → ℕ → Bool) (first : ℕ → Bool) (n : ℕ) → AreRanks step first n ranks.now → AreReached step first n pass.marks) }
-        ensures least { IfOk result (λ pass. (step : (ℕ → Bool) → ℕ → Bool) (first : ℕ → Bool) (n : ℕ) → AreRanks step first n ranks.now → AreLeastRanks step first n pass.marks pass.ranks.items) }
+        ensures reached { IfOk result (λ pass. (step : (ℕ → Bool) → ℕ → Bool) (first : ℕ → Bool) (n : ℕ) → AreRanks step first n ranks.now →
+            AreReached step first n pass.marks) }
+        ensures least { IfOk result (λ pass. (step : (ℕ → Bool) → ℕ → Bool) (first : ℕ → Bool) (n : ℕ) → AreRanks step first n ranks.now →
+            AreLeastRanks step first n pass.marks pass.ranks.items) }
     {
         Ok(Pass {
             marks: marks_by(alloc, ranks)?,
@@ -69,8 +71,10 @@ impl Pass {
         ensures marks { IfOk result (λ pass. pass.marks ≡ map is_some ranks.now) }
         ensures ranks { IfOk result (λ pass. pass.ranks.items ≡ map plain_rank ranks.now) }
         ensures choices { IfOk result (λ pass. pass.choices.items ≡ first_passing model.now (may_fall model.now inside.now ranks.now)) }
-        ensures reached { IfOk result (λ pass. (step : (ℕ → Bool) → ℕ → Bool) (first : ℕ → Bool) (n : ℕ) → AreRanks step first n ranks.now → AreReached step first n pass.marks) }
-        ensures least { IfOk result (λ pass. (step : (ℕ → Bool) → ℕ → Bool) (first : ℕ → Bool) (n : ℕ) → AreRanks step first n ranks.now → AreLeastRanks step first n pass.marks pass.ranks.items) }
+        ensures reached { IfOk result (λ pass. (step : (ℕ → Bool) → ℕ → Bool) (first : ℕ → Bool) (n : ℕ) → AreRanks step first n ranks.now →
+            AreReached step first n pass.marks) }
+        ensures least { IfOk result (λ pass. (step : (ℕ → Bool) → ℕ → Bool) (first : ℕ → Bool) (n : ℕ) → AreRanks step first n ranks.now →
+            AreLeastRanks step first n pass.marks pass.ranks.items) }
     {
         let choices = least_choices(alloc, model, inside, ranks)?;
         Pass::by_ranks(alloc, ranks, choices)
@@ -81,8 +85,10 @@ impl Pass {
         ensures marks { IfOk result (λ pass. pass.marks ≡ map is_some ranks.now) }
         ensures ranks { IfOk result (λ pass. pass.ranks.items ≡ map plain_rank ranks.now) }
         ensures choices { IfOk result (λ pass. pass.choices.items ≡ replicate (length ranks.now) 0) }
-        ensures reached { IfOk result (λ pass. (step : (ℕ → Bool) → ℕ → Bool) (first : ℕ → Bool) (n : ℕ) → AreRanks step first n ranks.now → AreReached step first n pass.marks) }
-        ensures least { IfOk result (λ pass. (step : (ℕ → Bool) → ℕ → Bool) (first : ℕ → Bool) (n : ℕ) → AreRanks step first n ranks.now → AreLeastRanks step first n pass.marks pass.ranks.items) }
+        ensures reached { IfOk result (λ pass. (step : (ℕ → Bool) → ℕ → Bool) (first : ℕ → Bool) (n : ℕ) → AreRanks step first n ranks.now →
+            AreReached step first n pass.marks) }
+        ensures least { IfOk result (λ pass. (step : (ℕ → Bool) → ℕ → Bool) (first : ℕ → Bool) (n : ℕ) → AreRanks step first n ranks.now →
+            AreLeastRanks step first n pass.marks pass.ranks.items) }
     {
         let choices = zeros(alloc, ranks.len())?;
         Pass::by_ranks(alloc, ranks, choices)

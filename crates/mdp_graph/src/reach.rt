@@ -46,8 +46,10 @@ pub fn may_reach(
     requires target { length target.now ≡ states_of model.now }
     requires blocked { length blocked.now ≡ states_of model.now }
     ensures marks { IfOk result (λ pass. AreReached (may_step model.now blocked.now) (marked target.now) (states_of model.now) pass.marks) }
-    ensures ranks { IfOk result (λ pass. AreLeastRanks (may_step model.now blocked.now) (marked target.now) (states_of model.now) pass.marks pass.ranks.items) }
-    ensures choices { IfOk result (λ pass. AreLeast model.now target.now pass.marks (falls model.now pass.marks pass.ranks.items) pass.choices.items) }
+    ensures ranks { IfOk result (λ pass. AreLeastRanks (may_step model.now blocked.now) (marked target.now)
+        (states_of model.now) pass.marks pass.ranks.items) }
+    ensures choices { IfOk result (λ pass. AreLeast model.now target.now pass.marks
+        (falls model.now pass.marks pass.ranks.items) pass.choices.items) }
 {
     model.known();
     let all = all_true(alloc, model.states())?;
@@ -73,7 +75,8 @@ fn row_ranks<R: RowsOf>(
 pub fn along<R: RowsOf>(alloc: Global, rows: &R, target: &Marks) -> Result<Pass, Memory>
     requires target { length target.now ≡ length (R.rows rows.now) }
     ensures marks { IfOk result (λ pass. AreReached (row_step (R.rows rows.now)) (marked target.now) (length (R.rows rows.now)) pass.marks) }
-    ensures ranks { IfOk result (λ pass. AreLeastRanks (row_step (R.rows rows.now)) (marked target.now) (length (R.rows rows.now)) pass.marks pass.ranks.items) }
+    ensures ranks { IfOk result (λ pass. AreLeastRanks (row_step (R.rows rows.now)) (marked target.now)
+        (length (R.rows rows.now)) pass.marks pass.ranks.items) }
     ensures choices { IfOk result (λ pass. pass.choices.items ≡ replicate (length (R.rows rows.now)) 0) }
 {
     let ranks = row_ranks(alloc, rows, target)?;

@@ -1,6 +1,7 @@
 ghost use Rattle.std.specs.Prelude.{◌≡◌, length, IfOk};
 ghost use Rattle.mdp_spec.specs.Mdp.{states_of};
-ghost use Rattle.mdp_graph.specs.{Sets.{marked}, Layers.{AreRanks, AreLeastRanks}, Choices.{AreLeast}, Sure.{inside_step, IsGreatestSure, stays_and_falls}};
+ghost use Rattle.mdp_graph.specs.{Sets.{marked}, Layers.{AreRanks, AreLeastRanks}, Choices.{AreLeast}};
+ghost use Rattle.mdp_graph.specs.Sure.{inside_step, IsGreatestSure, stays_and_falls};
 
 use crate::falling::{SureRounds, sure_rounds};
 use crate::pass::Pass;
@@ -33,8 +34,10 @@ pub(crate) fn ranks_inside(
 pub fn sure_some(alloc: Global, model: &Model, goals: &Marks) -> Result<Pass, Memory>
     requires goals { length goals.now ≡ states_of model.now }
     ensures marks { IfOk result (λ pass. IsGreatestSure model.now goals.now pass.marks) }
-    ensures ranks { IfOk result (λ pass. AreLeastRanks (inside_step model.now (marked pass.marks)) (marked goals.now) (states_of model.now) pass.marks pass.ranks.items) }
-    ensures choices { IfOk result (λ pass. AreLeast model.now goals.now pass.marks (stays_and_falls model.now pass.marks pass.ranks.items) pass.choices.items) }
+    ensures ranks { IfOk result (λ pass. AreLeastRanks (inside_step model.now (marked pass.marks)) (marked goals.now)
+        (states_of model.now) pass.marks pass.ranks.items) }
+    ensures choices { IfOk result (λ pass. AreLeast model.now goals.now pass.marks
+        (stays_and_falls model.now pass.marks pass.ranks.items) pass.choices.items) }
 {
     let SureRounds { pass, rounds: _ } = sure_rounds(alloc, model, goals)?;
     Ok(pass)

@@ -1,4 +1,5 @@
-ghost use Rattle.std.specs.{Prelude.{◌≡◌, ◌<◌, ◌&&◌, ◌==◌, false, true, not, [], ◌∷◌, length, map, slice_index_or, IfOk, OnOk}, List.{All, range_with_len}};
+ghost use Rattle.std.specs.Prelude.{◌≡◌, ◌<◌, ◌&&◌, ◌==◌, false, true, not, [], ◌∷◌, length, map, slice_index_or, IfOk, OnOk};
+ghost use Rattle.std.specs.List.{All, range_with_len};
 ghost use Rattle.mdp_spec.specs.Mdp.{states_of, choices_at};
 ghost use Rattle.mdp_rows.specs.Preds.{pair};
 ghost use Rattle.mdp_graph.specs.Waiting.{waits, some_waits, AreWaiting, AreWithin, AreReleased, AreMet, leading_to};

@@ -1,6 +1,7 @@
 ghost use Rattle.std.specs.{Prelude.{◌≡◌, ◌<◌, length, map, Ok, Err}, Result.{MatchResult}, String.{string_bytes}};
 ghost use Rattle.mdp_job.specs.Job.{asked, asked_task, plain_query, bounds_until, bounds_total};
-ghost use Rattle.mdp_job.specs.Words.{until_within, total_within, bounds_query_of, bounds_digits_of, bounds_best_of, bounds_discount_of, bounds_by, bounds_of};
+ghost use Rattle.mdp_job.specs.Words.{until_within, total_within, bounds_query_of, bounds_digits_of, bounds_best_of, bounds_discount_of, bounds_by};
+ghost use Rattle.mdp_job.specs.Words.{bounds_of};
 ghost use Rattle.mdp_job.specs.Words.{bounds_witness_reach_of, bounds_witness_until_of, bounds_witness_of};
 
 use crate::job::{Job, Query, Task};
@@ -12,7 +13,8 @@ use mdp_rows::Dir;
 /// The query of the words behind `bounds`: all but the last one, as behind `solve`.
 fn bounds_query_of<'a>(words: &'a [String]) -> Result<Query<'a>, WordsError>
     requires { 4 < length words.now }
-    ensures { MatchResult result (λ q. bounds_query_of (map string_bytes words.now) ≡ Ok (plain_query q)) (λ e. bounds_query_of (map string_bytes words.now) ≡ Err e) }
+    ensures { MatchResult result (λ q. bounds_query_of (map string_bytes words.now) ≡ Ok (plain_query q))
+        (λ e. bounds_query_of (map string_bytes words.now) ≡ Err e) }
 {
     query_of(&words[..words.len() - 1])
 }

@@ -8,7 +8,8 @@ use crate::words_error::WordsError;
 
 /// The query that the words of `solve` or `bounds` name, where the objective is `reach`.
 fn reach_of<'a>(words: &'a [String]) -> Result<Query<'a>, WordsError>
-    ensures { MatchResult result (λ q. reach_of (map string_bytes words.now) ≡ Ok (plain_query q)) (λ e. reach_of (map string_bytes words.now) ≡ Err e) }
+    ensures { MatchResult result (λ q. reach_of (map string_bytes words.now) ≡ Ok (plain_query q))
+        (λ e. reach_of (map string_bytes words.now) ≡ Err e) }
 {
     let [_, _, _, _, label] = words else {
         return Err(WordsError::Number);
@@ -20,7 +21,8 @@ fn reach_of<'a>(words: &'a [String]) -> Result<Query<'a>, WordsError>
 
 /// The query that the words of `solve` or `bounds` name, where the objective is `until`.
 fn until_of<'a>(words: &'a [String]) -> Result<Query<'a>, WordsError>
-    ensures { MatchResult result (λ q. until_of (map string_bytes words.now) ≡ Ok (plain_query q)) (λ e. until_of (map string_bytes words.now) ≡ Err e) }
+    ensures { MatchResult result (λ q. until_of (map string_bytes words.now) ≡ Ok (plain_query q))
+        (λ e. until_of (map string_bytes words.now) ≡ Err e) }
 {
     let [_, _, _, _, stay, label] = words else {
         return Err(WordsError::Number);
@@ -33,7 +35,8 @@ fn until_of<'a>(words: &'a [String]) -> Result<Query<'a>, WordsError>
 
 /// The query that the words of `solve` or `bounds` name, where the objective is `reward`.
 fn reward_of<'a>(words: &'a [String]) -> Result<Query<'a>, WordsError>
-    ensures { MatchResult result (λ q. reward_of (map string_bytes words.now) ≡ Ok (plain_query q)) (λ e. reward_of (map string_bytes words.now) ≡ Err e) }
+    ensures { MatchResult result (λ q. reward_of (map string_bytes words.now) ≡ Ok (plain_query q))
+        (λ e. reward_of (map string_bytes words.now) ≡ Err e) }
 {
     let [_, _, _, _, name, label] = words else {
         return Err(WordsError::Number);
@@ -46,7 +49,8 @@ fn reward_of<'a>(words: &'a [String]) -> Result<Query<'a>, WordsError>
 
 /// The query that the words of `solve` or `bounds` name, where the objective is `mean`.
 fn mean_of<'a>(words: &'a [String]) -> Result<Query<'a>, WordsError>
-    ensures { MatchResult result (λ q. mean_of (map string_bytes words.now) ≡ Ok (plain_query q)) (λ e. mean_of (map string_bytes words.now) ≡ Err e) }
+    ensures { MatchResult result (λ q. mean_of (map string_bytes words.now) ≡ Ok (plain_query q))
+        (λ e. mean_of (map string_bytes words.now) ≡ Err e) }
 {
     let [_, _, _, _, name] = words else {
         return Err(WordsError::Number);
@@ -59,7 +63,8 @@ fn mean_of<'a>(words: &'a [String]) -> Result<Query<'a>, WordsError>
 /// The query that the words behind `solve` name, or those behind `bounds` before the digits.
 pub(crate) fn query_of<'a>(words: &'a [String]) -> Result<Query<'a>, WordsError>
     requires { 3 < length words.now }
-    ensures { MatchResult result (λ q. query_of (map string_bytes words.now) ≡ Ok (plain_query q)) (λ e. query_of (map string_bytes words.now) ≡ Err e) }
+    ensures { MatchResult result (λ q. query_of (map string_bytes words.now) ≡ Ok (plain_query q))
+        (λ e. query_of (map string_bytes words.now) ≡ Err e) }
 {
     let objective = words[3].as_str();
     if objective == "reach" {

@@ -1,6 +1,7 @@
 ghost use Rattle.std.specs.Prelude.{◌≡◌, ◌++◌, OnOk, OnErr};
 ghost use Rattle.mdp_job.specs.{Refusal.{plain_refusal, no_job}, Status.{status_of}};
-ghost use Rattle.mdp_job.specs.Text.{text_of, words_word, at_line, place_text, number_or_dash, below_text, undecided_text, part_word, kind_word, policy_words, too_wide_text};
+ghost use Rattle.mdp_job.specs.Text.{text_of, words_word, at_line, place_text, number_or_dash, below_text, undecided_text, part_word, kind_word};
+ghost use Rattle.mdp_job.specs.Text.{policy_words, too_wide_text};
 ghost use Rattle.mdp_job.specs.WideLines.{wide_place, policy_line};
 ghost use Rattle.mdp_text.specs.{Answer.{Keeps}, Parts.{part_text, parts_text}};
 ghost use Rattle.mdp_wide.specs.Term.{shown};

@@ -3,7 +3,8 @@ ghost use Rattle.mdp_elim.specs.System.{is_active, Leaves};
 ghost use Rattle.mdp_wide.specs.declared.too_wide.Kind.TheVariants.{Evaluate};
 ghost use Rattle.mdp_policy_iteration.specs.Places.{up_to};
 ghost use Rattle.mdp_spec.specs.Mdp.{states_of};
-ghost use Rattle.mdp_mean.specs.{Code.{joining_in}, Faults.{placed_at, Answers}, Join.{constant, policy_rows, eliminated, filled_by, filled, written_bias}};
+ghost use Rattle.mdp_mean.specs.{Code.{joining_in}, Faults.{placed_at, Answers}};
+ghost use Rattle.mdp_mean.specs.Join.{constant, policy_rows, eliminated, filled_by, filled, written_bias};
 ghost use Rattle.mdp_mean.specs.Terms.{constant_by};
 
 use crate::errors::{JoinError, JoinPlace};

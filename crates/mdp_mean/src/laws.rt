@@ -1,4 +1,5 @@
-ghost use Rattle.mdp_mean.specs.Laws.{HasOneEnd, HasAnEnd, JoinEndsQuery, JoinedMeetsRules, AnswersAreJoined, AnswersMeetRules, AnswersAreGreatest, AnswersAreLeast};
+ghost use Rattle.mdp_mean.specs.Laws.{HasOneEnd, HasAnEnd, JoinEndsQuery, JoinedMeetsRules, AnswersAreJoined, AnswersMeetRules, AnswersAreGreatest};
+ghost use Rattle.mdp_mean.specs.Laws.{AnswersAreLeast};
 
 use mdp_farkas::never_no_law;
 use mdp_gain::gain_law;

@@ -1,5 +1,6 @@
 ghost use Rattle.std.specs.{Prelude.{◌≡◌, ◌<◌, ◌≤◌, ◌+◌, ◌^◌, ◌++◌}, Result.{IfOk}};
-ghost use Rattle.mdp_num.specs.{Digits.{number}, Numeral.{zeros_behind, significant, scaled, decimal_terms, quotient_terms, parts_of, terms_of, numeral_of}};
+ghost use Rattle.mdp_num.specs.Digits.{number};
+ghost use Rattle.mdp_num.specs.Numeral.{zeros_behind, significant, scaled, decimal_terms, quotient_terms, parts_of, terms_of, numeral_of};
 ghost use Rattle.mdp_num.specs.{Value.{IsNarrow}, Meaning.{IsWithinLimit, AreWithinLimit}};
 
 use crate::digits::capped_after;

@@ -43,7 +43,8 @@ impl Allowed {
     /// Each choice of each state is allowed.
     pub fn all(alloc: Global, model: &Model) -> Result<Allowed, Memory>
         ensures sizes { IfOk result (λ allowed. AreChoices model.now allowed) }
-        ensures each { IfOk result (λ allowed. (s c : ℕ) → s < states_of model.now → c < length (choices_at model.now s) → allowed_at allowed s c ≡ true) }
+        ensures each { IfOk result (λ allowed. (s c : ℕ) → s < states_of model.now → c < length (choices_at model.now s) →
+            allowed_at allowed s c ≡ true) }
     {
         Ok(Allowed::all_true(alloc, model)?)
     }

@@ -1,4 +1,5 @@
-ghost use Rattle.std.specs.Prelude.{◌≡◌, ◌≤◌, ◌<◌, ◌++◌, ◌∷◌, ◌-◌, ℕ, [], true, false, length, slice_index, slice_set, replicate, IfOk, OnOk, MatchOption};
+ghost use Rattle.std.specs.Prelude.{◌≡◌, ◌≤◌, ◌<◌, ◌++◌, ◌∷◌, ◌-◌, ℕ, [], true, false, length, slice_index, slice_set, replicate, IfOk, OnOk};
+ghost use Rattle.std.specs.Prelude.{MatchOption};
 ghost use Rattle.std.specs.List.{All};
 ghost use Rattle.mdp_graph.specs.{Sets.{marked}, Edges.{AreEdges}};
 ghost use Rattle.mdp_parts.specs.Searched.{AreMet, IsFirstUnmet, IsSearch, IsOrder, work_left};

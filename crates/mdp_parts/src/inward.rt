@@ -116,7 +116,8 @@ pub fn toward_targets(
     requires ends { AreEndsOf model.now ends.now }
     requires target { length target.now ≡ states_of model.now }
     ensures toward { IfOk result (λ pass. IsTowardTargets model.now ends.now.parts target.now pass.marks pass.ranks.items pass.choices.items) }
-    ensures marks { IfOk result (λ pass. (s : ℕ) → s < states_of model.now → (marked pass.marks s ≡ true) ↔ HasTarget model.now ends.now.parts target.now s) }
+    ensures marks { IfOk result (λ pass. (s : ℕ) → s < states_of model.now →
+        (marked pass.marks s ≡ true) ↔ HasTarget model.now ends.now.parts target.now s) }
 {
     model.known();
     let ranks = inner_ranks(alloc, model, ends, target)?;

@@ -71,7 +71,8 @@ impl Region {
         requires region { IsRegion (length self.old.places.items) self.old.places.items self.old.list.items }
         ensures region { OnOk result (IsRegion (length self.old.places.items) self.new.places.items self.new.list.items) }
         ensures grown { OnOk result (IsGrown self.old.places.items self.old.list.items self.new.places.items self.new.list.items) }
-        ensures added { OnOk result ((k : ℕ) → k < length states.now → is_in self.new.places.items self.new.list.items (slice_index states.now k) ≡ true) }
+        ensures added { OnOk result ((k : ℕ) → k < length states.now → is_in self.new.places.items self.new.list.items (slice_index states.now k)
+            ≡ true) }
     {
         for t in states {
             self.add(*t)?;

@@ -1,6 +1,7 @@
 ghost use Rattle.std.specs.{Prelude.{◌≡◌, ◌<◌, ◌&&◌, ◌==◌, ℕ, [], false, not, length, replicate, slice_index_or, IfOk, OnOk}, List.{All}};
 ghost use Rattle.mdp_rows.specs.Preds.{is_among};
-ghost use Rattle.mdp_policy_iteration.specs.{Changes.{Ascend}, Dependents.{AreComingTo, AreWithDependents}, Marked.{is_taker, has_one, depends_on_one, AreMarked, AreAdded}};
+ghost use Rattle.mdp_policy_iteration.specs.{Changes.{Ascend}, Dependents.{AreComingTo, AreWithDependents}};
+ghost use Rattle.mdp_policy_iteration.specs.Marked.{is_taker, has_one, depends_on_one, AreMarked, AreAdded};
 
 use crate::dependents::Dependents;
 use mdp_rows::{Marks, Pred};

@@ -1,6 +1,7 @@
 ghost use Rattle.std.specs.{Prelude.{◌≡◌, ◌≢◌, ◌<◌, [], length, Ok, IfOk}, List.{All}};
 ghost use Rattle.mdp_policy_iteration.specs.{Problem.{count}, Path.{improved, improvements}, Laws.{IsSolvable, IsBestFrom}};
-ghost use Rattle.mdp_policy_iteration.specs.{Changes.{Ascend, IsChangeOf, spread, nodes_of}, Evaluated.{HasRoom, IsEvaluated}, Ends.{Ends, EndsWithLast}};
+ghost use Rattle.mdp_policy_iteration.specs.{Changes.{Ascend, IsChangeOf, spread, nodes_of}, Evaluated.{HasRoom, IsEvaluated}};
+ghost use Rattle.mdp_policy_iteration.specs.Ends.{Ends, EndsWithLast};
 
 use crate::comparison::take_changes;
 use crate::dependents::dependents_of;

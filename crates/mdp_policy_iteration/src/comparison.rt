@@ -22,7 +22,8 @@ fn compared<P: ShortestPath>(
     requires node { s < count (P.problem problem.now) }
     requires choice { c < length (choices_at (P.problem problem.now) s) }
     requires values { length values.now ≡ count (P.problem problem.now) }
-    ensures value { IfOk result (λ next. compared (P.problem problem.now).dir values.now c (choice_at (P.problem problem.now) s c) (shown best) ≡ Some (shown next)) }
+    ensures value { IfOk result (λ next. compared (P.problem problem.now).dir values.now c (choice_at (P.problem problem.now) s c) (shown best)
+        ≡ Some (shown next)) }
     ensures wide { IfErr result (λ _. compared (P.problem problem.now).dir values.now c (choice_at (P.problem problem.now) s c) (shown best) ≡ None) }
 {
     if !problem.is_candidate(s, c) {
@@ -62,8 +63,10 @@ pub(crate) fn improvements<P: ShortestPath>(
     requires values { length values.now ≡ count (P.problem problem.now) }
     requires in_range { All (λ s. s < count (P.problem problem.now)) nodes.now }
     requires ascend { Ascend nodes.now }
-    requires others { (s : ℕ) → s < count (P.problem problem.now) → is_among s nodes.now ≡ false → improvement (P.problem problem.now) values.now s ≡ Ok None }
-    ensures answers { Answers (λ changes. spread (count (P.problem problem.now)) changes.items) result (improvements (P.problem problem.now) values.now) }
+    requires others { (s : ℕ) → s < count (P.problem problem.now) → is_among s nodes.now ≡ false →
+        improvement (P.problem problem.now) values.now s ≡ Ok None }
+    ensures answers { Answers (λ changes. spread (count (P.problem problem.now)) changes.items) result
+        (improvements (P.problem problem.now) values.now) }
     ensures each { IfOk result (λ changes. All (IsChangeOf (P.problem problem.now)) changes.items) }
     ensures ascend { IfOk result (λ changes. Ascend (nodes_of changes.items)) }
 {

@@ -37,7 +37,8 @@ impl Dependents {
     fn push(&mut self, dependent: Pred, nodes: &[u32]) -> Result<(), AllocError>
         requires { All (λ t. t < length self.old) nodes.now }
         ensures count { OnOk result (length self.new ≡ length self.old) }
-        ensures added { OnOk result ((s c t : ℕ) → t < length self.old → depends self.new s c t ≡ (depends self.old s c t || (is_choice s c dependent && is_among t nodes.now))) }
+        ensures added { OnOk result ((s c t : ℕ) → t < length self.old →
+            depends self.new s c t ≡ (depends self.old s c t || (is_choice s c dependent && is_among t nodes.now))) }
     {
         for t in nodes {
             self.lists[*t as usize].push(dependent)?;

@@ -85,7 +85,8 @@ fn check_rows_at<P: ShortestPath>(
     requires in_range { All (λ s. s < count (P.problem problem.now)) nodes.now }
     requires ascend { Ascend nodes.now }
     requires others { (s : ℕ) → s < count (P.problem problem.now) → is_among s nodes.now ≡ false → fits (P.problem problem.now) policy.now s ≡ true }
-    ensures { Answers (λ _. true) result (all_pass (fits (P.problem problem.now) policy.now) (evaluating policy.now) (count (P.problem problem.now))) }
+    ensures { Answers (λ _. true) result (all_pass (fits (P.problem problem.now) policy.now) (evaluating policy.now)
+        (count (P.problem problem.now))) }
 {
     for s in nodes {
         let choice = policy[*s as usize];
@@ -105,7 +106,8 @@ fn mark_active<P: ShortestPath>(problem: &P, policy: &[u32], nodes: &[u32], acti
     requires policy { IsPolicy (P.problem problem.now) policy.now }
     requires in_range { All (λ s. s < count (P.problem problem.now)) nodes.now }
     requires room { length active.old ≡ count (P.problem problem.now) }
-    requires others { (s : ℕ) → s < count (P.problem problem.now) → is_among s nodes.now ≡ false → is_active active.old s ≡ goes_on (taken (P.problem problem.now) policy.now s) }
+    requires others { (s : ℕ) → s < count (P.problem problem.now) → is_among s nodes.now ≡ false →
+        is_active active.old s ≡ goes_on (taken (P.problem problem.now) policy.now s) }
     ensures { active.new ≡ active_of (P.problem problem.now) policy.now }
 {
     for s in nodes {
@@ -118,7 +120,8 @@ fn put_stop_values<P: ShortestPath>(problem: &P, policy: &[u32], nodes: &[u32], 
     requires policy { IsPolicy (P.problem problem.now) policy.now }
     requires in_range { All (λ s. s < count (P.problem problem.now)) nodes.now }
     requires room { length values.old ≡ count (P.problem problem.now) }
-    requires others { (s : ℕ) → s < count (P.problem problem.now) → is_among s nodes.now ≡ false → StopsWith (P.problem problem.now) policy.now values.old s }
+    requires others { (s : ℕ) → s < count (P.problem problem.now) → is_among s nodes.now ≡ false →
+        StopsWith (P.problem problem.now) policy.now values.old s }
     ensures stops { (s : ℕ) → s < count (P.problem problem.now) → StopsWith (P.problem problem.now) policy.now values.new s }
     ensures others { (s : ℕ) → s < count (P.problem problem.now) → is_among s nodes.now ≡ false → value_at values.new s ≡ value_at values.old s }
 {
@@ -144,7 +147,8 @@ fn put_constants<P: ShortestPath>(
     requires values { length values.now ≡ count (P.problem problem.now) }
     requires stops { (s : ℕ) → s < count (P.problem problem.now) → StopsWith (P.problem problem.now) policy.now values.now s }
     requires room { length constants.old ≡ count (P.problem problem.now) }
-    requires others { (s : ℕ) → s < count (P.problem problem.now) → is_among s nodes.now ≡ false → constant (P.problem problem.now) policy.now s ≡ Ok (value_at constants.old s) }
+    requires others { (s : ℕ) → s < count (P.problem problem.now) → is_among s nodes.now ≡ false →
+        constant (P.problem problem.now) policy.now s ≡ Ok (value_at constants.old s) }
     ensures made { OnOk result (up_to (constant (P.problem problem.now) policy.now) (count (P.problem problem.now)) ≡ Ok constants.new) }
     ensures refused { IfErr result (λ e. Says e (up_to (constant (P.problem problem.now) policy.now) (count (P.problem problem.now)))) }
 {
@@ -171,7 +175,8 @@ fn solve_at<P: ShortestPath>(
     requires ascend { Ascend nodes.now }
     requires others { elimination.CanServe nodes.now (equations_of (P.problem rows.problem.now) rows.policy.now constants.now.items) kept.old }
     ensures kept { OnOk result (IsKept (equations_of (P.problem rows.entry.problem.now) rows.entry.policy.now constants.now.items) kept.new) }
-    ensures solved { OnOk result (solved (P.problem rows.entry.problem.now) rows.entry.policy.now constants.now.items ≡ Ok (filled (P.problem rows.entry.problem.now) rows.entry.policy.now kept.new.first)) }
+    ensures solved { OnOk result (solved (P.problem rows.entry.problem.now) rows.entry.policy.now constants.now.items
+        ≡ Ok (filled (P.problem rows.entry.problem.now) rows.entry.policy.now kept.new.first)) }
     ensures others { OnOk result ((s : ℕ) → is_among s nodes.now ≡ false → value_at kept.new.first s ≡ value_at kept.old.first s) }
     ensures refused { IfErr result (λ e. Says e (solved (P.problem rows.entry.problem.now) rows.entry.policy.now constants.now.items)) }
 {
@@ -198,7 +203,8 @@ fn put_values<P: ShortestPath>(
     requires in_range { All (λ s. s < count (P.problem problem.now)) nodes.now }
     requires solution { length solution.now ≡ count (P.problem problem.now) }
     requires room { length values.old ≡ count (P.problem problem.now) }
-    requires others { (s : ℕ) → s < count (P.problem problem.now) → is_among s nodes.now ≡ false → value_at values.old s ≡ filled_by solution.now s (taken (P.problem problem.now) policy.now s) }
+    requires others { (s : ℕ) → s < count (P.problem problem.now) → is_among s nodes.now ≡ false →
+        value_at values.old s ≡ filled_by solution.now s (taken (P.problem problem.now) policy.now s) }
     ensures { values.new ≡ filled (P.problem problem.now) policy.now solution.now }
 {
     for s in nodes {

@@ -32,10 +32,12 @@ pub(crate) fn round_of<P: ShortestPath>(
     requires serves { CanServe (P.problem problem.now) scope.now.affected policy.now evaluation.old }
     requires others { NoneImprovesElsewhere (P.problem problem.now) scope.now evaluation.old.values }
     ensures evaluated { OnOk result (IsEvaluated (P.problem problem.now) policy.now evaluation.new) }
-    ensures changes { IfOk result (λ changes. improvements (P.problem problem.now) evaluation.new.values ≡ Ok (spread (count (P.problem problem.now)) changes.items)) }
+    ensures changes { IfOk result (λ changes. improvements (P.problem problem.now) evaluation.new.values
+        ≡ Ok (spread (count (P.problem problem.now)) changes.items)) }
     ensures each { IfOk result (λ changes. All (IsChangeOf (P.problem problem.now)) changes.items) }
     ensures ascend { IfOk result (λ changes. Ascend (nodes_of changes.items)) }
-    ensures step { (n : ℕ) → Makes n policy.now evaluation.new.values result (path_step (P.problem problem.now) (record { number = n; policy = policy.now })) }
+    ensures step { (n : ℕ) → Makes n policy.now evaluation.new.values result
+        (path_step (P.problem problem.now) (record { number = n; policy = policy.now })) }
 {
     evaluation.evaluate(alloc, problem, policy, loops, &scope.affected)?;
     improvements(alloc, problem, evaluation.values(), &scope.compared)
@@ -54,10 +56,12 @@ pub(crate) fn first_round<P: ShortestPath>(
     requires loops { length loops.now.nodes.items ≡ count (P.problem problem.now) }
     requires room { HasRoom (count (P.problem problem.now)) evaluation.old }
     ensures evaluated { OnOk result (IsEvaluated (P.problem problem.now) policy.now evaluation.new) }
-    ensures changes { IfOk result (λ changes. improvements (P.problem problem.now) evaluation.new.values ≡ Ok (spread (count (P.problem problem.now)) changes.items)) }
+    ensures changes { IfOk result (λ changes. improvements (P.problem problem.now) evaluation.new.values
+        ≡ Ok (spread (count (P.problem problem.now)) changes.items)) }
     ensures each { IfOk result (λ changes. All (IsChangeOf (P.problem problem.now)) changes.items) }
     ensures ascend { IfOk result (λ changes. Ascend (nodes_of changes.items)) }
-    ensures step { (n : ℕ) → Makes n policy.now evaluation.new.values result (path_step (P.problem problem.now) (record { number = n; policy = policy.now })) }
+    ensures step { (n : ℕ) → Makes n policy.now evaluation.new.values result
+        (path_step (P.problem problem.now) (record { number = n; policy = policy.now })) }
 {
     let scope = Scope::all(alloc, problem.count())?;
     round_of(alloc, problem, policy, loops, evaluation, &scope)

@@ -1,7 +1,8 @@
 ghost use Rattle.std.specs.{Prelude.{◌≡◌, ◌⊎◌, ◌≤◌, None, IsTrue, IfOk, IfErr, OnOk, Ok, Err, length, map}, Option.{IfSome}};
 ghost use Rattle.mdp_num.specs.Meaning.{IsWithinLimit};
 ghost use Rattle.mdp_rows.specs.Draft.{new_draft, choice_closed, all_closed, after_state, after_label, after_choice, after_entry, after_finish};
-ghost use Rattle.mdp_rows.specs.{Draft.{IsCall, IsUnrefused, IsChoiceClosed, has_state, has_choice, has_open_target, states_opened}, Head.{IsSameHead}};
+ghost use Rattle.mdp_rows.specs.Draft.{IsCall, IsUnrefused, IsChoiceClosed, has_state, has_choice, has_open_target, states_opened};
+ghost use Rattle.mdp_rows.specs.Head.{IsSameHead};
 ghost use Rattle.mdp_rows.specs.{Limits.{max_states}, Name.{IsName, AreRewardNames}};
 
 use crate::assembly::Assembly;

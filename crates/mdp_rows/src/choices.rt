@@ -1,4 +1,5 @@
-ghost use Rattle.std.specs.{Prelude.{◌≡◌, ◌+◌, ◌<◌, ◌-◌, ◌^◌, ◌++◌, ◌∷◌, [], length, map, sum_by, slice_index_or, IfOk, OnOk, OnErr}, List.{All, position}};
+ghost use Rattle.std.specs.Prelude.{◌≡◌, ◌+◌, ◌<◌, ◌-◌, ◌^◌, ◌++◌, ◌∷◌, [], length, map, sum_by, slice_index_or, IfOk, OnOk, OnErr};
+ghost use Rattle.std.specs.List.{All, position};
 ghost use Rattle.std.specs.Str.{bytes_eq};
 ghost use Rattle.mdp_rows.specs.{ChoiceTable.{IsChoice}, Draft.{kept}, Given.{row_of}, Name.{AreRewardNames}};
 ghost use Rattle.mdp_spec.specs.{Labels.{place_of}, Mdp.{no_choice}, Row.{entries, IsDistribution}, Unit.{reward_of}};
@@ -63,7 +64,8 @@ impl Choices {
         requires one_each { length rewards.now ≡ length self.old.names }
         requires few_rows { length self.old.choices < 2 ^ 32 - 2 }
         requires few_entries { sum_by (λ c. length c.row) self.old.choices + length row.now < 2 ^ 32 }
-        ensures appended { OnOk result (self.new ≡ record { names = self.old.names; choices = self.old.choices ++ record { row = kept (row_of row.now); rewards = rewards.now } ∷ [] }) }
+        ensures appended { OnOk result (self.new ≡ record { names = self.old.names; choices = self.old.choices
+            ++ record { row = kept (row_of row.now); rewards = rewards.now } ∷ [] }) }
         ensures unchanged { OnErr result (self.new ≡ self.old) }
     {
         self.rewards.reserve(rewards.len())?;

@@ -65,7 +65,8 @@ fn scaled_value(given: &Given, den: u128, parts: u128) -> Option<Frac>
     requires within { part den given.now ≤ parts }
     requires positive { 0 < parts }
     requires few { parts ≤ 2 * limit }
-    ensures value { MatchOption result (limit < ((given.now.value *ℚ inv_ℚ (ratio (pos parts) den)).den)) (λ x. x ≡ given.now.value *ℚ inv_ℚ (ratio (pos parts) den)) }
+    ensures value { MatchOption result (limit < ((given.now.value *ℚ inv_ℚ (ratio (pos parts) den)).den))
+        (λ x. x ≡ given.now.value *ℚ inv_ℚ (ratio (pos parts) den)) }
     ensures term { MatchOption result Unit (λ x. IsWithinLimit x) }
 {
     let part = den / den_of(&given.value) * num_of(&given.value);

@@ -84,7 +84,8 @@ fn push_row(lists: &mut Vec<PredList>, targets: &[u32], pred: Pred) -> Result<()
     requires in_range { All (λ t. t < length lists.old.items) targets.now }
     requires different { (i : ℕ) → i < length targets.now → is_among (slice_index targets.now i) (take i targets.now) ≡ false }
     ensures length { OnOk result (length lists.new.items ≡ length lists.old.items) }
-    ensures appended { OnOk result ((t : ℕ) → t < length lists.old.items → slice_index_or lists.new.items t [] ≡ slice_index_or lists.old.items t [] ++ cond (is_among t targets.now) (pred ∷ []) []) }
+    ensures appended { OnOk result ((t : ℕ) → t < length lists.old.items →
+        slice_index_or lists.new.items t [] ≡ slice_index_or lists.old.items t [] ++ cond (is_among t targets.now) (pred ∷ []) []) }
 {
     for t in targets {
         lists[*t as usize].push(pred)?;
@@ -97,7 +98,8 @@ fn push_state(lists: &mut Vec<PredList>, model: &Model, s: u32) -> Result<(), Al
     requires state { s < states_of model.now }
     requires lists { length lists.old.items ≡ states_of model.now }
     ensures length { OnOk result (length lists.new.items ≡ length lists.old.items) }
-    ensures appended { OnOk result ((t : ℕ) → t < length lists.old.items → slice_index_or lists.new.items t [] ≡ slice_index_or lists.old.items t [] ++ leading model.now t (choices_of model.now s)) }
+    ensures appended { OnOk result ((t : ℕ) → t < length lists.old.items →
+        slice_index_or lists.new.items t [] ≡ slice_index_or lists.old.items t [] ++ leading model.now t (choices_of model.now s)) }
 {
     for c in 0..model.choices(s) {
         let pred = Pred {

@@ -85,7 +85,8 @@ impl Row<'_> {
     /// The sum where all terms have numerators of 64 bits over shared denominators; none elsewhere.
     fn short_sum<V: ValuesOf>(self, start: &Frac, values: &V) -> Option<Frac>
         requires { All (λ t. t < length (V.values values.now)) self.targets.now }
-        ensures { IfSome result (λ sum. written_sum (V.values values.now) start.now (entries self.entry.targets.now self.entry.probs.now) ≡ Some sum) }
+        ensures { IfSome result (λ sum. written_sum (V.values values.now) start.now (entries self.entry.targets.now self.entry.probs.now)
+            ≡ Some sum) }
     {
         let shared = self.denominators(start, values)?;
         let mut sum = shared.numerator(start)?;

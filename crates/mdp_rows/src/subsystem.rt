@@ -150,7 +150,8 @@ fn give_state(
     requires state { s < states_of model.now }
     requires names { builder.old.names ≡ model.now.names }
     requires zeros { zeros.now ≡ no_rewards model.now.names }
-    ensures given { OnOk result (with_states model.now.names model.now.labels (cut_state model.now.names s (state_at model.now s) stays ∷ []) builder.old ≡ Ok builder.new) }
+    ensures given { OnOk result (with_states model.now.names model.now.labels
+        (cut_state model.now.names s (state_at model.now s) stays ∷ []) builder.old ≡ Ok builder.new) }
     ensures same { OnOk result (IsSameHead builder.old builder.new) }
 {
     let Ok(()) = builder.state(zeros) else {
@@ -175,7 +176,8 @@ fn give_states(
     requires kept { length kept.now ≡ states_of model.now }
     requires goals { length goals.now ≡ states_of model.now }
     requires names { builder.old.names ≡ model.now.names }
-    ensures given { OnOk result (with_states model.now.names model.now.labels (sub_of model.now goals.now kept.now).states builder.old ≡ Ok builder.new) }
+    ensures given { OnOk result (with_states model.now.names model.now.labels (sub_of model.now goals.now kept.now).states builder.old
+        ≡ Ok builder.new) }
 {
     let zeros = zeros_of(alloc, model)?;
     for s in 0..model.states() {

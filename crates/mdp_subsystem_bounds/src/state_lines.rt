@@ -3,7 +3,8 @@ ghost use Rattle.std.proofs.Math.ListN.{replicate};
 ghost use Rattle.mdp_farkas.specs.Compare.{1ℚ};
 ghost use Rattle.mdp_text.specs.{Answer.{Refuses, Keeps}, Lines.{place}};
 ghost use Rattle.mdp_cert.specs.Pairs.{word_columns};
-ghost use Rattle.mdp_subsystem_bounds.specs.{Entries.{mark_value, led_of, ranked_of}, Reading.{led_lists, ranked_lists, lists_from}, Spelling.{lists_text}, Plain.{plain_lists}};
+ghost use Rattle.mdp_subsystem_bounds.specs.{Entries.{mark_value, led_of, ranked_of}, Reading.{led_lists, ranked_lists, lists_from}};
+ghost use Rattle.mdp_subsystem_bounds.specs.{Spelling.{lists_text}, Plain.{plain_lists}};
 
 use crate::lists::SubsystemBounds;
 use crate::mark::Mark;
@@ -115,7 +116,8 @@ pub(crate) fn lists_from(
     states: u32,
     bytes: &[u8],
 ) -> Result<(SubsystemBounds, u64, &[u8]), CertError>
-    ensures lists { let read = lists_from dir states (place 5 bytes.now) in MatchResult result (λ p. read ≡ Ok (plain_lists p.0, place p.1 p.2.now)) (λ e. Refuses e read) }
+    ensures lists { let read = lists_from dir states (place 5 bytes.now) in
+        MatchResult result (λ p. read ≡ Ok (plain_lists p.0, place p.1 p.2.now)) (λ e. Refuses e read) }
     ensures ones { IfOk result (λ p. p.0.bounds.upper.items ≡ replicate (length p.0.bounds.lower.items) 1ℚ) }
 {
     match dir {
@@ -132,7 +134,8 @@ pub(crate) fn lists_from(
 
 /// Appends the lines of the states for the greatest probability, with the line `end`.
 fn push_led(out: &mut Vec<u8>, states: u32, lists: &SubsystemBounds) -> Result<(), Memory>
-    requires { length (led_of lists.now.bounds.lower.items lists.now.bounds.choices.items lists.now.bounds.ranks.items lists.now.marks.items) ≡ states }
+    requires { length (led_of lists.now.bounds.lower.items lists.now.bounds.choices.items lists.now.bounds.ranks.items lists.now.marks.items)
+        ≡ states }
     ensures text { OnOk result (out.new.items ≡ out.old.items ++ lists_text Dir.Max (plain_lists lists.now)) }
     ensures front { Keeps out.old.items out.new.items }
 {

@@ -7,7 +7,8 @@ ghost use Rattle.mdp_subsystem_rules.specs.Kept.{kept_marks};
 ghost use Rattle.mdp_reach.specs.Query.{HasOneEach};
 ghost use Rattle.mdp_reach.specs.Query as reach;
 ghost use Rattle.mdp_witness.specs.{Code.{plain}, Query.{EndsSo}, Shown.{kept_in, kept_of, HasShape}};
-ghost use Rattle.mdp_subsystem_search.specs.{Shown.{ones, named, IsBelow, IsKeptWide, IsUndecided}, Steps.{IsOpen}, Kept.{IsFound}, Code.{IfBelow, IfUndecided, unshown_of}};
+ghost use Rattle.mdp_subsystem_search.specs.{Shown.{ones, named, IsBelow, IsKeptWide, IsUndecided}, Steps.{IsOpen}, Kept.{IsFound}};
+ghost use Rattle.mdp_subsystem_search.specs.Code.{IfBelow, IfUndecided, unshown_of};
 
 use crate::found::Found;
 use crate::query::Query;
@@ -89,7 +90,8 @@ impl Query<'_, '_> {
         requires sizes { HasOneEach self.now.model.now (reach.plain answer) }
         requires reaches { self.now.threshold ≤ℚ value_at answer.values.items self.now.start }
         ensures some { IfOk result (λ found. IfSome found (for_query self.now IsFound)) }
-        ensures none { IfOk result (λ found. IfNone found (AreLowerBounds self.now sub.now answer.values.items answer.choices.items answer.ranks.items → ⊥)) }
+        ensures none { IfOk result (λ found. IfNone found (AreLowerBounds self.now sub.now answer.values.items answer.choices.items
+            answer.ranks.items → ⊥)) }
     {
         let upper = answer.values.to_vec(alloc)?;
         let cert = ReachBoundsCert {

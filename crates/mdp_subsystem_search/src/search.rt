@@ -49,7 +49,8 @@ pub fn search_subsystem(
     requires threshold { of_int (pos 0) ≤ℚ threshold }
 
     // What is found: bounds that the rules say yes to on the kept states, and which reach the threshold.
-    ensures rules { IfOk result (λ x. IsReachBounds dir (sub_of model.now goals.now x.kept) goals.now x.bounds.lower.items (ones model.now) x.bounds.choices.items x.bounds.ranks.items) }
+    ensures rules { IfOk result (λ x. IsReachBounds dir (sub_of model.now goals.now x.kept) goals.now x.bounds.lower.items
+        (ones model.now) x.bounds.choices.items x.bounds.ranks.items) }
     ensures ones { IfOk result (λ x. x.bounds.upper.items ≡ ones model.now) }
     ensures reached { IfOk result (λ x. threshold ≤ℚ value_at x.bounds.lower.items start) }
     ensures choices_of_least { dir ≡ Min → IfOk result (λ x. All (λ c. c ≡ 0) x.bounds.choices.items) }

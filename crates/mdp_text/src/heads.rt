@@ -22,7 +22,8 @@ pub fn states_at(line: u64, text: &[u8]) -> Result<u32, Refusal>
 
 /// Reads the line of the number of states, which has this number, and gives the bytes behind it.
 pub fn states_from(line: u64, bytes: &[u8]) -> Result<(u32, &[u8]), CertError>
-    ensures { let read = line_by states_at (place line bytes.now) in MatchResult result (λ p. read ≡ Ok (p.0, place (line + 1) p.1.now)) (λ e. Refuses e read) }
+    ensures { let read = line_by states_at (place line bytes.now) in MatchResult result (λ p. read ≡ Ok (p.0, place (line + 1) p.1.now))
+        (λ e. Refuses e read) }
 {
     let (text, rest) = next_line(line, bytes)?;
     let states = states_at(line, text)?;

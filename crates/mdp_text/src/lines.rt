@@ -6,7 +6,8 @@ use crate::words::before;
 
 /// The next line, which has this number (from 1), and the bytes behind its line feed; `End` where there is no line feed.
 pub fn next_line(line: u64, bytes: &[u8]) -> Result<(&[u8], &[u8]), Refusal>
-    ensures { MatchResult result (λ p. next_line (place line bytes.now) ≡ Ok (p.0.now, place (line + 1) p.1.now)) (λ e. next_line (place line bytes.now) ≡ Err e) }
+    ensures { MatchResult result (λ p. next_line (place line bytes.now) ≡ Ok (p.0.now, place (line + 1) p.1.now))
+        (λ e. next_line (place line bytes.now) ≡ Err e) }
 {
     let end = before(bytes, b'\n');
     if end < bytes.len() {

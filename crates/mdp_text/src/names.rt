@@ -1,4 +1,5 @@
-ghost use Rattle.std.specs.{Prelude.{◌≡◌, ◌==◌, ◌||◌, true, false, drop, Some, None, IfSome, MatchOption}, List.{list_any, position_or_len, before_first}};
+ghost use Rattle.std.specs.Prelude.{◌≡◌, ◌==◌, ◌||◌, true, false, drop, Some, None, IfSome, MatchOption};
+ghost use Rattle.std.specs.List.{list_any, position_or_len, before_first};
 ghost use Rattle.mdp_rows.specs.Name.{is_name};
 ghost use Rattle.mdp_text.specs.Words.{is_quote, name_and_rest};
 
@@ -30,7 +31,8 @@ pub fn before_quote(text: &[u8]) -> usize
 
 /// The name before the first quote, and the text from that quote on.
 pub fn cut_name(text: &[u8]) -> Option<(&[u8], &[u8])>
-    ensures name { MatchOption result (is_name (before_first is_quote text.now) ≡ false) (λ p. (is_name (before_first is_quote text.now) ≡ true) × (p.0.now ≡ before_first is_quote text.now)) }
+    ensures name { MatchOption result (is_name (before_first is_quote text.now) ≡ false) (λ p. (is_name (before_first is_quote text.now) ≡ true) ×
+        (p.0.now ≡ before_first is_quote text.now)) }
     ensures rest { IfSome result (λ p. p.1.now ≡ drop (position_or_len is_quote text.now) text.now) }
 {
     let end = before_quote(text);

@@ -1,6 +1,7 @@
 ghost use Rattle.std.specs.Prelude.{◌≡◌, ◌++◌, ◌∷◌, [], take, codes, decimal, OnOk, OnErr};
 ghost use Rattle.mdp_num.specs.Value.{spelling};
-ghost use Rattle.mdp_text.specs.{declared.init.Init.TheVariants.{Start}, Answer.{Keeps}, Spelling.{line, ◌␣◌, states_text, init_text, value_lines, end_text}};
+ghost use Rattle.mdp_text.specs.{declared.init.Init.TheVariants.{Start}, Answer.{Keeps}};
+ghost use Rattle.mdp_text.specs.Spelling.{line, ◌␣◌, states_text, init_text, value_lines, end_text};
 
 use crate::init::Init;
 use crate::part::Part::{Bytes, Fraction, Whole};

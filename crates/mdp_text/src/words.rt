@@ -64,7 +64,8 @@ pub fn words_behind<'a>(
     count: usize,
 ) -> Result<&'a [u8], Refusal>
     requires { 0 < count }
-    ensures words { MatchResult result (λ a. words_behind due.now count line text.now ≡ Ok (words a.now)) (λ e. words_behind due.now count line text.now ≡ Err e) }
+    ensures words { MatchResult result (λ a. words_behind due.now count line text.now ≡ Ok (words a.now))
+        (λ e. words_behind due.now count line text.now ≡ Err e) }
     ensures count { IfOk result (λ a. length (words a.now) ≡ count) }
 {
     let refusal = Refusal {

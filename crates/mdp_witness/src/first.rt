@@ -1,4 +1,5 @@
-ghost use Rattle.std.specs.{Prelude.{◌≡◌, ◌<◌, [], ◌∷◌, ◌++◌, false, length, fold, replicate, IfOk, OnOk, IfSome, IfNone}, List.{All, range_with_len}};
+ghost use Rattle.std.specs.Prelude.{◌≡◌, ◌<◌, [], ◌∷◌, ◌++◌, false, length, fold, replicate, IfOk, OnOk, IfSome, IfNone};
+ghost use Rattle.std.specs.List.{All, range_with_len};
 ghost use Rattle.mdp_spec.specs.{Mdp.{states_of, choices_at}, Tree.{IsPolicy}};
 ghost use Rattle.mdp_witness.specs.{First.{is_open, IsFirst}, FrontCode.{with_state, with_states, with_choice, with_next}};
 
@@ -135,7 +136,8 @@ impl Query<'_, '_, '_, '_> {
     fn find_next(&self, front: &mut Front, s: u32) -> Result<(), AllocError>
         requires state { s < states_of self.now.model.now }
         requires found { length front.old.found ≡ states_of self.now.model.now }
-        ensures found { OnOk result (front.new ≡ with_next self.now.dir self.now.model.now self.now.goals.now self.now.values.now self.now.policy.now front.old s) }
+        ensures found { OnOk result (front.new ≡ with_next self.now.dir self.now.model.now self.now.goals.now self.now.values.now
+            self.now.policy.now front.old s) }
         ensures count { OnOk result (length front.new.found ≡ states_of self.now.model.now) }
     {
         match self.dir {
@@ -148,7 +150,8 @@ impl Query<'_, '_, '_, '_> {
     /// the least one by all; one mark per state. Each state is looked at once. Fails where memory is refused.
     pub fn first_set(&self, alloc: Global, start: u32) -> Result<Marks, Memory>
         requires start { start < states_of self.now.model.now }
-        ensures first { IfOk result (λ first. IsFirst self.now.dir self.now.model.now self.now.goals.now self.now.values.now self.now.policy.now start first) }
+        ensures first { IfOk result (λ first. IsFirst self.now.dir self.now.model.now self.now.goals.now self.now.values.now self.now.policy.now
+            start first) }
     {
         self.model.known();
         let mut front = Front::empty(alloc, self.model.states())?;

@@ -5,7 +5,8 @@ ghost use Rattle.mdp_farkas.specs.Compare.{is_at_least};
 ghost use Rattle.mdp_subsystem_rules.specs.{Flow.{MeetsFlow}, Kept.{kept_marks}, Shape.{IsFlowShape}};
 ghost use Rattle.mdp_reach.specs.Query.{EndsSo};
 ghost use Rattle.mdp_reach.specs.Query as reach;
-ghost use Rattle.mdp_witness.specs.{EvaluationCode.{plain}, Query.{too_wide, visiting, flow_of, verdict_on, FlowHeld, FromFirst}, Code.{plain_flow, Answers}};
+ghost use Rattle.mdp_witness.specs.{EvaluationCode.{plain}, Query.{too_wide, visiting, flow_of, verdict_on, FlowHeld, FromFirst}};
+ghost use Rattle.mdp_witness.specs.Code.{plain_flow, Answers};
 
 use crate::first::Query;
 use crate::listing::{flows_of, listed, marks_at};

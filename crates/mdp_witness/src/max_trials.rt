@@ -40,7 +40,8 @@ impl Policy<'_, '_, '_, '_> {
         requires kept { length kept.old ≡ states_of self.now.model.now }
         requires wide { length wide.old ≡ states_of self.now.model.now }
         requires leaves { Leaves (policy_rows self.now.model.now self.now.choices.now) kept.old self.now.ranks.now }
-        ensures step { IfOk result (λ next. IsStep (Visits self.now.model.now self.now.goals.now self.now.choices.now self.now.start) visited_value threshold.now s kept.old wide.old
+        ensures step { IfOk result (λ next. IsStep (Visits self.now.model.now self.now.goals.now self.now.choices.now self.now.start) visited_value
+            threshold.now s kept.old wide.old
             (plain last) kept.new wide.new (plain next)) }
     {
         kept.set(s, false);
@@ -73,7 +74,8 @@ impl Policy<'_, '_, '_, '_> {
         requires first { length first ≡ states_of self.now.model.now }
         requires leaves { Leaves (policy_rows self.now.model.now self.now.choices.now) first self.now.ranks.now }
         requires found { visited self.now.model.now self.now.goals.now self.now.choices.now self.now.start first ≡ Ok (plain found) }
-        ensures left { IfOk result (λ left. AreLeft (Visits self.now.model.now self.now.goals.now self.now.choices.now self.now.start) visited_value threshold.now first left.kept
+        ensures left { IfOk result (λ left. AreLeft (Visits self.now.model.now self.now.goals.now self.now.choices.now self.now.start) visited_value
+            threshold.now first left.kept
             left.wide (plain left.last)) }
     {
         let mut kept = first;

@@ -78,7 +78,8 @@ impl Subsystems<'_, '_> {
         requires state { s < states_of self.now.model.now }
         requires kept { length kept.old ≡ states_of self.now.model.now }
         requires wide { length wide.old ≡ states_of self.now.model.now }
-        ensures step { IfOk result (λ next. IsStep (Evaluates self.now.model.now self.now.goals.now) (value_from self.now.start) threshold.now s kept.old wide.old (plain last) kept.new
+        ensures step { IfOk result (λ next. IsStep (Evaluates self.now.model.now self.now.goals.now)
+            (value_from self.now.start) threshold.now s kept.old wide.old (plain last) kept.new
             wide.new (plain next)) }
     {
         kept.set(s, false);
@@ -111,7 +112,8 @@ impl Subsystems<'_, '_> {
     ) -> Result<MinLeft, Memory>
         requires first { length first ≡ states_of self.now.model.now }
         requires found { Evaluates self.now.model.now self.now.goals.now first (Ok (plain found)) }
-        ensures left { IfOk result (λ left. AreLeft (Evaluates self.now.model.now self.now.goals.now) (value_from self.now.start) threshold.now first left.kept left.wide (plain left.last)) }
+        ensures left { IfOk result (λ left. AreLeft (Evaluates self.now.model.now self.now.goals.now)
+            (value_from self.now.start) threshold.now first left.kept left.wide (plain left.last)) }
     {
         let mut kept = first;
         let mut wide = Marks::empty(alloc, self.model.states())?;

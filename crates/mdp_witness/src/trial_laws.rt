@@ -1,5 +1,6 @@
 ghost use Rattle.mdp_witness.specs.TrialLaws.{FirstReaches, LeastFirstReaches, VisitsAreExact};
-ghost use Rattle.mdp_witness.specs.TrialLaws.{VisitsLeaveOne, VisitsLeftReach, VisitsLeftAreNeeded, ValuesLeaveOne, ValuesLeftReach, ValuesLeftAreNeeded};
+ghost use Rattle.mdp_witness.specs.TrialLaws.{VisitsLeaveOne, VisitsLeftReach, VisitsLeftAreNeeded, ValuesLeaveOne, ValuesLeftReach};
+ghost use Rattle.mdp_witness.specs.TrialLaws.{ValuesLeftAreNeeded};
 ghost use Rattle.mdp_witness.specs.TrialLaws.{MaxKeptAreNeeded, MinKeptAreNeeded, MaxKeptIsFlow, MinKeptIsFloor};
 
 use mdp_reach::query_law;

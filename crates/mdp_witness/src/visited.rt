@@ -97,7 +97,8 @@ impl Policy<'_, '_, '_, '_> {
     fn arrivals_at(&self, visits: &[Frac], sum: &Frac, s: u32) -> Result<Frac, ElimError>
         requires state { s < states_of self.now.model.now }
         requires visits { length visits.now ≡ states_of self.now.model.now }
-        ensures sum { Answers (λ x. x) result (placed s (with_arrivals self.now.goals.now (value_at visits.now s) sum.now (row_at self.now.model.now s (slice_index self.now.choices.now s)))) }
+        ensures sum { Answers (λ x. x) result (placed s (with_arrivals self.now.goals.now (value_at visits.now s) sum.now
+            (row_at self.now.model.now s (slice_index self.now.choices.now s)))) }
         ensures place { (t : ℕ) → result ≡ Err (Unfinished.TooWide t) → t ≡ s }
     {
         let row = self.model.row(s, self.choices[s as usize]);
@@ -109,7 +110,8 @@ impl Policy<'_, '_, '_, '_> {
         requires set { length set.now ≡ states_of self.now.model.now }
         requires visits { length visits.now ≡ states_of self.now.model.now }
         ensures place { (s : ℕ) → result ≡ Err (Unfinished.TooWide s) → s < states_of self.now.model.now }
-        ensures sum { Answers (λ x. x) result (arrivals_below self.now.model.now self.now.goals.now self.now.choices.now self.now.start set.now visits.now (states_of self.now.model.now)) }
+        ensures sum { Answers (λ x. x) result (arrivals_below self.now.model.now self.now.goals.now self.now.choices.now self.now.start set.now
+            visits.now (states_of self.now.model.now)) }
     {
         let mut sum = goal_source(self.goals, self.start);
         for s in 0..self.model.states() {
