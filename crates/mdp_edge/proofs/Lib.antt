@@ -1,3 +1,2 @@
 mod Examples
 pub mod Pieces
-pub mod FaultCounted

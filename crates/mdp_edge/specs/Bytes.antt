@@ -5,10 +5,6 @@ use Rattle.std.specs.{Prelude.{◌≡◌, ℕ, ◌≤◌, List, length, take, Op
 abbrev pub Gave : Option (List ℕ) → Option (List ℕ) → List ℕ → Type 0
 Gave before now piece = before ≡ prepend_known piece now
 
--- it gave some bytes from the front, and the others are left
-abbrev pub GaveSome : Option (List ℕ) → Option (List ℕ) → Type 0
-GaveSome before now = (piece : List ℕ) × Gave before now piece
-
 -- it gave at most so many bytes from the front, and the others are left
 abbrev pub GaveAtMost : Option (List ℕ) → Option (List ℕ) → ℕ → Type 0
 GaveAtMost before now most = (piece : List ℕ) × (length piece ≤ most) × Gave before now piece

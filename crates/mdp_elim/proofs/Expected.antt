@@ -81,9 +81,6 @@ module _ (active : List Bool) where
 pub unit_column-at : (n start s : ℕ) → s < n → value_at (unit_column n start) s ≡ one_at start s
 unit_column-at n start s l = get_or-map-range_with_len (one_at start) 0 n s s (of_int (pos 0)) l (zero-add s)
 
-pub one_at-start : (start s : ℕ) → eqb s start ≡ true → one_at start s ≡ of_int (pos 1)
-one_at-start start s e = ap (λ (b : Bool). if b then of_int (pos 1) else of_int (pos 0)) e
-
 pub one_at-other : (start s : ℕ) → eqb s start ≡ false → one_at start s ≡ of_int (pos 0)
 one_at-other start s e = ap (λ (b : Bool). if b then of_int (pos 1) else of_int (pos 0)) e
 

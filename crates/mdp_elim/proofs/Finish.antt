@@ -6,10 +6,6 @@ use Rattle.mdp_elim.specs.{Equation.{Equation, Values}, Elimination.{CanEliminat
 use Rattle.mdp_elim.specs.{Finish.{finish, LeadDown, placed}, Errors.{StepError, ElimError}}
 use Rattle.mdp_wide.specs.declared.unfinished.Unfinished.TheVariants as error
 
-then_then : (r : Result Values ℕ) (f g : Values → Result Values ℕ) → ((r and_then f) and_then g) ≡ (r and_then (λ v. f v and_then g))
-then_then (Ok v) f g = refl
-then_then (Err s) f g = refl
-
 -- one more
 pub finish-more : (m : ℕ) (done : List Equation) (e : Equation) (r : Result Values ℕ) → finish m (done ++ e ∷ []) r ≡ finish (m + 1) done (r and_then (λ v. at_state m (evaluated e v)))
 finish-more m [] e r = let z : m + 0 ≡ m = omega arith in ap (λ k. r and_then (λ v. at_state k (evaluated e v))) z

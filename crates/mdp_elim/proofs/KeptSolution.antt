@@ -1,7 +1,7 @@
 -- What is kept of a system is its solution.
-use Rattle.std.proofs.Common.{◌≡◌, ℕ, List, length, Ok, Some, refl, sym, ◌∙◌, ap, subst, arith, inr}
+use Rattle.std.proofs.Common.{◌≡◌, ℕ, List, length, Ok, Some, refl, sym, ◌∙◌, ap, subst, arith}
 use Rattle.mdp_elim.specs.{Equation.{Equation}, Elimination.{solution}, Predecessors.{at}}
-use Rattle.mdp_elim.specs.Kept.{Kept, AreSolved, IsKept, HasRoom, DifferAt, CanServe, solved_at, values_by}
+use Rattle.mdp_elim.specs.Kept.{Kept, AreSolved, IsKept, solved_at, values_by}
 use Rattle.mdp_elim.proofs.{OneByOne.{solution-solved}, Evaluating.{values-all}}
 
 module _ (equations : List Equation) where
@@ -17,16 +17,3 @@ module _ (equations : List Equation) where
   kept-solution k is =
       solved-solution k.solved (length equations) refl is.solved
       ∙ values-all k.solved k.first k.second (λ s l. is.solved.down s (let c = is.solved.count in omega (arith, l, c))) is.first.count is.second.count is.first is.second
-
--- it has room for the system
-pub kept-room : (equations : List Equation) (n : ℕ) (k : Kept) → n ≡ length equations → IsKept equations k → HasRoom n k
-kept-room equations n k e is = record {
-  solved = is.solved.count ∙ sym e;
-  first = is.first.count ∙ is.solved.count ∙ sym e;
-  second = is.second.count ∙ is.solved.count ∙ sym e;
-  down = λ s l. is.solved.down s (omega (arith, l, e));
-}
-
--- and serves one that differs at some states
-pub kept-serves : (states : List ℕ) (old new : List Equation) (k : Kept) → IsKept old k → DifferAt states old new → CanServe states new k
-kept-serves states old new k is differ = record { room = kept-room old (length new) k differ.count is; others = inr (old, is, differ) }

@@ -42,9 +42,6 @@ no_entries-down equations h s l = subst (λ (row : List Entry). Between 0 s row)
 pub empty-smaller : (lists : List (SmallVec ℕ)) → AreEmpty lists → HoldSmaller lists
 empty-smaller lists h v t k = absurd (let c : Contains [] t = subst (λ (xs : List ℕ). Contains xs t) (h v) k in let l = c.1 in omega (arith, l))
 
-pub more-refl : (lists : List (SmallVec ℕ)) → ListsMore lists lists
-more-refl lists = record { count = refl; keeps = λ v t h. h; smaller = λ h. h }
-
 pub more-then : (a b c : List (SmallVec ℕ)) → ListsMore a b → ListsMore b c → ListsMore a c
 more-then a b c h k = record { count = k.count ∙ h.count; keeps = λ v t l. k.keeps v t (h.keeps v t l); smaller = λ l. k.smaller (h.smaller l) }
 

@@ -1,6 +1,6 @@
 -- The states that reach none of the avoiding states without passing a goal.
-use Rattle.std.proofs.Common.{◌≡◌, inl, inr, ℕ, ◌+◌, ◌<◌, ◌≤◌, Bool, true, false, cond, List, length, map, get_or, set, refl, sym, ap, ◌∙◌, arith, Option, Some, None, is_some, is_none}
-use Rattle.std.proofs.{lemmas.Bool.{false≢true, cases_Bool, cases_eq}, lemmas.List.{length-map, length-set, get_or-set_other}, lemmas.Grind.{get_or-set_at}}
+use Rattle.std.proofs.Common.{◌≡◌, inl, inr, ℕ, ◌+◌, ◌<◌, ◌≤◌, Bool, true, false, cond, List, length, map, get_or, refl, sym, ap, ◌∙◌, arith, Option, Some, None, is_some, is_none}
+use Rattle.std.proofs.{lemmas.Bool.{false≢true, cases_Bool, cases_eq}, lemmas.List.{length-map}}
 use Rattle.mdp_spec.specs.Mdp.{Mdp, states_of}
 use Rattle.mdp_graph.specs.{Sets.{marked}, Layers.{reached, rank_at, AreRanks, AreReached, AreLeastRanks}, Choices.{plain_rank}, Reach.{may_step}}
 use Rattle.mdp_graph.specs.{Meet.{must_step}, SureAll.{AreSure}}
@@ -11,20 +11,6 @@ pub record AreDropped (old : List (Option ℕ)) (marks : List Bool) (i : ℕ) (n
   pub count : length new ≡ length old
   pub before : (s : ℕ) → s < i → rank_at new s ≡ cond (marked marks s) None (rank_at old s)
   pub after : (s : ℕ) → i ≤ s → rank_at new s ≡ rank_at old s
-
-pub none_dropped : (old : List (Option ℕ)) (marks : List Bool) → AreDropped old marks 0 old
-none_dropped old marks = record { count = refl; before = λ s h. absurd (omega arith); after = λ s h. refl }
-
-pub one_dropped : (old : List (Option ℕ)) (marks : List Bool) (i : ℕ) (now new : List (Option ℕ)) → AreDropped old marks i now → i < length old
-    → marked marks i ≡ true → new ≡ set now i None → AreDropped old marks (i + 1) new
-one_dropped old marks i now new was h is e = record {
-  count = ap length e ∙ length-set now i None ∙ was.count;
-  before = λ s l. ap (λ (x : List (Option ℕ)). rank_at x s) e ∙ (elim (cases_eq s i) [
-    | inl same ↦ get_or-set_at now i s None None same (omega (arith, h, was.count)) ∙ sym (ap (λ b. cond b None (rank_at old s)) (ap (marked marks) same ∙ is))
-    | inr other ↦ get_or-set_other now i s None None other ∙ was.before s (omega arith)
-  ]);
-  after = λ s l. ap (λ (x : List (Option ℕ)). rank_at x s) e ∙ get_or-set_other now i s None None (omega arith) ∙ was.after s (omega arith);
-}
 
 pub one_kept : (old : List (Option ℕ)) (marks : List Bool) (i : ℕ) (now : List (Option ℕ)) → AreDropped old marks i now → marked marks i ≡ false → AreDropped old marks (i + 1) now
 one_kept old marks i now was is = record {

@@ -1,7 +1,7 @@
 -- The layers of a search for the states that meet a set whatever is chosen.
-use Rattle.std.proofs.Common.{◌≡◌, inl, inr, ℕ, suc, zero, ◌+◌, ◌-◌, ◌<◌, ◌≤◌, Bool, true, false, ◌||◌, ◌&&◌, nat_le, le-leb, lt-ltb, map, cond, List, [], ◌∷◌, length}
+use Rattle.std.proofs.Common.{◌≡◌, inl, inr, ℕ, suc, zero, ◌+◌, ◌-◌, ◌<◌, ◌≤◌, Bool, true, false, ◌||◌, ◌&&◌, nat_le, le-leb, lt-ltb, map, List, [], ◌∷◌, length}
 use Rattle.std.proofs.Common.{replicate, refl, sym, ap, subst, ◌∙◌, arith, eq-eqb, Option, Some, None, is_some, is_none}
-use Rattle.std.proofs.{lemmas.Bool.{false≢true, cases_lt, cases_Bool}, lemmas.List.Sums.{sum_by-cons}}
+use Rattle.std.proofs.{lemmas.Bool.{false≢true, cases_lt, cases_Bool}}
 use borrow.Author.Tests.{leb-true}
 use Rattle.mdp_spec.specs.{Mdp.{Mdp, Choice, no_choice, states_of, choices_at, row_at}, Row.{IsMdp}}
 use Rattle.mdp_rows.specs.Preds.{is_among}
@@ -80,17 +80,6 @@ among_some x (y ∷ layer) e = omega arith
 pub none_is : (o : Option ℕ) → is_none o ≡ true → o ≡ None
 none_is None e = refl
 none_is (Some r) e = absurd (false≢true e)
-
-left_some : (ranks : List (Option ℕ)) (t : ℕ) → t < length ranks → rank_at ranks t ≡ None → 0 < unranked ranks
-left_some [] t h e = absurd (omega arith)
-left_some (o ∷ ranks) zero h e =
-    let a = sum_by-cons (λ (x : Option ℕ). cond (is_none x) 1 0) o ranks in
-    let b : cond {A = ℕ} (is_none o) 1 0 ≡ 1 = ap (λ (x : Option ℕ). cond {A = ℕ} (is_none x) 1 0) e in
-    omega (arith, a, b)
-left_some (o ∷ ranks) (suc t) h e =
-    let a = sum_by-cons (λ (x : Option ℕ). cond (is_none x) 1 0) o ranks in
-    let b = left_some ranks t (omega arith) e in
-    omega (arith, a, b)
 
 absorbs : (a b : Bool) (o : Option ℕ) → is_some o ≡ a → (is_none o && b) ≡ false → (a || b) ≡ a
 absorbs a b None e f = rw (sym e, f) refl

@@ -1,9 +1,8 @@
 -- Ways that are looked for.
 use Rattle.std.proofs.Common.{◌≡◌, inl, inr, ℕ, ◌+◌, ◌<◌, Bool, true, false, ◌&&◌, not, List, [], ◌∷◌, ◌++◌, length, get_or, ap, sym, subst, ◌∙◌, arith, Option, Some, None, is_some}
 use Rattle.std.proofs.{lemmas.List.{length-append, get_or_append_left}, Math.Seq.{get_or-append_seam}, lemmas.Bool.{false≢true, cases_eq}}
-use Rattle.mdp_spec.specs.Mdp.{Mdp, states_of, choices_at, row_at}
-use Rattle.mdp_rows.specs.Preds.{leads_to}
-use Rattle.mdp_graph.specs.{declared.forest.Way.{Way}, Waiting.{waits}, Forest.{way_at, attached, IsStep, IsFound, IsGrown}}
+use Rattle.mdp_spec.specs.Mdp.{Mdp}
+use Rattle.mdp_graph.specs.{declared.forest.Way.{Way}, Forest.{way_at, attached, IsStep, IsFound, IsGrown}}
 use Rattle.mdp_graph.proofs.Taking.{some-way, on, grown_next, IsFoundBelow, HasBelow}
 
 pub found_some : (m : Mdp) (goals : List Bool) (lists : List (List Bool)) (ways : List (Option Way)) (s : ℕ) (v : Way) → IsStep m lists s v → attached goals ways v.target ≡ true
@@ -12,11 +11,6 @@ found_some m goals lists ways s v step on = record {
   some = λ w e. subst (λ (x : Way). IsStep m lists s x × (attached goals ways x.target ≡ true)) (some-way v w e) (step, on);
   none = λ e. absurd (false≢true (sym (ap is_some e)));
 }
-
-pub found_none : (m : Mdp) (goals : List Bool) (lists : List (List Bool)) (ways : List (Option Way)) (s : ℕ)
-    → ((c t : ℕ) → c < length (choices_at m s) → waits lists s c ≡ true → t < states_of m → leads_to t (row_at m s c) ≡ true → attached goals ways t ≡ false)
-    → IsFound m goals lists ways s None
-found_none m goals lists ways s lacks = record { some = λ w e. absurd (false≢true (ap is_some e)); none = λ e. lacks }
 
 pub record AreFound (m : Mdp) (goals : List Bool) (lists : List (List Bool)) (ways : List (Option Way)) (states : List ℕ) (found : List (Option Way)) (i : ℕ) : Type 0 where
   pub count : length found ≡ i

@@ -10,10 +10,6 @@ pub claimed_mono : (o : Option ℚ) (f g : ℚ → Type 0) → ((x : ℚ) → f 
 claimed_mono None f g step h = tt
 claimed_mono (Some x) f g step h = step x h
 
-pub claimed_both : (o : Option ℚ) (f g : ℚ → Type 0) → Claimed o f → Claimed o g → Claimed o (λ x. f x × g x)
-claimed_both None f g h k = tt
-claimed_both (Some x) f g h k = (h, k)
-
 -- the claim on a value that isn't missing
 pub claimed_some : (o : Option ℚ) (x : ℚ) (f : ℚ → Type 0) → o ≡ Some x → Claimed o f → f x
 claimed_some o x f e h = subst (λ (o : Option ℚ). Claimed o f) e h

@@ -1,6 +1,6 @@
 -- Quotients of two whole numbers in width.
 use Rattle.std.proofs.Common.{◌≡◌, ◌≢◌, ◌∙◌, ℕ, zero, suc, ◌/◌, ◌<◌, ◌≤◌, ◌^◌, div-le_self, Option, Some, None, refl, sym, ap, arith}
-use Rattle.std.proofs.{Common.{ℤ, pos, negsuc, ◌<ℤ◌, unsigned_abs}, lemmas.Int.{ints}}
+use Rattle.std.proofs.{Common.{ℤ, pos, unsigned_abs}, lemmas.Int.{ints}}
 use Rattle.mdp_math.specs.{Gcd.{gcd}, Integers.{abs_div}, Rational.{ℚ, ratio}, Written.{narrow_ℚ}}
 use Rattle.mdp_math.proofs.Written.{narrow_ℚ-kept, narrow_ℚ-some}
 use Rattle.mdp_num.specs.Value.{quotient}
@@ -22,10 +22,6 @@ kept n d h l k =
     let p : unsigned_abs n / g ≤ unsigned_abs n = div-le_self (unsigned_abs n) g in
     let q : d / g ≤ d = div-le_self d g in
     narrow_ℚ-kept (ratio n d) (omega (arith, num_of n d h)) (omega (arith, den_of n d h))
-
-pub quotient-is : (n one : ℤ) → pos 0 <ℤ one → quotient n one ≡ ratio n (unsigned_abs one)
-quotient-is n (pos d) h = refl
-quotient-is n (negsuc d) h = absurd (omega (arith, ints))
 
 -- what a quotient's denominator is
 pub beyond_told : (n : ℤ) (d : ℕ) (D : ℤ) (q : ℚ) (r : ℤ) → 0 < d → D ≡ pos d → (D ≢ pos 0 → Some q ≡ narrow_ℚ (quotient n D))

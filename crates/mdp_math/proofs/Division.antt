@@ -2,7 +2,7 @@
 use Rattle.std.proofs.Common.{◌≡◌, ◌≢◌, ℕ, ◌<◌, [], ◌∷◌, inl, inr, refl, sym, ◌∙◌, arith, ℤ, pos}
 use Rattle.mdp_math.specs.Rational.{ℚ, of_int, ratio, ◌+ℚ◌, ◌*ℚ◌, ◌-ℚ◌, inv_ℚ, ◌≤ℚ◌, ◌<ℚ◌}
 use Rattle.mdp_math.proofs.{Ring.{◌⊕◌, ◌⊗◌, ⊖, lit, ring}, Laws.{rat_ring}}
-use Rattle.mdp_math.proofs.Order.{0ℚ, 1ℚ, ◌/ℚ◌, ≤ℚ_of_lt, ≤ℚ_or_gt, sub-pos, clash_ℚ, mul-inv, mul-nonneg, mul-pos_ℚ, ne-zero_of_pos, div-of_int}
+use Rattle.mdp_math.proofs.Order.{0ℚ, 1ℚ, ◌/ℚ◌, ≤ℚ_of_lt, ≤ℚ_or_gt, sub-pos, clash_ℚ, mul-inv, mul-pos_ℚ, ne-zero_of_pos, div-of_int}
 use Rattle.mdp_math.proofs.{Whole.{one-pos, of_nat-pos, ratio-pos}, Linear.{linear, linear_lt, combine, equal, at_most, known}}
 
 -- ---- equations, for y not 0
@@ -10,16 +10,10 @@ use Rattle.mdp_math.proofs.{Whole.{one-pos, of_nat-pos, ratio-pos}, Linear.{line
 pub div-mul : (x y : ℚ) → y ≢ 0ℚ → (x /ℚ y) *ℚ y ≡ x
 div-mul x y h = combine 3 (λ x y i. (x ⊗ i) ⊗ y) (λ x y i. x) (λ x y i. equal x (y ⊗ i) (lit (pos 1)) ∷ []) refl x y (inv_ℚ y) (mul-inv y h)
 
-pub mul-div : (x y : ℚ) → y ≢ 0ℚ → (x *ℚ y) /ℚ y ≡ x
-mul-div x y h = combine 3 (λ x y i. (x ⊗ y) ⊗ i) (λ x y i. x) (λ x y i. equal x (y ⊗ i) (lit (pos 1)) ∷ []) refl x y (inv_ℚ y) (mul-inv y h)
-
 -- the quotient is the one number that y times gives x
 pub div-unique : (x y z : ℚ) → y ≢ 0ℚ → z *ℚ y ≡ x → z ≡ x /ℚ y
 div-unique x y z h e =
     combine 4 (λ x y z i. z) (λ x y z i. x ⊗ i) (λ x y z i. equal z (lit (pos 1)) (y ⊗ i) ∷ equal i (z ⊗ y) x ∷ []) refl x y z (inv_ℚ y) (sym (mul-inv y h)) e
-
-pub add-div : (x z y : ℚ) → (x +ℚ z) /ℚ y ≡ x /ℚ y +ℚ z /ℚ y
-add-div x z y = ring rat_ring 3 (λ x z i. (x ⊕ z) ⊗ i) (λ x z i. x ⊗ i ⊕ z ⊗ i) refl x z (inv_ℚ y)
 
 pub ratio-div : (a : ℤ) (b : ℕ) → 0 < b → ratio a b ≡ of_int a /ℚ of_int (pos b)
 ratio-div a b h = div-unique (of_int a) (of_int (pos b)) (ratio a b) (ne-zero_of_pos (of_int (pos b)) (of_nat-pos b h)) (div-of_int a b h)
@@ -35,12 +29,6 @@ inv-pos y h = elim (≤ℚ_or_gt (inv_ℚ y) 0ℚ) as (λ _. 0ℚ <ℚ inv_ℚ y
       (inv_ℚ y) (sym (mul-inv_pos y h)) (≤ℚ_of_lt 0ℚ y h) l))
   | inr l ↦ l
 ]
-
-pub div-nonneg : (x y : ℚ) → 0ℚ ≤ℚ x → 0ℚ <ℚ y → 0ℚ ≤ℚ x /ℚ y
-div-nonneg x y h k = mul-nonneg x (inv_ℚ y) h (≤ℚ_of_lt 0ℚ (inv_ℚ y) (inv-pos y k))
-
-pub div-pos : (x y : ℚ) → 0ℚ <ℚ x → 0ℚ <ℚ y → 0ℚ <ℚ x /ℚ y
-div-pos x y h k = mul-pos_ℚ x (inv_ℚ y) h (inv-pos y k)
 
 pub div-le : (x y z : ℚ) → 0ℚ <ℚ y → x ≤ℚ z *ℚ y → x /ℚ y ≤ℚ z
 div-le x y z h k =

@@ -77,10 +77,6 @@ reached_by : {A : Type 0} → (better : ℚ → ℚ → Bool) (f : A → ℚ) (x
 reached_by better f x y ys true h = (0, x, omega arith, refl, refl)
 reached_by better f x y ys false h = (suc h.0, h.1, omega (arith, h.2), h.3, h.4)
 
-best-reached : {A : Type 0} → (better : ℚ → ℚ → Bool) (f : A → ℚ) (x : A) (xs : List A) → Any (λ z. f z ≡ best better (map f (x ∷ xs))) (x ∷ xs)
-best-reached better f x [] = (0, x, omega arith, refl, refl)
-best-reached better f x (y ∷ ys) = reached_by better f x y ys (better (f x) (best better (map f (y ∷ ys)))) (best-reached better f y ys)
-
 -- ---- the least
 
 le_order : Order le_ℚ
@@ -101,13 +97,6 @@ least-in x xs = best-in le_ℚ x xs
 -- a number that is at most each is at most the least
 pub least-ge : (c x : ℚ) (xs : List ℚ) → All (λ y. c ≤ℚ y) (x ∷ xs) → c ≤ℚ least (x ∷ xs)
 least-ge c x xs h = All-contains (λ y. c ≤ℚ y) (x ∷ xs) (least (x ∷ xs)) h (least-in x xs)
-
-pub least_map-le : {A : Type 0} → (f : A → ℚ) (xs : List A) → All (λ x. least (map f xs) ≤ℚ f x) xs
-least_map-le f xs = All-from_recursion (λ x. least (map f xs) ≤ℚ f x) xs
-    (each_of_map f (λ y. least (map f xs) ≤ℚ y) xs (recursion_from_All (λ y. least (map f xs) ≤ℚ y) (map f xs) (least-le (map f xs))))
-
-pub least_map-reached : {A : Type 0} → (f : A → ℚ) (x : A) (xs : List A) → Any (λ y. f y ≡ least (map f (x ∷ xs))) (x ∷ xs)
-least_map-reached f x xs = best-reached le_ℚ f x xs
 
 -- ---- the greatest
 
@@ -131,6 +120,3 @@ greatest-le c x xs h = All-contains (λ y. y ≤ℚ c) (x ∷ xs) (greatest (x �
 pub greatest_map-ge : {A : Type 0} → (f : A → ℚ) (xs : List A) → All (λ x. f x ≤ℚ greatest (map f xs)) xs
 greatest_map-ge f xs = All-from_recursion (λ x. f x ≤ℚ greatest (map f xs)) xs
     (each_of_map f (λ y. y ≤ℚ greatest (map f xs)) xs (recursion_from_All (λ y. y ≤ℚ greatest (map f xs)) (map f xs) (greatest-ge (map f xs))))
-
-pub greatest_map-reached : {A : Type 0} → (f : A → ℚ) (x : A) (xs : List A) → Any (λ y. f y ≡ greatest (map f (x ∷ xs))) (x ∷ xs)
-greatest_map-reached f x xs = best-reached (λ x y. le_ℚ y x) f x xs

@@ -1,9 +1,9 @@
 -- Bounds on finitely many: a positive number below each of them, and a greatest rank.
-use Rattle.std.proofs.Common.{◌≡◌, ℕ, zero, suc, ◌+◌, ◌<◌, ◌≤◌, ◌⊎◌, inl, inr, Bool, true, false, true≢false, List, [], ◌∷◌, get_or, refl, sym, ◌∙◌, ap, subst, arith}
+use Rattle.std.proofs.Common.{ℕ, zero, suc, ◌+◌, ◌<◌, ◌≤◌, inl, inr, List, [], ◌∷◌, get_or, sym, subst, arith}
 use Rattle.std.proofs.lemmas.List.Elements.{All-nil, All-cons}
 use Rattle.std.specs.List.{All}
 use Rattle.mdp_math.specs.Rational.{ℚ, ◌≤ℚ◌, ◌<ℚ◌}
-use Rattle.mdp_math.proofs.{Whole.{one-pos}, Numbers.{last_or}, Order.{≤ℚ_of_eq, 0ℚ, 1ℚ, ≤ℚ_refl, ≤ℚ_trans, ≤ℚ_of_lt, ≤ℚ_or_gt}, Kernel.{All-head, All-tail}}
+use Rattle.mdp_math.proofs.{Whole.{one-pos}, Numbers.{last_or}, Order.{0ℚ, 1ℚ, ≤ℚ_refl, ≤ℚ_trans, ≤ℚ_of_lt, ≤ℚ_or_gt}, Kernel.{All-head, All-tail}}
 
 -- a positive number, at most 1, of which P holds
 abbrev pub ForSmall : (ℚ → Type 0) → Type 0
@@ -66,43 +66,3 @@ greatest_rank rank (suc n) =
     )
 
 -- ---- a number at which f is greatest, among those below n that pass a test
-
-abbrev pub GreatestAt : (ℕ → ℚ) → (ℕ → Bool) → ℕ → ℕ → Type 0
-GreatestAt f test n s = (s < n) × (test s ≡ true) × ((t : ℕ) → t < n → test t ≡ true → f t ≤ℚ f s)
-
--- none passes, or f is greatest at some
-abbrev pub NoneOrGreatest : (ℕ → ℚ) → (ℕ → Bool) → ℕ → Type 0
-NoneOrGreatest f test n = ((s : ℕ) → s < n → test s ≡ false) ⊎ ((s : ℕ) × GreatestAt f test n s)
-
-greatest_skip : (f : ℕ → ℚ) (test : ℕ → Bool) (n : ℕ) → test n ≡ false → NoneOrGreatest f test n → NoneOrGreatest f test (suc n)
-greatest_skip f test n e (inl h) = inl (λ s l. elim (last_or n s l) as (λ _. test s ≡ false) [ inl q ↦ ap test q ∙ e | inr k ↦ h s k ])
-greatest_skip f test n e (inr h) = inr (
-  h.0,
-  (omega (arith, h.1.0), h.1.1, λ t l p. elim (last_or n t l) as (λ _. f t ≤ℚ f h.0) [ inl q ↦ absurd (true≢false (sym p ∙ ap test q ∙ e)) | inr k ↦ h.1.2 t k p ]),
-)
-
-greatest_take : (f : ℕ → ℚ) (test : ℕ → Bool) (n : ℕ) → test n ≡ true → NoneOrGreatest f test n → NoneOrGreatest f test (suc n)
-greatest_take f test n e (inl h) = inr (n, (omega arith, e, λ t l p. elim (last_or n t l) as (λ _. f t ≤ℚ f n) [ inl q ↦ ≤ℚ_of_eq _ _ (ap f q) | inr k ↦ absurd (true≢false (sym p ∙ h t k)) ]))
-greatest_take f test n e (inr h) = elim (≤ℚ_or_gt (f n) (f h.0)) as (λ _. NoneOrGreatest f test (suc n)) [
-  | inl l ↦ inr (h.0, (omega (arith, h.1.0), h.1.1, λ t m p. elim (last_or n t m) as (λ _. f t ≤ℚ f h.0) [ inl q ↦ ≤ℚ_trans (f t) (f n) (f h.0) (≤ℚ_of_eq _ _ (ap f q)) l | inr k ↦ h.1.2 t k p ]))
-  | inr l ↦ inr (
-    n,
-    (
-      omega arith,
-      e,
-      λ t m p. elim (last_or n t m) as (λ _. f t ≤ℚ f n) [
-        | inl q ↦ ≤ℚ_of_eq _ _ (ap f q)
-        | inr k ↦ ≤ℚ_trans (f t) (f h.0) (f n) (h.1.2 t k p)
-            (≤ℚ_of_lt (f h.0) (f n) l)
-      ],
-    ),
-  )
-]
-
-greatest_next : (f : ℕ → ℚ) (test : ℕ → Bool) (n : ℕ) (b : Bool) → test n ≡ b → NoneOrGreatest f test n → NoneOrGreatest f test (suc n)
-greatest_next f test n true e h = greatest_take f test n e h
-greatest_next f test n false e h = greatest_skip f test n e h
-
-pub greatest_below : (f : ℕ → ℚ) (test : ℕ → Bool) (n : ℕ) → NoneOrGreatest f test n
-greatest_below f test zero = inl (λ s l. absurd (omega arith))
-greatest_below f test (suc n) = greatest_next f test n (test n) refl (greatest_below f test n)

@@ -25,10 +25,6 @@ lcm-pos a b p q = one-le-mul (quotient-pos a (gcd a b) p (gcd_is a b).0) q
 pub lcm-one : (a : ℕ) → lcm a 1 ≡ a
 lcm-one a = ap (λ (g : ℕ). a / g * 1) (gcd-one_right a) ∙ omega arith
 
--- so it is at least each
-pub lcm-ge_left : (a b : ℕ) → 0 < a → 0 < b → a ≤ lcm a b
-lcm-ge_left a b p q = le_of_dvd (lcm-pos a b p q) (lcm-left a b)
-
 pub lcm-ge_right : (a b : ℕ) → 0 < a → 0 < b → b ≤ lcm a b
 lcm-ge_right a b p q = le_of_dvd (lcm-pos a b p q) (lcm-right a b)
 

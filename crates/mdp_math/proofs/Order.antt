@@ -296,6 +296,3 @@ eq_of_cmp x y e = same_across x y (grind (arith, ints))
 
 pub gt_of_cmp : (x y : ℚ) → cmp_ℚ x y ≡ Greater → y <ℚ x
 gt_of_cmp x y e = across_lt y x (grind (arith, ints))
-
-pub cmp_of_lt : (x y : ℚ) → x <ℚ y → cmp_ℚ x y ≡ Less
-cmp_of_lt x y h = let p = lt_across x y h in grind (arith, ints)

@@ -7,9 +7,6 @@ use Rattle.mdp_math.proofs.Whole.{one-pos, of_nat-suc, of_nat-nonneg}
 use Rattle.mdp_math.proofs.Order.{0ℚ, 1ℚ, ≤ℚ_refl, ≤ℚ_trans, ≤ℚ_of_lt, ≤ℚ_of_eq, mul-nonneg, mul-pos_ℚ, sub-nonneg, sub-pos, of_int-le, le_of_is, positive, ratio-nonneg, div-of_int}
 use Rattle.mdp_math.proofs.Linear.{linear, equal, at_most, known}
 
-pub pow_ℚ-zero : (x : ℚ) → pow_ℚ x 0 ≡ 1ℚ
-pow_ℚ-zero x = refl
-
 pub pow_ℚ-suc : (x : ℚ) (n : ℕ) → pow_ℚ x (suc n) ≡ x *ℚ pow_ℚ x n
 pow_ℚ-suc x n = refl
 
@@ -21,12 +18,6 @@ pow_ℚ-add x (suc m) n =
 
 pub pow_ℚ-one : (x : ℚ) → pow_ℚ x 1 ≡ x
 pow_ℚ-one = ring rat_ring 1 (λ x. x ⊗ lit (pos 1)) (λ x. x) refl
-
-pub pow_ℚ-mul : (x y : ℚ) (n : ℕ) → pow_ℚ (x *ℚ y) n ≡ pow_ℚ x n *ℚ pow_ℚ y n
-pow_ℚ-mul x y zero = ring rat_ring 0 (lit (pos 1)) (lit (pos 1) ⊗ lit (pos 1)) refl
-pow_ℚ-mul x y (suc n) =
-    ap (λ (p : ℚ). (x *ℚ y) *ℚ p) (pow_ℚ-mul x y n)
-    ∙ ring rat_ring 4 (λ x y p q. (x ⊗ y) ⊗ (p ⊗ q)) (λ x y p q. (x ⊗ p) ⊗ (y ⊗ q)) refl x y (pow_ℚ x n) (pow_ℚ y n)
 
 -- ---- order
 
@@ -49,13 +40,6 @@ pow_ℚ-antitone x m n h k l =
     let e : n ≡ m + (n - m) = omega arith in
     linear 3 (λ p q r. r) (λ p q r. p) (λ p q r. equal (lit (pos 1)) r (p ⊗ q) ∷ at_most p q (lit (pos 1)) ∷ []) refl (pow_ℚ x m) (pow_ℚ x (n - m)) (pow_ℚ x n)
     (ap (pow_ℚ x) e ∙ pow_ℚ-add x m (n - m)) (pow_ℚ-nonneg x m h) (pow_ℚ-le_one x (n - m) h k)
-
--- monotone in the base
-pub pow_ℚ-le : (x y : ℚ) (n : ℕ) → 0ℚ ≤ℚ x → x ≤ℚ y → pow_ℚ x n ≤ℚ pow_ℚ y n
-pow_ℚ-le x y zero h k = ≤ℚ_refl 1ℚ
-pow_ℚ-le x y (suc n) h k =
-    linear 4 (λ x y p q. x ⊗ p) (λ x y p q. y ⊗ q) (λ x y p q. at_most y p q ∷ at_most p x y ∷ []) refl x y (pow_ℚ x n) (pow_ℚ y n)
-    (≤ℚ_trans 0ℚ x y h k) (pow_ℚ-le x y n h k) (pow_ℚ-nonneg x n h) k
 
 -- ---- Bernoulli's bound
 

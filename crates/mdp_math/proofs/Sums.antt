@@ -1,9 +1,9 @@
 -- The laws of sums.
-use Rattle.std.proofs.{Common.{◌≡◌, List, [], ◌∷◌, ◌++◌, refl, sym, ◌∙◌, ap, ap₂, pos, map, length}, lemmas.List.Elements.{recursion_from_All}}
+use Rattle.std.proofs.{Common.{◌≡◌, List, [], ◌∷◌, ◌++◌, refl, sym, ◌∙◌, ap, ap₂, pos, map}, lemmas.List.Elements.{recursion_from_All}}
 use Rattle.std.specs.List.{All, AllByRecursion}
-use Rattle.mdp_math.proofs.{Ring.{◌⊕◌, ◌⊗◌, ⊖, lit, ring, ring₁, ring₃, ring₄}, Laws.{rat_ring, zero-+ℚ, +ℚ_assoc}, Whole.{of_nat-suc}}
+use Rattle.mdp_math.proofs.{Ring.{◌⊕◌, ◌⊗◌, lit, ring, ring₁, ring₃, ring₄}, Laws.{rat_ring, zero-+ℚ, +ℚ_assoc}}
 use Rattle.mdp_math.proofs.Order.{0ℚ, ≤ℚ_refl, add-le-add_ℚ, add-nonneg}
-use Rattle.mdp_math.specs.{Rational.{ℚ, of_int, ◌-ℚ◌, ◌+ℚ◌, ◌*ℚ◌, ◌≤ℚ◌}, Sum.{sum_of}}
+use Rattle.mdp_math.specs.{Rational.{ℚ, ◌+ℚ◌, ◌*ℚ◌, ◌≤ℚ◌}, Sum.{sum_of}}
 
 sum-le-by : {A : Type 0} → (f g : A → ℚ) (xs : List A) → AllByRecursion (λ x. f x ≤ℚ g x) xs → sum_of f xs ≤ℚ sum_of g xs
 sum-le-by f g [] h = ≤ℚ_refl 0ℚ
@@ -59,21 +59,8 @@ same_by_each f g (x ∷ xs) h = ap₂ ◌+ℚ◌ h.0 (same_by_each f g xs h.1)
 pub sum_of-same_all : {A : Type 0} → (f g : A → ℚ) (xs : List A) → All (λ x. f x ≡ g x) xs → sum_of f xs ≡ sum_of g xs
 sum_of-same_all f g xs h = same_by_each f g xs (recursion_from_All (λ x. f x ≡ g x) xs h)
 
-pub sum_of-sub : {A : Type 0} → (f g : A → ℚ) (xs : List A) → sum_of (λ x. f x -ℚ g x) xs ≡ sum_of f xs -ℚ sum_of g xs
-sum_of-sub f g [] = ring rat_ring 0 (lit (pos 0)) (lit (pos 0) ⊕ ⊖ (lit (pos 0))) refl
-sum_of-sub f g (x ∷ xs) =
-    ap (λ (s : ℚ). (f x -ℚ g x) +ℚ s) (sum_of-sub f g xs)
-    ∙ ring rat_ring 4 (λ a b s t. (a ⊕ ⊖ b) ⊕ (s ⊕ ⊖ t)) (λ a b s t. (a ⊕ s) ⊕ ⊖ (b ⊕ t)) refl (f x) (g x) (sum_of f xs) (sum_of g xs)
-
 pub sum_of-scale_right : {A : Type 0} → (c : ℚ) (f : A → ℚ) (xs : List A) → sum_of (λ x. f x *ℚ c) xs ≡ sum_of f xs *ℚ c
 sum_of-scale_right c f [] = ring rat_ring 1 (λ c. lit (pos 0)) (λ c. lit (pos 0) ⊗ c) refl c
 sum_of-scale_right c f (x ∷ xs) =
     ap (λ (s : ℚ). f x *ℚ c +ℚ s) (sum_of-scale_right c f xs)
     ∙ ring rat_ring 3 (λ c a s. a ⊗ c ⊕ s ⊗ c) (λ c a s. (a ⊕ s) ⊗ c) refl c (f x) (sum_of f xs)
-
-pub sum_of-const : {A : Type 0} → (c : ℚ) (xs : List A) → sum_of (λ x. c) xs ≡ of_int (pos (length xs)) *ℚ c
-sum_of-const c [] = ring rat_ring 1 (λ c. lit (pos 0)) (λ c. lit (pos 0) ⊗ c) refl c
-sum_of-const c (x ∷ xs) =
-    ap (λ (s : ℚ). c +ℚ s) (sum_of-const c xs)
-    ∙ ring rat_ring 2 (λ c n. c ⊕ n ⊗ c) (λ c n. (n ⊕ lit (pos 1)) ⊗ c) refl c (of_int (pos (length xs)))
-    ∙ ap (λ (n : ℚ). n *ℚ c) (sym (of_nat-suc (length xs)))

@@ -1,9 +1,9 @@
 -- The laws of sums and claims that go by element and place.
-use Rattle.std.proofs.Common.{◌≡◌, ℕ, zero, suc, ◌+◌, ◌<◌, inl, inr, List, [], ◌∷◌, ◌++◌, length, get_or, map, refl, sym, ◌∙◌, ap, ap₂, subst, arith, pos}
+use Rattle.std.proofs.Common.{◌≡◌, ℕ, zero, suc, ◌+◌, ◌<◌, inl, inr, List, [], ◌∷◌, length, get_or, refl, sym, ◌∙◌, ap, ap₂, subst, arith, pos}
 use Rattle.std.specs.List.{All}
-use Rattle.mdp_math.specs.{Rational.{ℚ, ◌+ℚ◌, ◌*ℚ◌, ◌-ℚ◌, inv_ℚ, ◌≤ℚ◌, ◌<ℚ◌}, Sum.{sum_of, sum_at, EachAt, AnyAt}}
-use Rattle.mdp_math.proofs.{Ring.{◌⊕◌, ◌⊗◌, ⊖, lit, ring}, Laws.{rat_ring, zero-+ℚ, zero-*ℚ, +ℚ_assoc, *ℚ_comm}, Division.{div-le, le-div}}
-use Rattle.mdp_math.proofs.Order.{0ℚ, ◌/ℚ◌, ≤ℚ_trans, ≤ℚ_refl, ≤ℚ_antisymm, ≤ℚ_or_gt, add-le-add_ℚ, add-nonneg, mul-le-mul_left_ℚ, ≤ℚ_of_eq}
+use Rattle.mdp_math.specs.{Rational.{ℚ, ◌+ℚ◌, ◌*ℚ◌, inv_ℚ, ◌≤ℚ◌, ◌<ℚ◌}, Sum.{sum_of, sum_at, EachAt}}
+use Rattle.mdp_math.proofs.{Ring.{◌⊕◌, ◌⊗◌, lit, ring}, Laws.{rat_ring, zero-+ℚ, zero-*ℚ, *ℚ_comm}, Division.{div-le, le-div}}
+use Rattle.mdp_math.proofs.Order.{0ℚ, ◌/ℚ◌, ≤ℚ_trans, ≤ℚ_refl, ≤ℚ_antisymm, ≤ℚ_or_gt, add-le-add_ℚ, mul-le-mul_left_ℚ, ≤ℚ_of_eq}
 
 -- ---- claims at each place
 
@@ -19,14 +19,6 @@ pub EachAt_both : {A : Type 0} (xs : List A) (P Q : ℕ → A → Type 0) → Ea
 EachAt_both [] P Q p q = tt
 EachAt_both (x ∷ xs) P Q p q = ((p.0, q.0), EachAt_both xs (λ k y. P (suc k) y) (λ k y. Q (suc k) y) p.1 q.1)
 
-pub EachAt-map : {A B : Type 0} (g : A → B) (xs : List A) (P : ℕ → B → Type 0) → EachAt xs (λ k x. P k (g x)) → EachAt (map g xs) P
-EachAt-map g [] P h = tt
-EachAt-map g (x ∷ xs) P h = (h.0, EachAt-map g xs (λ k y. P (suc k) y) h.1)
-
-pub EachAt-from_map : {A B : Type 0} (g : A → B) (xs : List A) (P : ℕ → B → Type 0) → EachAt (map g xs) P → EachAt xs (λ k x. P k (g x))
-EachAt-from_map g [] P h = tt
-EachAt-from_map g (x ∷ xs) P h = (h.0, EachAt-from_map g xs (λ k y. P (suc k) y) h.1)
-
 -- between this form and the places of a list
 pub EachAt-from_places : {A : Type 0} (xs : List A) (P : ℕ → A → Type 0) → ((k : ℕ) (d : A) → k < length xs → P k (get_or xs k d)) → EachAt xs P
 EachAt-from_places [] P h = tt
@@ -40,28 +32,11 @@ places_from_EachAt [] P h k d l = absurd (omega arith)
 places_from_EachAt (x ∷ xs) P h zero d l = h.0
 places_from_EachAt (x ∷ xs) P h (suc k) d l = places_from_EachAt xs (λ j y. P (suc j) y) h.1 k d (omega arith)
 
-pub AnyAt_mono : {A : Type 0} (xs : List A) (P Q : ℕ → A → Type 0) → ((k : ℕ) (x : A) → P k x → Q k x) → AnyAt xs P → AnyAt xs Q
-AnyAt_mono [] P Q f h = h
-AnyAt_mono (x ∷ xs) P Q f (inl h) = inl (f 0 x h)
-AnyAt_mono (x ∷ xs) P Q f (inr h) = inr (AnyAt_mono xs (λ k y. P (suc k) y) (λ k y. Q (suc k) y) (λ k y. f (suc k) y) h)
-
 -- ---- sums
 
 pub sum_at-same : {A : Type 0} (xs : List A) (f g : ℕ → A → ℚ) → EachAt xs (λ k x. f k x ≡ g k x) → sum_at xs f ≡ sum_at xs g
 sum_at-same [] f g h = refl
 sum_at-same (x ∷ xs) f g h = ap₂ ◌+ℚ◌ h.0 (sum_at-same xs (λ k y. f (suc k) y) (λ k y. g (suc k) y) h.1)
-
-pub sum_at-append : {A : Type 0} (xs ys : List A) (f : ℕ → A → ℚ) → sum_at (xs ++ ys) f ≡ sum_at xs f +ℚ sum_at ys (λ k y. f (length xs + k) y)
-sum_at-append [] ys f =
-    sum_at-same ys f (λ k y. f (0 + k) y) (EachAt_all ys (λ k y. f k y ≡ f (0 + k) y) (λ k y. ap (λ (j : ℕ). f j y) (omega arith)))
-    ∙ sym (zero-+ℚ (sum_at ys (λ k y. f (0 + k) y)))
-sum_at-append (x ∷ xs) ys f =
-    let step : sum_at ys (λ k y. f (suc (length xs + k)) y) ≡ sum_at ys (λ k y. f (length (x ∷ xs) + k) y) =
-    sum_at-same ys (λ k y. f (suc (length xs + k)) y) (λ k y. f (length (x ∷ xs) + k) y)
-    (EachAt_all ys (λ k y. f (suc (length xs + k)) y ≡ f (length (x ∷ xs) + k) y) (λ k y. ap (λ (j : ℕ). f j y) (omega arith)))
-    in
-    ap (λ (s : ℚ). f 0 x +ℚ s) (sum_at-append xs ys (λ k y. f (suc k) y) ∙ ap (λ (s : ℚ). sum_at xs (λ k y. f (suc k) y) +ℚ s) step)
-    ∙ sym (+ℚ_assoc (f 0 x) (sum_at xs (λ k y. f (suc k) y)) (sum_at ys (λ k y. f (length (x ∷ xs) + k) y)))
 
 pub sum_at-add : {A : Type 0} (xs : List A) (f g : ℕ → A → ℚ) → sum_at xs (λ k x. f k x +ℚ g k x) ≡ sum_at xs f +ℚ sum_at xs g
 sum_at-add [] f g = sym (zero-+ℚ 0ℚ)
@@ -83,38 +58,14 @@ sum_at-scale_right c (x ∷ xs) f =
     ap (λ (u : ℚ). f 0 x *ℚ c +ℚ u) (sum_at-scale_right c xs (λ k y. f (suc k) y))
     ∙ ring rat_ring 3 (λ c a s. a ⊗ c ⊕ s ⊗ c) (λ c a s. (a ⊕ s) ⊗ c) refl c (f 0 x) (sum_at xs (λ k y. f (suc k) y))
 
-pub sum_at-sub : {A : Type 0} (xs : List A) (f g : ℕ → A → ℚ) → sum_at xs (λ k x. f k x -ℚ g k x) ≡ sum_at xs f -ℚ sum_at xs g
-sum_at-sub [] f g = ring rat_ring 0 (lit (pos 0)) (lit (pos 0) ⊕ ⊖ (lit (pos 0))) refl
-sum_at-sub (x ∷ xs) f g =
-    ap (λ (u : ℚ). (f 0 x -ℚ g 0 x) +ℚ u) (sum_at-sub xs (λ k y. f (suc k) y) (λ k y. g (suc k) y))
-    ∙ ring rat_ring 4 (λ a b s t. (a ⊕ ⊖ b) ⊕ (s ⊕ ⊖ t)) (λ a b s t. (a ⊕ s) ⊕ ⊖ (b ⊕ t)) refl (f 0 x) (g 0 x) (sum_at xs (λ k y. f (suc k) y)) (sum_at xs (λ k y. g (suc k) y))
-
 pub sum_at-le : {A : Type 0} (xs : List A) (f g : ℕ → A → ℚ) → EachAt xs (λ k x. f k x ≤ℚ g k x) → sum_at xs f ≤ℚ sum_at xs g
 sum_at-le [] f g h = ≤ℚ_refl 0ℚ
 sum_at-le (x ∷ xs) f g h = add-le-add_ℚ _ _ _ _ h.0 (sum_at-le xs (λ k y. f (suc k) y) (λ k y. g (suc k) y) h.1)
-
-pub sum_at-nonneg : {A : Type 0} (xs : List A) (f : ℕ → A → ℚ) → EachAt xs (λ k x. 0ℚ ≤ℚ f k x) → 0ℚ ≤ℚ sum_at xs f
-sum_at-nonneg [] f h = ≤ℚ_refl 0ℚ
-sum_at-nonneg (x ∷ xs) f h = add-nonneg _ _ h.0 (sum_at-nonneg xs (λ k y. f (suc k) y) h.1)
-
-pub sum_at-zero : {A : Type 0} (xs : List A) → sum_at xs (λ k x. 0ℚ) ≡ 0ℚ
-sum_at-zero [] = refl
-sum_at-zero (x ∷ xs) = zero-+ℚ (sum_at xs (λ k y. 0ℚ)) ∙ sum_at-zero xs
-
-pub sum_at-map : {A B : Type 0} (g : A → B) (xs : List A) (f : ℕ → B → ℚ) → sum_at (map g xs) f ≡ sum_at xs (λ k x. f k (g x))
-sum_at-map g [] f = refl
-sum_at-map g (x ∷ xs) f = ap (λ (s : ℚ). f 0 (g x) +ℚ s) (sum_at-map g xs (λ k y. f (suc k) y))
 
 -- where no place is looked at
 pub sum_at-sum_of : {A : Type 0} (xs : List A) (f : A → ℚ) → sum_at xs (λ k x. f x) ≡ sum_of f xs
 sum_at-sum_of [] f = refl
 sum_at-sum_of (x ∷ xs) f = ap (λ (s : ℚ). f x +ℚ s) (sum_at-sum_of xs f)
-
-pub sum_at-swap : {A B : Type 0} (xs : List A) (ys : List B) (f : ℕ → A → ℕ → B → ℚ) → sum_at xs (λ k x. sum_at ys (f k x)) ≡ sum_at ys (λ j y. sum_at xs (λ k x. f k x j y))
-sum_at-swap [] ys f = sym (sum_at-zero ys)
-sum_at-swap (x ∷ xs) ys f =
-    ap (λ (s : ℚ). sum_at ys (f 0 x) +ℚ s) (sum_at-swap xs ys (λ k y. f (suc k) y))
-    ∙ sym (sum_at-add ys (f 0 x) (λ j y. sum_at xs (λ k z. f (suc k) z j y)))
 
 -- ---- weighted sums
 

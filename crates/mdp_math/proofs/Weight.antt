@@ -22,21 +22,6 @@ pub record Shrinks {A : Type 0} (index : A → ℕ) (entry : A → ℚ) (active 
   pub entries : (s : ℕ) (row : List A) → active s ≡ true → Allowed s row → All (λ x. 0ℚ ≤ℚ entry x) row
   pub shrinks : (s : ℕ) (row : List A) → active s ≡ true → Allowed s row → weigh index entry weight row ≤ℚ rate *ℚ weight s
 
--- fewer allowed rows shrink as well
-pub shrinks_fewer : {A : Type 0} {index : A → ℕ} {entry : A → ℚ} {active : ℕ → Bool} (More Fewer : ℕ → List A → Type 0) → ((s : ℕ) (row : List A) → Fewer s row → More s row)
-    → Shrinks index entry active More → Shrinks index entry active Fewer
-shrinks_fewer More Fewer inside K = record {
-  weight = K.weight;
-  rate = K.rate;
-  rate_nonneg = K.rate_nonneg;
-  rate_below = K.rate_below;
-  outside = K.outside;
-  at_least_half = K.at_least_half;
-  at_most_one = K.at_most_one;
-  entries = λ s row a ok. K.entries s row a (inside s row ok);
-  shrinks = λ s row a ok. K.shrinks s row a (inside s row ok);
-}
-
 -- ranks of active numbers that fall: each allowed row has an entry of at least eps at a smaller rank or outside
 pub record RanksFall {A : Type 0} (index : A → ℕ) (entry : A → ℚ) (active : ℕ → Bool) (Allowed : ℕ → List A → Type 0) (eps : ℚ) (rank : ℕ → ℕ) (most : ℕ) : Type 0 where
   pub eps_positive : 0ℚ <ℚ eps

@@ -188,14 +188,6 @@ pub written_compare-by : (x y : ℚ) (l r : ℤ) → Some l ≡ narrow (across x
 unfolding written_compare
 written_compare-by x y l r a b = ap Some (ap₂ int_cmp (narrow-some (across x y) l a).0 (narrow-some (across y x) r b).0 ∙ cmp_across x y) ∙ rw (← a, ← b) refl
 
-pub written_mul-kept : (x y : ℚ) (n d : ℤ) → Some n ≡ narrow (reduced_num x y *ℤ reduced_num y x) → Some d ≡ narrow (pos (reduced_den x y) *ℤ pos (reduced_den y x))
-    → Some (x *ℚ y) ≡ written_mul x y
-unfolding written_mul
-written_mul-kept x y n d a b =
-    let p = narrow-some (reduced_num x y *ℤ reduced_num y x) n a in
-    let q = narrow-some (pos (reduced_den x y) *ℤ pos (reduced_den y x)) d b in
-    sym (narrow_ℚ-kept (x *ℚ y) (subst (λ (z : ℤ). unsigned_abs z < 2 ^ 127) (sym (num-product x y)) p.1) (subst (λ (z : ℕ). z < 2 ^ 127) (sym (den-product x y)) q.1))
-
 pub written_mul-past_num : (x y : ℚ) → None ≡ narrow (reduced_num x y *ℤ reduced_num y x) → None ≡ written_mul x y
 unfolding written_mul
 written_mul-past_num x y a = sym (narrow_ℚ-past_num (x *ℚ y) (subst (λ (z : ℤ). 2 ^ 127 ≤ unsigned_abs z) (sym (num-product x y)) (narrow-none _ a)))

@@ -76,8 +76,3 @@ at-ok r o step x d e = ap (at_place r) (sym d ∙ ap result_ok e)
 
 pub at-err : {A R : Type 0} (r : R) (o : Option A) (step : Result A Wide) (w : Wide) → result_ok step ≡ o → step ≡ Err w → at_place r o ≡ Err r
 at-err r o step w d e = ap (at_place r) (sym d ∙ ap result_ok e)
-
--- the same of the whole answer
-pub at-answers : {A : Type 0} (kind : Kind) (s c : Option ℕ) (o : Option A) (step : Result A Wide) → result_ok step ≡ o → Answers (λ (x : A). x) (placed_at kind s c step) (at_place (place_of kind s c) o)
-at-answers kind s c o (Ok x) d = ap (at_place (place_of kind s c)) (sym d)
-at-answers kind s c o (Err w) d = ap (at_place (place_of kind s c)) (sym d)

@@ -9,7 +9,7 @@ use Rattle.mdp_math.specs.{Gcd.{gcd}, Rational.{ℚ, ratio}}
 use Rattle.mdp_math.proofs.{Laws.{same_is, is_ratio}, Order.{ratio-nonneg}, Written.{num-ratio_signed, den-ratio_signed}}
 use Rattle.mdp_num.specs.{Digits.{number}, Grammar.{Spells}}
 use Rattle.mdp_num.specs.Numeral.{Parts, Decimal, Quotient, limit, zeros_behind, significant, scaled, decimal_terms, quotient_terms, parts_of, terms_of, value_of, numeral_of}
-use Rattle.mdp_num.specs.{Meaning.{meaning, decimal_value, IsMeant, IsRefusedByShape, IsSplit, HasNoZero, AreWithinLimit, IsWithinLimit}, Value.{IsNarrow}}
+use Rattle.mdp_num.specs.{Meaning.{meaning, decimal_value, IsMeant, IsRefusedByShape, IsSplit, HasNoZero, AreWithinLimit, IsWithinLimit}}
 use Rattle.mdp_num.specs.{declared.errors.NumeralError.{NumeralError}, declared.errors.NumeralError.TheVariants.{Shape, ZeroDen, Large}}
 use Rattle.mdp_num.proofs.{Grammar.{sound, complete, chosen, eqb-is, digits-long}, Plain.{digit-at, digit-bounds}, Scale.{ten-le}}
 use Rattle.mdp_num.proofs.Zeros.{significant-some, significant-none, zeros-all, zeros-some, number_after-append}
@@ -318,6 +318,3 @@ value-within p h = record {
   num = (let e : unsigned_abs (ℚ.num (ratio (pos p.0) p.1)) ≡ p.0 / gcd p.0 p.1 = ap unsigned_abs (num-ratio_signed false p.0 p.1 h.some) in omega (arith, e, div-le_self p.0 (gcd p.0 p.1), h.num));
   den = omega (arith, den-ratio_signed false p.0 p.1 h.some, div-le_self p.1 (gcd p.0 p.1), h.den);
 }
-
-pub within-narrow : (x : ℚ) → IsWithinLimit x → IsNarrow x
-within-narrow x h = let p : limit < 2 ^ 127 = lit< tt in record { top = omega (arith, p, h.num); bottom = omega (arith, p, h.den) }

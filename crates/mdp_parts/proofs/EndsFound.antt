@@ -101,7 +101,3 @@ key-below m new allowed parts keys comp is s k h e =
       | inl some ↦ (let same = some-same k (get_or parts s 0) (rank_at keys s) e (at ∙ ap (λ b. cond b (Some (get_or parts s 0)) None) some) in omega (arith, same, b))
       | inr none ↦ absurd (none-some k (rank_at keys s) (at ∙ ap (λ b. cond b (Some (get_or parts s 0)) None) none) e)
     ]
-
--- where each choice is allowed, those of each end component are
-pub all_kept_by : (m : Mdp) (allowed : List (List Bool)) → ((s c : ℕ) → s < states_of m → c < length (choices_at m s) → allowed_at allowed s c ≡ true) → KeepsEnds m (allowed_at allowed)
-all_kept_by m allowed each set chosen a s c h is l e = each s c h l

@@ -2,7 +2,6 @@
 use Rattle.std.proofs.Common.{◌≡◌, ℕ, zero, suc, ◌<◌, ◌≤◌, inl, inr, Result, Ok, Err, sym, ◌∙◌, ap, subst, arith}
 use Rattle.mdp_math.specs.Result.{◌>>=◌}
 use Rattle.mdp_math.proofs.Numbers.{last_or}
-use Rattle.mdp_policy_iteration.specs.{Places.{Place}, Faults.{Answers}, Errors.{RoundError}}
 use Rattle.mdp_policy_iteration.proofs.Results.{ok_same, ok_part}
 use Rattle.mdp_policy.specs.Written.{in_turn}
 
@@ -36,10 +35,3 @@ module _ {A R : Type 0} (f : ℕ → A → Result A R) (start : A) where
       step n a.0 b (omega arith) (in_turn-keeps P k first step n a.0 (omega arith) a.1) a.2
 
 -- ---- errors
-
-pub answers_ok : {A B : Type 0} (f : A → B) (result : Result A RoundError) (x : A) (r : Result B Place) → result ≡ Ok x → r ≡ Ok (f x) → Answers f result r
-answers_ok f result x r q h = subst (λ (y : Result _ RoundError). Answers f y r) (sym q) h
-
-pub ok_of : {A B : Type 0} (f : A → B) (result : Result A RoundError) (x : A) (r : Result B Place) → Answers f result r → result ≡ Ok x → r ≡ Ok (f x)
-ok_of f (Ok y) x r h q = let same : y ≡ x = cc in subst (λ (y : _). r ≡ Ok (f y)) same h
-ok_of f (Err e) x r h q = cc

@@ -1,6 +1,6 @@
 -- Where a computation over numbers is refused, and what the errors of the code say of it.
 use Rattle.std.proofs.Common.{◌≡◌, ℕ, zero, suc, ◌<◌, ◌≤◌, ◌⊎◌, inl, inr, List, [], ◌∷◌, ◌++◌}
-use Rattle.std.proofs.Common.{length, Option, Some, None, Result, Ok, Err, refl, sym, ◌∙◌, ap, subst, arith}
+use Rattle.std.proofs.Common.{length, Some, None, Result, Ok, Err, refl, sym, ◌∙◌, ap, subst, arith}
 use Rattle.std.specs.Result.{result_ok}
 use Rattle.mdp_math.specs.{Rational.{ℚ}, Result.{◌>>=◌}}
 use Rattle.mdp_policy_iteration.specs.{Problem.{Problem, choices_at, choice_at, active_of, taken}, Candidates.{Best, compared}}
@@ -47,13 +47,6 @@ placed-err kind s c (Err w) e h = record { cause = w; step_is = refl; error_is =
 pub placed-ok : {A : Type 0} (kind : Kind) (s c : ℕ) (step : Result A Wide) (x : A) → placed_at kind s c step ≡ Ok x → step ≡ Ok x
 placed-ok kind s c (Ok y) x h = cc
 placed-ok kind s c (Err w) x h = cc
-
--- the same of the place in the definition
-pub at_place-ok : {A R : Type 0} (r : R) (o : Option A) (x : A) → o ≡ Some x → at_place r o ≡ Ok x
-at_place-ok r o x e = ap (at_place r) e
-
-pub at_place-err : {A R : Type 0} (r : R) (o : Option A) → o ≡ None → at_place r o ≡ Err r
-at_place-err r o e = ap (at_place r) e
 
 -- a placed error says so
 pub says : {B : Type 0} (kind : Kind) (s c : ℕ) (e : RoundError) (r : Result B Place) → e ≡ fault.TooWide (record { kind = kind; node = s; choice = c }) → r ≡ Err (record { kind = kind; node = s; choice = c })

@@ -1,5 +1,5 @@
 -- What the worth of a choice depends on: a row that is lent leads to its targets, and a written sum depends on the values there.
-use Rattle.std.proofs.Common.{◌≡◌, ℕ, ◌<◌, inl, Bool, true, ◌||◌, ◌==◌, List, [], ◌∷◌, refl, sym, ◌∙◌, ap, subst, arith, eq-eqb}
+use Rattle.std.proofs.Common.{◌≡◌, ℕ, ◌<◌, inl, Bool, true, ◌||◌, ◌==◌, List, [], ◌∷◌, refl, sym, ◌∙◌, ap, subst, eq-eqb}
 use Rattle.std.proofs.lemmas.List.Elements.{All-from_recursion}
 use Rattle.std.specs.List.{All, AllByRecursion}
 use Rattle.mdp_math.specs.Rational.{ℚ}
@@ -7,7 +7,7 @@ use Rattle.mdp_math.proofs.Booleans.{or-true}
 use Rattle.mdp_spec.specs.{Mdp.{Entry}, Row.{entries}}
 use Rattle.mdp_rows.specs.Preds.{is_among}
 use Rattle.mdp_elim.proofs.Others.{written_sum-agree}
-use Rattle.mdp_policy_iteration.specs.{Problem.{Problem, Choice, stop, go, plain, count, choice_at}, Reads.{AgreeAt, LeadsTo, Reads}}
+use Rattle.mdp_policy_iteration.specs.{Problem.{Problem, Choice, go, plain, count, choice_at}, Reads.{AgreeAt, LeadsTo, Reads}}
 
 -- ---- a row that is lent
 
@@ -45,7 +45,3 @@ module _ (p : Problem) (s c : ℕ) (nodes : List ℕ) (below : All (λ t. t < co
   -- by the row that is lent with these targets
   pub reads-lent : (candidate : Bool) (r : ℚ) (row : List Entry) (ps : List ℚ) → choice_at p s c ≡ plain candidate (go r row) → entries nodes ps ≡ row → Reads p s c nodes
   reads-lent candidate r row ps is lent = reads-plain candidate r row is (subst (λ (row : List Entry). All (HoldTarget nodes) row) lent (entries-among nodes ps))
-
--- one that stops reads nothing
-pub reads-stop : (p : Problem) (s c : ℕ) (candidate : Bool) (v : ℚ) → choice_at p s c ≡ plain candidate (stop v) → Reads p s c []
-reads-stop p s c candidate v is = reads-by p s c [] (λ k d l. absurd (omega (arith, l))) (plain candidate (stop v)) is tt (λ x y agree. refl)

@@ -21,11 +21,6 @@ place_of_times q (x ∷ xs) h = elim (cases_eq x q) [
   | inr other ↦ (let e = times-other q x xs other in let w = place_of_times q xs (omega (arith, h, e)) in (suc w.0, omega (arith, w.1), w.2))
 ]
 
-pub times_at : (xs : List ℕ) (k : ℕ) → k < length xs → 0 < times (get_or xs k 0) xs
-times_at [] k h = absurd (omega (arith, h))
-times_at (x ∷ xs) zero h = let e = times-same x xs in omega (arith, e)
-times_at (x ∷ xs) (suc k) h = let e = times-cons (get_or xs k 0) x xs in let l = times_at xs k (omega (arith, h)) in omega (arith, e, l)
-
 -- the numbers of a range that pass a test, once each
 pub record AreThose (p : ℕ → Bool) (a n : ℕ) (xs : List ℕ) : Type 0 where
   pub once : (q : ℕ) → a ≤ q → q < a + n → p q ≡ true → times q xs ≡ 1

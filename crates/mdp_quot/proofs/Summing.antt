@@ -35,9 +35,6 @@ entries_by (t ∷ ts) f = ap (λ (xs : List Entry). record { target = t; prob = 
 
 -- ---- no entries
 
-times-none : (q : ℕ) → times q [] ≡ 0
-times-none q = refl
-
 is_zero-true : le_ℚ 0ℚ 0ℚ ≡ true
 is_zero-true = elim (cases_Bool (le_ℚ 0ℚ 0ℚ)) [ inl e ↦ e | inr e ↦ absurd (clash_ℚ 0ℚ 0ℚ (gt_of_test 0ℚ 0ℚ e) (≤ℚ_refl 0ℚ)) ]
 

@@ -64,8 +64,11 @@ impl Choices {
         requires one_each { length rewards.now ≡ length self.old.names }
         requires few_rows { length self.old.choices < 2 ^ 32 - 2 }
         requires few_entries { sum_by (λ c. length c.row) self.old.choices + length row.now < 2 ^ 32 }
-        ensures appended { OnOk result (self.new ≡ record { names = self.old.names; choices = self.old.choices
-            ++ record { row = kept (row_of row.now); rewards = rewards.now } ∷ [] }) }
+        ensures appended { OnOk result (self.new ≡ record {
+          names = self.old.names;
+          choices = self.old.choices
+              ++ record { row = kept (row_of row.now); rewards = rewards.now } ∷ [];
+        }) }
         ensures unchanged { OnErr result (self.new ≡ self.old) }
     {
         self.rewards.reserve(rewards.len())?;

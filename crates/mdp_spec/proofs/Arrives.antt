@@ -1,9 +1,9 @@
 -- Trees that arrive: where the choices that meet a rule lead from inside states to inside states alone and to a smaller rank, until a goal,
 -- each deep tree that keeps the rule meets a goal with nearly all its paths: the share of those that haven't met one fades.
-use Rattle.std.proofs.Common.{◌≡◌, ℕ, ◌<◌, ◌≤◌, Bool, true, false, cond, ltb, lt-ltb, ltb-true, List, length, refl, sym, ◌∙◌, ap, subst, pos}
+use Rattle.std.proofs.Common.{◌≡◌, ℕ, ◌<◌, ◌≤◌, Bool, true, false, cond, ltb, lt-ltb, ltb-true, List, length, sym, ◌∙◌, ap, subst, pos}
 use Rattle.std.specs.List.{All, Any}
 use Rattle.mdp_math.specs.{Rational.{ℚ, of_int, ratio, ◌+ℚ◌, ◌*ℚ◌, ◌-ℚ◌, ◌≤ℚ◌}, Power.{pow_ℚ}}
-use Rattle.mdp_math.proofs.{Weight.{Shrinks}, Order.{0ℚ, 1ℚ, ≤ℚ_refl, ≤ℚ_of_eq, ≤ℚ_of_lt, ≤ℚ_trans}, Ring.{◌⊕◌, ⊖, lit, ring}, Laws.{rat_ring, one-*ℚ}}
+use Rattle.mdp_math.proofs.{Weight.{Shrinks}, Order.{0ℚ, 1ℚ, ≤ℚ_refl, ≤ℚ_of_eq, ≤ℚ_of_lt, ≤ℚ_trans}, Laws.{one-*ℚ}}
 use Rattle.mdp_math.proofs.{Whole.{one-pos}, Kernel.{weigh-ge_const}}
 use Rattle.mdp_spec.specs.{Mdp.{Entry, Mdp, states_of, choices_at, row_at}, Row.{IsRow, IsMdp}, Tree.{Tree, is_marked}, Hit.{hit}}
 use Rattle.mdp_spec.proofs.{Rows.{probs_nonneg, row_weigh}, Keeping.{Keeps}, Close.{RowsShrink, deficit-le, deficit-fades}, Reach.{all_three, third}}
@@ -12,9 +12,6 @@ use Rattle.mdp_spec.proofs.Ranks.{shrinks_of_ranks}
 -- the share of the paths of a tree that haven't met a goal
 abbrev pub stay : Mdp → List Bool → ℕ → ℕ → Tree → ℕ → ℚ
 stay m goals u n t s = 1ℚ -ℚ hit m goals u n t s
-
-pub hit-stay : (m : Mdp) (goals : List Bool) (u n : ℕ) (t : Tree) (s : ℕ) → hit m goals u n t s +ℚ stay m goals u n t s ≡ 1ℚ
-hit-stay m goals u n t s = ring rat_ring 1 (λ h. h ⊕ (lit (pos 1) ⊕ ⊖ h)) (λ h. lit (pos 1)) refl (hit m goals u n t s)
 
 -- a state of the model that is no goal and inside
 abbrev pub under_way : Mdp → List Bool → (ℕ → Bool) → ℕ → Bool

@@ -1,8 +1,8 @@
 -- A row that is added entry by entry, to the sums of a flow or to a number.
-use Rattle.std.proofs.{Common.{◌≡◌, ℕ, ◌+◌, ◌<◌, Bool, List, ◌∷◌, length, drop, get_or, Option, Some, None, sym, ap, ◌∙◌}, lemmas.List.{drop_more}}
+use Rattle.std.proofs.{Common.{◌≡◌, ℕ, ◌+◌, ◌<◌, Bool, List, ◌∷◌, length, drop, get_or, Option, Some, ap, ◌∙◌}, lemmas.List.{drop_more}}
 use Rattle.std.specs.Option.{option_and_then}
-use Rattle.mdp_math.specs.{Rational.{ℚ}, Written.{written_add, written_mul}}
-use Rattle.mdp_spec.specs.{Mdp.{value_at}, Row.{entries}, Written.{written_sum}}
+use Rattle.mdp_math.specs.{Rational.{ℚ}}
+use Rattle.mdp_spec.specs.{Row.{entries}}
 use Rattle.mdp_subsystem_rules.specs.Sums.{FlowSums, with_entry, with_row}
 
 pub row_next : (goals : List Bool) (amount : ℚ) (sums t : FlowSums) (ts : List ℕ) (ps : List ℚ) (i : ℕ) (d : ℚ) → i < length ts → i < length ps
@@ -12,13 +12,3 @@ row_next goals amount sums t ts ps i d h k e =
     ap (λ (xs : List ℕ). with_row goals amount sums (entries xs (drop i ps))) (drop_more ts i 0 h)
     ∙ ap (λ (qs : List ℚ). with_row goals amount sums (entries (get_or ts i 0 ∷ drop (i + 1) ts) qs)) (drop_more ps i d k)
     ∙ ap (λ (o : Option FlowSums). option_and_then (λ s. with_row goals amount s (entries (drop (i + 1) ts) (drop (i + 1) ps))) o) e
-
--- a written sum over a row stops where a term can't be added
-pub sum_stops : (z : List ℚ) (acc term : ℚ) (ts : List ℕ) (ps : List ℚ) (i : ℕ) (d : ℚ) → i < length ts → i < length ps
-    → Some term ≡ written_mul (get_or ps i d) (value_at z (get_or ts i 0)) → None ≡ written_add acc term
-    → None ≡ written_sum z acc (entries (drop i ts) (drop i ps))
-sum_stops z acc term ts ps i d h k e stops =
-    ap (λ (o : Option ℚ). option_and_then (λ sum. written_sum z sum (entries (drop (i + 1) ts) (drop (i + 1) ps))) o) stops
-    ∙ ap (λ (o : Option ℚ). option_and_then (λ term. option_and_then (λ sum. written_sum z sum (entries (drop (i + 1) ts) (drop (i + 1) ps))) (written_add acc term)) o) e
-    ∙ sym (ap (λ (xs : List ℕ). written_sum z acc (entries xs (drop i ps))) (drop_more ts i 0 h)
-    ∙ ap (λ (qs : List ℚ). written_sum z acc (entries (get_or ts i 0 ∷ drop (i + 1) ts) qs)) (drop_more ps i d k))

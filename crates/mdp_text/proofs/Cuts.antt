@@ -47,10 +47,6 @@ words_one k text e le = slice_split_none is_blank text (λ i d lt. fails_before_
 pub words_count : (text : List ℕ) (n : ℕ) → n ≡ count_by is_blank text → n + 1 ≡ length (words text)
 words_count text n e = omega (arith, length-slice_split is_blank text)
 
--- a text has a word
-pub words_some : (text : List ℕ) → 0 < length (words text)
-words_some text = omega (arith, length-slice_split is_blank text)
-
 -- a text of one word is that word
 pub words_alone : (text : List ℕ) → length (words text) ≡ 1 → text ≡ first_of (words text)
 words_alone text one = sym (join_with_byte-slice_split 32 text) ∙ by (words text) one

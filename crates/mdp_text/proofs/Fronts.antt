@@ -9,9 +9,6 @@ split-keeps a b h = sym (take-append-drop (length a) b) ∙ ap (λ (x : List ℕ
 pub keeps-split : (a b t : List ℕ) → b ≡ a ++ t → Keeps a b
 keeps-split a b t e = ap (take (length a)) e ∙ take-append_seam a t
 
-pub keeps_self : (a : List ℕ) → Keeps a a
-keeps_self a = keeps-split a a [] (sym (append-nil a))
-
 pub keeps_more : (a b c : List ℕ) → Keeps a b → Keeps b c → Keeps a c
 keeps_more a b c p q =
     keeps-split a c (drop (length a) b ++ drop (length b) c) (split-keeps b c q ∙ ap (λ (x : List ℕ). x ++ drop (length b) c) (split-keeps a b p) ∙ append_assoc a

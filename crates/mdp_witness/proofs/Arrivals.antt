@@ -45,10 +45,5 @@ pub visits-count : (rows : List (List Entry)) (set : List Bool) (start n : ℕ) 
 visits-count rows set start n (Ok y) e h = h.len ∙ e
 visits-count rows set start n (Err e) l h = tt
 
--- an error at a step is one of all steps
-pub err_then : {A B : Type 0} {C D : Type 0} (f : A → C) (g : B → D) (e : ElimError) (r : Result C ℕ) (next : C → Result D ℕ) → Answers f (Err e) r → Answers g (Err e) (r >>= next)
-err_then f g (refused.TooWide t) r next h = ap (λ o. o >>= next) h
-err_then f g refused.Memory r next h = tt
-
 pub answers_wide : {A B : Type 0} (f : A → B) (e : ElimError) (s : ℕ) (r : Result B ℕ) → e ≡ refused.TooWide s → Answers f (Err e) r → r ≡ Err s
 answers_wide f e s r is h = subst (λ (e : ElimError). Answers f (Err e) r) is h

@@ -1,5 +1,5 @@
 -- What ends a part of the query ends the query.
-use Rattle.std.proofs.Common.{◌≡◌, ℕ, List, Result, Ok, Err, IfOk, IfErr, sym, ap, ◌∙◌, subst}
+use Rattle.std.proofs.Common.{◌≡◌, ℕ, List, Result, Ok, Err, IfOk, IfErr, ap, ◌∙◌}
 use Rattle.mdp_math.specs.Rational.{ℚ}
 use Rattle.mdp_reach.specs.Query.{Answer}
 use Rattle.mdp_witness.specs.{Query.{PlainSubsystem, Refusal, below}, Code.{Answers, IfBelow}, declared.subsystem.WitnessError.{WitnessError}}
@@ -12,11 +12,6 @@ goes-through view Part Ends (Ok found) h a = h _ a
 goes-through view Part Ends (Err (refused.Below v)) h a = h _ a
 goes-through view Part Ends (Err (refused.TooWide w)) h a = (a.0, a.1, h _ a.2)
 goes-through view Part Ends (Err refused.Memory) h a = tt
-
--- an error that is returned
-pub answers-err : {A : Type 0} (view : A → PlainSubsystem) (Ends : Result PlainSubsystem Refusal → Type 0) (result : Result A WitnessError) (e : WitnessError) → result ≡ Err e
-    → Answers view Ends (Err e) → Answers view Ends result
-answers-err view Ends result e q h = subst (λ (x : Result _ WitnessError). Answers view Ends x) (sym q) h
 
 -- an error of a part, whatever the part gives
 pub passed-on : {A B : Type 0} (f : A → PlainSubsystem) (g : B → PlainSubsystem) (Ends : Result PlainSubsystem Refusal → Type 0) (e : WitnessError) → Answers f Ends (Err e) → Answers g Ends (Err e)

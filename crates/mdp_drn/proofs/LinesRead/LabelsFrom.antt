@@ -2,10 +2,10 @@
 use Rattle.std.proofs.Common.{◌≡◌, ℕ, zero, suc, ◌-◌, ◌<◌, ◌≤◌, Bool, true, false, cond, ltb, leb, not, min, ◌==◌, ◌||◌, ◌&&◌, length-take, List, []}
 use Rattle.std.proofs.{Common.{◌∷◌, ◌++◌, length, Result, Ok, Err, refl, sym, ap, ◌∙◌, append_assoc, arith, length-drop}, lemmas.List.{append-nil}}
 use Rattle.std.proofs.{lemmas.List.Sums.{prefix_len-le-length}, lemmas.Bool.Decides.{nat_tests}}
-use Rattle.std.specs.{List.{prefix_len}, Borrow.{Bor}}
+use Rattle.std.specs.{List.{prefix_len}}
 use Rattle.mdp_drn.specs.{declared.error.DrnKind.{DrnKind}, declared.error.DrnKind.TheVariants.{Label}, Lines.{is_blank, without_blanks_before}}
 use Rattle.mdp_drn.specs.Labels.{is_quote, before_first, from_first, quoted_at, quoted, bare, label_at, labels_within, labels_in, is_sized, begins_blank}
-use Rattle.mdp_drn.specs.{Outcome.{◌>>=◌}, Parsing.{first_label, told, both_now}}
+use Rattle.mdp_drn.specs.{Outcome.{◌>>=◌}, Parsing.{first_label}}
 
 -- the labels of bytes without blanks before them
 abbrev pub labels_from : List ℕ → Result (List (List ℕ)) DrnKind
@@ -124,10 +124,6 @@ label-takes (c ∷ bytes) name behind some is = omega (arith, label-leaves c byt
 -- a label's byte count, as tests
 pub some-left : (n : ℕ) (b : Bool) → b ≡ (n == 0) → b ≡ false → 0 < n
 some-left n b is none = grind (arith, nat_tests)
-
-pub told-ok : (r : Result (Bor (List ℕ) × Bor (List ℕ)) DrnKind) (x : Bor (List ℕ) × Bor (List ℕ)) (said : Result (List ℕ × List ℕ) DrnKind)
-    → r ≡ Ok x → told both_now r ≡ said → said ≡ Ok (x.0.now, x.1.now)
-told-ok r x said is h = sym h ∙ ap (λ (s : Result (Bor (List ℕ) × Bor (List ℕ)) DrnKind). told both_now s) is
 
 pub labels_in-from : (bytes : List ℕ) → labels_in bytes ≡ labels_from (without_blanks_before bytes)
 unfolding labels_in

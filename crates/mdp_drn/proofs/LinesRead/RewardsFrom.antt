@@ -11,13 +11,6 @@ use Rattle.mdp_drn.proofs.LinesRead.Listing.{map-at}
 abbrev pub RewardsFrom : List (List ℕ) → List (List ℕ) → List ℚ → Type 0
 RewardsFrom all texts done = each_reward all ≡ (each_reward texts >>= λ others. Ok (done ++ others))
 
-pub none_done : (all : List (List ℕ)) → RewardsFrom all all []
-none_done all = by (each_reward all)
-  where
-    by : (r : Result (List ℚ) DrnKind) → r ≡ (r >>= λ others. Ok ([] ++ others))
-    by (Ok x) = refl
-    by (Err e) = refl
-
 pub one_done : (all texts : List (List ℕ)) (text : List ℕ) (done : List ℚ) (v : ℚ) → reward_of text ≡ Ok v → RewardsFrom all (text ∷ texts) done → RewardsFrom all texts (done ++ v ∷ [])
 one_done all texts text done v is so_far =
     so_far ∙ ap (λ (r : Result ℚ DrnKind). (r >>= λ first. each_reward texts >>= λ others. Ok (first ∷ others)) >>= λ others. Ok (done ++ others)) is ∙ by (each_reward texts)

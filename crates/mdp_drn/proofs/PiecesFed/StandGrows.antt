@@ -14,10 +14,6 @@ long draft = record { kind = LongLine; line = named (draft.lines + 1) }
 
 -- ---- lines after lines
 
-bind-assoc : {A B C E : Type 0} (r : Result A E) (f : A → Result B E) (g : B → Result C E) → (r >>= f) >>= g ≡ (r >>= λ x. f x >>= g)
-bind-assoc (Ok x) f g = refl
-bind-assoc (Err e) f g = refl
-
 pub after_lines-append : (rule : RowRule) (d : Document) (xs ys : List (List ℕ)) → after_lines rule d (xs ++ ys) ≡ (after_lines rule d xs >>= λ e. after_lines rule e ys)
 after_lines-append rule d [] ys = refl
 after_lines-append rule d (x ∷ xs) ys = by (at_line rule d x) (λ e. after_lines-append rule e xs ys)

@@ -10,7 +10,7 @@ use Rattle.mdp_rows.specs.Draft.{Draft, choice_closed, choice_opened, after_entr
 use Rattle.mdp_drn.specs.declared.error.DrnKind.TheVariants as kind
 use Rattle.mdp_drn.specs.{Lines.{is_blank, is_line_feed, without_blanks_before, is_comment, content}, Labels.{begins_blank}}
 use Rattle.mdp_drn.specs.Body.{Body, has_digits, is_state_line, is_action_line, bracket_behind, action_read, value_text, entry_read, model_line}
-use Rattle.mdp_drn.specs.Writing.{joined, bracket_text}
+use Rattle.mdp_drn.specs.Writing.{joined}
 use Rattle.mdp_drn.proofs.TextWritten.Bytes.{Pass, Fail, pass-append, pass-weaken, any-middle, behind-last, ends-with, filled}
 use Rattle.mdp_drn.proofs.TextWritten.Lines.{EndsWell, ends-append, ends-byte, content-tab, content-tabs, before-well, before-space}
 use Rattle.mdp_drn.proofs.TextWritten.Numbers.{IsDecimal, is-decimal, decimal-digits, decimal-short, limit-wide, is_spelling_byte, IsSpelling, IsValueText, begins-other}
@@ -28,9 +28,6 @@ behind_action c inside = 32 ∷ (decimal c ++ bracket_end inside)
 
 abbrev pub action_text : ℕ → List ℕ → List ℕ
 action_text c inside = 97 ∷ 99 ∷ 116 ∷ 105 ∷ 111 ∷ 110 ∷ behind_action c inside
-
-pub action_text-is : (c : ℕ) (values : List (List ℕ)) → 9 ∷ codes "action " ++ decimal c ++ bracket_text values ≡ 9 ∷ action_text c (joined commas values)
-action_text-is c values = refl
 
 action-ends : (c : ℕ) (inside : List ℕ) → EndsWell (action_text c inside)
 action-ends c inside =

@@ -6,7 +6,7 @@ use Rattle.mdp_math.specs.Rational.{ℚ, of_int}
 use Rattle.mdp_num.specs.Value.{spelling}
 use Rattle.mdp_spec.specs.{Row.{entries}, Mdp.{Choice, Mdp, states_of, state_at, choices_at, no_choice, no_state}}
 use Rattle.mdp_rows.specs.Limits.{IsStateWithin, IsModel}
-use Rattle.mdp_drn.specs.Writing.{line, entry_text, joined, label_text, labels_text, row_text, choices_text, states_text}
+use Rattle.mdp_drn.specs.Writing.{line, joined, label_text, labels_text, row_text, choices_text, states_text}
 use Rattle.mdp_drn.specs.Pieces.{separator_text, separated, zeros_of, count_text, choice_text, state_text}
 use Rattle.mdp_drn.proofs.TextWritten.Models.{Each, AreBelow, AreLabelsBelow, sight-below}
 
@@ -82,11 +82,6 @@ label-known m h s lt places same i l =
     each-at (λ k. k < length m.labels) places 0 i l (subst (AreBelow (length m.labels)) (sym same) below)
 
 -- ---- rows, choices and states
-
-pub row-more : (targets : List ℕ) (probs : List ℚ) (i : ℕ) (t : ℕ) (p : ℚ) → i < length targets → length probs ≡ length targets
-    → row_text (entries (drop i targets) (drop i probs))
-    ≡ line (entry_text (record { target = get_or targets i t; prob = get_or probs i p })) ++ row_text (entries (drop (i + 1) targets) (drop (i + 1) probs))
-row-more targets probs i t p lt same = rw (add-one, drop-cons targets i t lt, drop-cons probs i p (let l : i < length probs = omega arith in l)) refl
 
 pub row-end : (targets : List ℕ) (probs : List ℚ) (i : ℕ) → length targets ≤ i → row_text (entries (drop i targets) (drop i probs)) ≡ []
 row-end targets probs i le = rw (drop_all i targets le) refl

@@ -75,9 +75,6 @@ pub record IsDenFrom (row : List Given) (i d : ℕ) : Type 0 where
 drop_all : (row : List Given) (i : ℕ) → i ≡ length row → drop i row ≡ []
 drop_all row i e = rw e (drop-length row)
 
-pub den_start : (row : List Given) (i : ℕ) → i ≡ length row → IsDenFrom row i 1
-den_start row i e = record { is = ap (λ (r : List Given). row_den (row_of r)) (sym (drop_all row i e)); some = omega arith; within = omega arith }
-
 drop_at : (row : List Given) (i : ℕ) (g : Given) → i < length row → drop i row ≡ get_or row i g ∷ drop (i + 1) row
 drop_at row i g h = rw add-one (drop-cons row i g h)
 
@@ -103,8 +100,3 @@ den_wide row i d g h e so w =
     let s = den_step row i d g h e so in
     let l : row_den (row_of (drop i row)) ≤ row_den (row_of row) = le_of_dvd (row_den-pos (row_of row)) (rest-divides row i) in
     omega arith)
-
-pub den_end : (row : List Given) (i d : ℕ) → i ≡ 0 → IsDenFrom row i d → Some d ≡ within_limit (row_den (row_of row))
-den_end row i d e so =
-    let s : d ≡ row_den (row_of row) = so.is ∙ ap (λ (k : ℕ). row_den (row_of (drop k row))) e in
-    rw (← s) (in_limit d so.within)

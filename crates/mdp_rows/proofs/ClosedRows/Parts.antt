@@ -1,5 +1,5 @@
 -- A row's values in parts of a common denominator.
-use Rattle.std.proofs.Common.{◌≡◌, ℕ, zero, suc, ◌+◌, ◌*◌, ◌/◌, ◌<◌, ◌≤◌, ltb, lt-ltb, le-ltb, Option, Some, None, if◌then◌else◌, Bool, true, false, T, eqb, eq-eqb}
+use Rattle.std.proofs.Common.{◌≡◌, ℕ, zero, suc, ◌+◌, ◌*◌, ◌/◌, ◌<◌, ◌≤◌, ltb, lt-ltb, Option, Some, None, if◌then◌else◌, Bool, true, false, T, eqb, eq-eqb}
 use Rattle.std.proofs.Common.{eqb→eq, zero-mul, List, [], ◌∷◌, length, take, get_or, ℤ, pos, ◌*ℤ◌, ◌≤ℤ◌, unsigned_abs, refl, sym, ap, ap₂, subst, ◌∙◌, arith}
 use Rattle.std.proofs.{lemmas.Int.{ints}, lemmas.List.Sums.{sum_by-cons, sum_by_more_le}, Math.Seq.{take-length}}
 use Rattle.std.specs.{Int.{◌∣◌}, List.{AllByRecursion}}
@@ -74,9 +74,6 @@ sum_within d n = if ltb (2 * d) n then None else Some n
 pub sum_past : (d n : ℕ) → 2 * d < n → None ≡ sum_within d n
 sum_past d n h = ap (λ (b : Bool). if b then None else Some n) (sym (lt-ltb (2 * d) n h))
 
-pub sum_kept : (d n : ℕ) → n ≤ 2 * d → Some n ≡ sum_within d n
-sum_kept d n h = ap (λ (b : Bool). if b then None else Some n) (sym (le-ltb (2 * d) n h))
-
 some_sum : (b : Bool) (d m n : ℕ) → (b ≡ false → m ≤ 2 * d) → Some n ≡ (if b then None else Some m) → (n ≡ m) × (m ≤ 2 * d)
 some_sum true d m n h e = absurd cc
 some_sum false d m n h e = (cc, h refl)
@@ -139,8 +136,3 @@ so_far_past row d i g n h is f past =
 
 taken : (row : List Given) (i : ℕ) → i ≡ length row → take i row ≡ row
 taken row i e = rw e (take-length row)
-
-pub all_parts : (row : List Given) (d i n : ℕ) → i ≡ length row → n ≡ parts d (take i row) → n ≤ 2 * d → Some n ≡ sum_within d (parts d row)
-all_parts row d i n s f h =
-    let e : n ≡ parts d row = f ∙ ap (parts d) (taken row i s) in
-    rw (← e) (sum_kept d n h)

@@ -6,14 +6,11 @@ use Rattle.mdp_math.specs.Rational.{ℚ}
 use Rattle.mdp_num.specs.Meaning.{IsWithinLimit}
 use Rattle.mdp_spec.specs.{Mdp.{Entry, Choice, State, Mdp, states_of, state_at, no_state}, Row.{entries}}
 use Rattle.mdp_rows.specs.Limits.{known_after, all_below, in_order_of_sight, IsModel}
-use Rattle.mdp_rows.specs.Draft.{Draft, after_state, after_label, after_choice, after_entry, ◌>>=◌}
+use Rattle.mdp_rows.specs.Draft.{Draft, after_state, after_choice, after_entry, ◌>>=◌}
 use Rattle.mdp_rows.specs.{Replay.{no_rewards, with_labels, with_entries, with_choices, with_states}, declared.error.RowsError.{RowsError}}
 use Rattle.mdp_rows.proofs.{Calls.Steps.{ok_same, then_ok}, SoundCalls.Labels.{below_head, below_tail, known_by-le, known_by-total}}
 
 -- ---- one step, and the others after it
-
-pub label_first : (names : List (List ℕ)) (l : ℕ) (rest : List ℕ) (d n : Draft) → after_label d (get_or names l []) ≡ Ok n → with_labels names (l ∷ rest) d ≡ with_labels names rest n
-label_first names l rest d n e = ap (λ (r : Result Draft RowsError). r >>= with_labels names rest) e
 
 pub entry_first : (x : Entry) (rest : List Entry) (d n : Draft) → after_entry d x.target x.prob ≡ Ok n → with_entries (x ∷ rest) d ≡ with_entries rest n
 entry_first x rest d n e = ap (λ (r : Result Draft RowsError). r >>= with_entries rest) e

@@ -127,10 +127,6 @@ unfolding table_in
 same_choices c rows rewards v r x is =
     same_table _ _ refl (ap₂ (λ (a : List (List Entry)) (b : List ℚ). with_rewards (length c.names.items) a b) r x) ∙ is
 
-pub same_are_choices : (c : Inside) (rows : List (List Entry)) (rewards : Vec ℚ) → rows ≡ c.rows → rewards.items ≡ c.rewards.items → AreChoices c
-    → AreChoices (record c { rows = rows; rewards = rewards })
-same_are_choices c rows rewards r x ok = record { names = ok.names; rewards = rw (r, x) ok.rewards }
-
 module _ (c : Inside) (v : ChoiceTable) (rows : List (List Entry)) (rewards : Vec ℚ) (row : List Entry) (given : List ℚ) (ok : AreChoices c) (is : table_in c ≡ v)
     (as_many : length given ≡ length v.names)
     (more : rows ≡ c.rows ++ row ∷ []) (added : rewards.items ≡ c.rewards.items ++ given) where
@@ -160,9 +156,6 @@ module _ (c : Inside) (v : ChoiceTable) (rows : List (List Entry)) (rewards : Ve
 pub no_choices : (c : Inside) → c.rows ≡ [] → table_in c ≡ record { names = bytes_of c.names.items; choices = [] }
 unfolding table_in
 no_choices c r = same_table _ _ refl (ap (λ (a : List (List Entry)). with_rewards (length c.names.items) a c.rewards.items) r)
-
-pub are_no_choices : (c : Inside) → AreRewardNames (bytes_of c.names.items) → c.rows ≡ [] → c.rewards.items ≡ [] → AreChoices c
-are_no_choices c n r x = record { names = n; rewards = rw (r, x) (let e : 0 ≡ 0 * length c.names.items = omega arith in e) }
 
 pub name_at : (names : List (Vec ℕ)) (m : ℕ) (d : Vec ℕ) → m < length names → (let v : Vec ℕ = get_or names m d in v.items) ≡ get_or (bytes_of names) m []
 name_at [] m d h = absurd (omega arith)

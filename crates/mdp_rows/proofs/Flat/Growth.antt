@@ -35,10 +35,6 @@ ascend-le : (a : ℕ) (places : List ℕ) (end : ℕ) → Ascend a places end �
 ascend-le a [] end h = h
 ascend-le a (b ∷ places) end h = let k = ascend-le b places end h.1 in omega (arith, h.0, k)
 
-pub last-le : (a : ℕ) (places : List ℕ) (end : ℕ) → Ascend a places end → last_of a places ≤ end
-last-le a [] end h = h
-last-le a (b ∷ places) end h = last-le b places end h.1
-
 pub ascend_from : (a : ℕ) (places : List ℕ) (end : ℕ) → ((i : ℕ) → suc i < length (a ∷ places) → get_or (a ∷ places) i 0 ≤ get_or (a ∷ places) (suc i) 0)
     → get_or (a ∷ places) (length places) 0 ≤ end → Ascend a places end
 ascend_from a [] end h k = k

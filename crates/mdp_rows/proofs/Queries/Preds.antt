@@ -21,9 +21,6 @@ pub record IsLed (m : Mdp) (old new : List (List Pred)) (pairs : List Pred) : Ty
   pub count : length new ≡ length old
   pub at : (t : ℕ) → t < length old → get_or new t [] ≡ get_or old t [] ++ leading m t pairs
 
-pub none_pushed : (old : List (List Pred)) (pred : Pred) → IsPushed old old [] pred
-none_pushed old pred = record { count = refl; at = λ t h. sym (append-nil (get_or old t [])) }
-
 case-eq : (t x : ℕ) → (t ≡ x) ⊎ (t ≢ x)
 case-eq t x = elim (cases_lt t x) [
   | inl l ↦ inr (omega arith)
@@ -56,9 +53,6 @@ one_pushed old now new targets i x pred was h is below fresh e = record {
             ap (λ b. get_or old t [] ++ cond b (pred ∷ []) []) (sym (or_false (is_among t (take i targets)) (get_or targets i 0 == t) (ne_eqb _ _ (λ e. other (sym (is ∙ e))))))
       ]);
 }
-
-pub none_led : (m : Mdp) (old : List (List Pred)) → IsLed m old old []
-none_led m old = record { count = refl; at = λ t h. sym (append-nil (get_or old t [])) }
 
 pub more_led : (m : Mdp) (old now new : List (List Pred)) (pairs more : List Pred) → IsLed m old now pairs → length new ≡ length now
     → ((t : ℕ) → t < length now → get_or new t [] ≡ get_or now t [] ++ leading m t more) → IsLed m old new (pairs ++ more)
