@@ -30,7 +30,7 @@ SomeTreePasses m stay goals z s = (n u : ℕ) × (t : Tree) × IsStrategy m u n 
 abbrev pub DeepTreesStayBelow : Mdp → Option (List Bool) → List Bool → List ℚ → ℕ → Type 0
 DeepTreesStayBelow m stay goals z s = (q : ℕ) × (1 ≤ q) × ((n : ℕ) → (u : ℕ) × (t : Tree) × IsStrategy m u n t s × (comes m stay goals u n t s +ℚ part q ≤ℚ value_at z s))
 
--- the change that raises a value is a better choice, and so is the one that lowers it
+-- at the change that raises a value some tree passes it, and at the one that lowers a value deep trees stay below it
 abbrev pub Raises : Mdp → Option (List Bool) → List Bool → Answer → Type 0
 Raises m stay goals v = (change : Change) → v.up ≡ Some change → SomeTreePasses m stay goals v.values change.state
 
