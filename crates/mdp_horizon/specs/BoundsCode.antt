@@ -1,10 +1,9 @@
 -- The types of the code, as contracts see them.
 use Rattle.std.specs.{Prelude.{◌≡◌, ℕ, ◌<◌, ◌^◌, List, map, length, All, Option, Some, ℤ, unsigned_abs}, List.{range_with_len}}
 use Rattle.mdp_spec.specs.Mdp.{Mdp, states_of}
-use Rattle.mdp_horizon.specs.{Objective.{Objective}, Objective.Objective.{until, total}, Scaled.{Scaled}, Columns.{scaled_state}}
+use Rattle.mdp_horizon.specs.{Objective.{Objective}, Scaled.{Scaled}, Columns.{scaled_state}}
 use Rattle.mdp_horizon.specs.{declared.choice.ScaledChoice.{ScaledChoice}, declared.choice.ShortChoice.{ShortChoice}, declared.choice.Choices.{Choices}}
-use Rattle.mdp_horizon.specs.{declared.leader.ShortLeader.{ShortLeader}, declared.leader.Leader.{Leader}, declared.bounds_objective.Objective.{Objective as Asked}}
-use Rattle.mdp_horizon.specs.declared.bounds_objective.Objective.TheVariants.{Until, Total}
+use Rattle.mdp_horizon.specs.{declared.leader.ShortLeader.{ShortLeader}, declared.leader.Leader.{Leader}}
 use Rattle.mdp_horizon.specs.{declared.choice.Term.{Term}, declared.choice.Terms.{Terms}, declared.column.Column.{Column}, Short.{wide_terms, known}}
 use Rattle.mdp_horizon.specs.declared.choice.Terms.TheVariants as terms
 use Rattle.mdp_horizon.specs.declared.column.Column.TheVariants as column
@@ -44,15 +43,6 @@ pub record IsReady (n : ℕ) (x : Scaled) : Type 0 where
 
 abbrev pub AreReady : ℕ → List Scaled → Type 0
 AreReady n xs = All (IsReady n) xs
-
-abbrev pub plain_objective : Asked → Objective
-plain_objective (Until stay goals) = until stay.now goals.now
-plain_objective (Total name) = total name
-
--- there is a mark for each state; the name is one of the model's
-abbrev pub IsAsked : Mdp → Objective → Type 0
-IsAsked m (until stay goals) = (length stay ≡ states_of m) × (length goals ≡ states_of m)
-IsAsked m (total r) = r < length m.names
 
 -- the choices of each state
 abbrev pub AreOf : ℤ → Mdp → Objective → List Choices → Type 0

@@ -1,7 +1,9 @@
 -- The unit of a curve: as much finer than what was asked for as its steps cost, as far as the rows have room for it.
 use Rattle.std.specs.Prelude.{ℕ, zero, suc, ◌+◌, ◌*◌, ◌-◌, ◌/◌, ◌≤◌, ◌^◌, ◌&&◌, not, List, [], ◌∷◌, pos, unsigned_abs, unwrap_or, nat_lt, if◌then◌else◌}
 use Rattle.mdp_spec.specs.Mdp.{Choice, State, Mdp}
-use Rattle.mdp_horizon.specs.{declared.finer.Widest.{Widest}, Objective.{Objective, gain_of}, Objective.Objective.{until, total}, Scaled.{common_in}}
+use Rattle.mdp_rows.specs.declared.dir.Dir.{Dir}
+use Rattle.mdp_horizon.specs.{declared.finer.Widest.{Widest}, declared.point.Point.{Point}, Objective.{Objective, gain_of}, Objective.Objective.{until, total}}
+use Rattle.mdp_horizon.specs.{Scaled.{common_in}, Columns.{Bounds, bounds_of}, Curve.{curve_of}, Gap.{NoneIsWide}}
 
 -- ---- how wide the rows are
 
@@ -57,6 +59,17 @@ factor_of steps room = finer_by steps room 7
 -- how many units make 1
 unfoldable pub unit_of : Mdp → Objective → ℕ → ℕ → ℕ
 unit_of m o digits steps = 10 ^ digits * factor_of steps (room (widest m o) (span o steps) (10 ^ digits))
+
+-- bounds in that unit, and a curve of state s
+abbrev pub finer_bounds : Dir → Mdp → Objective → ℕ → ℕ → Bounds
+finer_bounds dir m o digits steps = bounds_of dir (pos (unit_of m o digits steps)) m o steps
+
+abbrev pub finer_curve : Dir → Mdp → Objective → ℕ → ℕ → ℕ → List Point
+finer_curve dir m o digits s steps = curve_of dir (pos (unit_of m o digits steps)) m o s steps
+
+-- a claim where no row is wide and the unit is as fine as the steps cost
+abbrev pub WhereFine : Dir → Mdp → Objective → ℕ → ℕ → Type 0 → Type 0
+WhereFine dir m o digits steps claim = NoneIsWide dir (pos (unit_of m o digits steps)) m o steps → steps * 10 ^ digits ≤ unit_of m o digits steps → claim
 
 -- where there is room for ten times the number of steps, the unit is as fine as these cost
 abbrev pub UnitIsFine : Type 0

@@ -20,6 +20,7 @@ pub mod Columns
 pub mod Past
 pub mod BoundsCode
 pub mod BoundsAnswer
+pub mod Queries
 pub mod BoundsSpelling
 pub mod BoundsLaws
 pub mod Finer

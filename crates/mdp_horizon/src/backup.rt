@@ -63,6 +63,8 @@ fn placed<T>(step: Result<T, Wide>, depth: u32, s: u32, c: u32) -> Result<T, Hor
 }
 
 impl Query<'_> {
+    ghost use Rattle.mdp_horizon.specs.Queries.{for_exact};
+
     /// What choice `c` of state `s` earns at once.
     fn earns(self, s: u32, c: u32) -> Frac
         requires state { s < states_of self.model.now }
@@ -70,8 +72,8 @@ impl Query<'_> {
         ensures { result ≡ earns self.entry.model.now (plain_objective self.entry.objective) s c }
     {
         match self.objective {
-            Objective::Until { stay: _, goals: _ } => Frac::whole(0),
-            Objective::Total { name } => self.model.reward(name, s, c),
+            Objective::Until(_, _) => Frac::whole(0),
+            Objective::Total(name) => self.model.reward(name, s, c),
         }
     }
 
@@ -81,7 +83,7 @@ impl Query<'_> {
         ensures { result ≡ stops self.entry.model.now (plain_objective self.entry.objective) s }
     {
         match self.objective {
-            Objective::Until { stay, goals } => {
+            Objective::Until(stay, goals) => {
                 if goals.at(s) {
                     Some(Frac::whole(1))
                 } else if stay.at(s) {
@@ -90,7 +92,7 @@ impl Query<'_> {
                     Some(Frac::whole(0))
                 }
             }
-            Objective::Total { name: _ } => None,
+            Objective::Total(_) => None,
         }
     }
 
@@ -100,14 +102,14 @@ impl Query<'_> {
         ensures { result ≡ ending self.entry.model.now (plain_objective self.entry.objective) s }
     {
         match self.objective {
-            Objective::Until { stay: _, goals } => {
+            Objective::Until(_, goals) => {
                 if goals.at(s) {
                     Frac::whole(1)
                 } else {
                     Frac::whole(0)
                 }
             }
-            Objective::Total { name: _ } => Frac::whole(0),
+            Objective::Total(_) => Frac::whole(0),
         }
     }
 
@@ -127,8 +129,8 @@ impl Query<'_> {
         requires state { s < states_of self.model.now }
         requires choice { c < length (choices_at self.model.now s) }
         requires values { length values.now ≡ states_of self.model.now }
-        ensures value { IfOk result (λ next. compared self.entry.dir self.entry.model.now (plain_objective self.entry.objective) values.now s c (shown leader) ≡ Some (shown next)) }
-        ensures wide { IfErr result (λ _. compared self.entry.dir self.entry.model.now (plain_objective self.entry.objective) values.now s c (shown leader) ≡ None) }
+        ensures value { IfOk result (λ next. for_exact self.entry compared values.now s c (shown leader) ≡ Some (shown next)) }
+        ensures wide { IfErr result (λ _. for_exact self.entry compared values.now s c (shown leader) ≡ None) }
     {
         let sum = self.sum(values, s, c)?;
         judged(self.dir, c, leader, sum)

@@ -1,15 +1,15 @@
 ghost use Rattle.std.specs.Prelude.{◌≡◌, ◌*◌, ◌<◌, ◌≤◌, ◌^◌, ◌<ℤ◌, length, map, pos, IfOk};
 ghost use Rattle.mdp_spec.specs.Mdp.{states_of};
 ghost use Rattle.mdp_rows.specs.declared.dir.Dir.TheVariants.{Max, Min};
-ghost use Rattle.mdp_horizon.specs.{Between.{MaxBetween, MinBetween}, Objective.Objective.{until, total}, Answer.{lists}};
-ghost use Rattle.mdp_horizon.specs.{Columns.{shown, cover, follow, table, bounds_of}, Gap.{NoneIsWide, AreNearBounds}, Finer.{unit_of}, Finite.{AreProbabilities}};
-ghost use Rattle.mdp_horizon.specs.{BoundsCode.{plain_objective, values_of, IsAsked}, BoundsAnswer.{plain}};
+ghost use Rattle.mdp_horizon.specs.{Objective.Objective.{until, total}, Columns.{shown, cover, follow, table, bounds_of}, Gap.{AreNearBounds}};
+ghost use Rattle.mdp_horizon.specs.{Answer.{lists}, BoundsAnswer.{plain, AreMaxBounds, AreMinBounds, AreFinite}, Finer.{finer_bounds, WhereFine}};
+ghost use Rattle.mdp_horizon.specs.{Code.{plain_objective, IsObjectiveOf}, BoundsCode.{values_of}, Queries.{for_query}};
 
 use crate::bounds::HorizonBounds;
-use crate::bounds_objective::Objective;
 use crate::choice::Arenas;
 use crate::column::Column;
 use crate::columns::{Columns, Query};
+use crate::objective::Objective;
 use bumpalo::Bump;
 use mdp_num::{Frac, Memory};
 use mdp_rows::{Dir, Marks, Model};
@@ -51,11 +51,9 @@ struct Induction {
 
 /// The columns and the table, from no step left on.
 fn backward(alloc: Global, query: Query<'_>, steps: u32) -> Result<Induction, AllocError>
-    requires one { pos 0 <ℤ query.one }
-    requires asked { IsAsked query.model.now (plain_objective query.objective) }
-    ensures cover { IfOk result (λ found. values_of found.cover ≡ cover query.entry.dir query.entry.one query.entry.model.now (plain_objective query.entry.objective) steps) }
-    ensures follow { IfOk result (λ found. values_of found.follow ≡ follow query.entry.dir query.entry.one query.entry.model.now (plain_objective query.entry.objective) steps) }
-    ensures table { IfOk result (λ found. lists found.table.items ≡ table query.entry.dir query.entry.one query.entry.model.now (plain_objective query.entry.objective) steps) }
+    ensures cover { IfOk result (λ found. values_of found.cover ≡ for_query query.entry cover steps) }
+    ensures follow { IfOk result (λ found. values_of found.follow ≡ for_query query.entry follow steps) }
+    ensures table { IfOk result (λ found. lists found.table.items ≡ for_query query.entry table steps) }
 {
     let terms = Bump::new(alloc);
     let starts = Bump::new(alloc);
@@ -89,9 +87,7 @@ fn backward(alloc: Global, query: Query<'_>, steps: u32) -> Result<Induction, Al
 /// Lower and upper values, and the table.
 #[tactic(auto, unfolding(crate::specs::Columns::bounds_of))]
 fn bounded(alloc: Global, query: Query<'_>, steps: u32) -> Result<HorizonBounds, Memory>
-    requires one { pos 0 <ℤ query.one }
-    requires asked { IsAsked query.model.now (plain_objective query.objective) }
-    ensures { IfOk result (λ found. plain found ≡ bounds_of query.entry.dir query.entry.one query.entry.model.now (plain_objective query.entry.objective) steps) }
+    ensures { IfOk result (λ found. plain found ≡ for_query query.entry bounds_of steps) }
 {
     let found = backward(alloc, query, steps)?;
     let states = query.model.states();
@@ -120,12 +116,45 @@ fn finer_bounds(
     digits: u32,
 ) -> Result<HorizonBounds, Memory>
     requires digits { digits ≤ 30 }
-    requires asked { IsAsked query.model.now (plain_objective query.objective) }
     ensures { let o = plain_objective query.entry.objective in
-        IfOk result (λ found. plain found ≡ bounds_of query.entry.dir (pos (unit_of query.entry.model.now o digits steps)) query.entry.model.now o steps) }
+        IfOk result (λ found. plain found ≡ finer_bounds query.entry.dir query.entry.model.now o digits steps) }
 {
-    let one = query.unit_of(digits, steps);
-    bounded(alloc, Query { one, ..query }, steps)
+    let finer = Query {
+        dir: query.dir,
+        model: query.model,
+        objective: query.objective,
+        one: query.unit_of(digits, steps),
+    };
+    bounded(alloc, finer, steps)
+}
+
+/// The bounds of an objective, with all that holds of both.
+fn bounds_within(
+    alloc: Global,
+    dir: Dir,
+    model: &Model,
+    objective: Objective<'_>,
+    steps: u32,
+    digits: u32,
+) -> Result<HorizonBounds, Memory>
+    requires fits { IsObjectiveOf model.now (plain_objective objective) }
+    requires digits { digits ≤ 30 }
+    ensures written { IfOk result (λ found. plain found ≡ finer_bounds dir model.now (plain_objective objective.entry) digits steps) }
+    ensures lower { IfOk result (λ found. length found.lower.items ≡ states_of model.now) }
+    ensures upper { IfOk result (λ found. length found.upper.items ≡ states_of model.now) }
+    ensures max { dir ≡ Max → IfOk result (λ found. AreMaxBounds model.now (plain_objective objective.entry) steps (plain found)) }
+    ensures min { dir ≡ Min → IfOk result (λ found. AreMinBounds model.now (plain_objective objective.entry) steps (plain found)) }
+    ensures gap { let o = plain_objective objective.entry in
+        IfOk result (λ found. WhereFine dir model.now o digits steps (AreNearBounds (10 ^ digits) model.now (plain found))) }
+{
+    model.known();
+    let query = Query {
+        dir,
+        model,
+        objective,
+        one: 1,
+    };
+    finer_bounds(alloc, query, steps, digits)
 }
 
 /// Lower and upper values of the greatest or the least probability of coming to a goal within so many steps by way of states that stay, by backward
@@ -145,25 +174,18 @@ pub fn until_bounds(
     requires goals_each { length goals.now ≡ states_of model.now }
     requires digits { digits ≤ 30 }
     requires table { steps * states_of model.now ≤ 2 ^ 22 }
-    ensures written { let o = until stay.now goals.now in
-        IfOk result (λ found. plain found ≡ bounds_of dir (pos (unit_of model.now o digits steps)) model.now o steps) }
+    ensures written { IfOk result (λ found. plain found ≡ finer_bounds dir model.now (until stay.now goals.now) digits steps) }
     ensures lower { IfOk result (λ found. length found.lower.items ≡ states_of model.now) }
     ensures upper { IfOk result (λ found. length found.upper.items ≡ states_of model.now) }
-    ensures max { dir ≡ Max → IfOk result (λ found. MaxBetween model.now (until stay.now goals.now) steps (plain found).lower (plain found).upper (plain found).steps) }
-    ensures min { dir ≡ Min → IfOk result (λ found. MinBetween model.now (until stay.now goals.now) steps (plain found).lower (plain found).upper (plain found).steps) }
-    ensures finite { IfOk result (λ found. AreProbabilities (states_of model.now) (plain found).lower × AreProbabilities (states_of model.now) (plain found).upper) }
+    ensures max { dir ≡ Max → IfOk result (λ found. AreMaxBounds model.now (until stay.now goals.now) steps (plain found)) }
+    ensures min { dir ≡ Min → IfOk result (λ found. AreMinBounds model.now (until stay.now goals.now) steps (plain found)) }
+    ensures finite { IfOk result (λ found. AreFinite model.now (plain found)) }
     ensures gap { let o = until stay.now goals.now in
-        IfOk result (λ found. NoneIsWide dir (pos (unit_of model.now o digits steps)) model.now o steps
-        → steps * 10 ^ digits ≤ unit_of model.now o digits steps → AreNearBounds (10 ^ digits) model.now (plain found)) }
+        IfOk result (λ found. WhereFine dir model.now o digits steps (AreNearBounds (10 ^ digits) model.now (plain found))) }
 {
     model.known();
-    let query = Query {
-        dir,
-        model,
-        objective: Objective::Until(stay, goals),
-        one: 1,
-    };
-    finer_bounds(alloc, query, steps, digits)
+    let until = Objective::Until(stay, goals);
+    bounds_within(alloc, dir, model, until, steps, digits)
 }
 
 /// The same of the greatest or the least total reward of the name of place `name` within so many steps. A value that is too wide is missing.
@@ -178,22 +200,14 @@ pub fn total_bounds(
     requires name { name < length model.now.names }
     requires digits { digits ≤ 30 }
     requires table { steps * states_of model.now ≤ 2 ^ 22 }
-    ensures written { let o = total name in
-        IfOk result (λ found. plain found ≡ bounds_of dir (pos (unit_of model.now o digits steps)) model.now o steps) }
+    ensures written { IfOk result (λ found. plain found ≡ finer_bounds dir model.now (total name) digits steps) }
     ensures lower { IfOk result (λ found. length found.lower.items ≡ states_of model.now) }
     ensures upper { IfOk result (λ found. length found.upper.items ≡ states_of model.now) }
-    ensures max { dir ≡ Max → IfOk result (λ found. MaxBetween model.now (total name) steps (plain found).lower (plain found).upper (plain found).steps) }
-    ensures min { dir ≡ Min → IfOk result (λ found. MinBetween model.now (total name) steps (plain found).lower (plain found).upper (plain found).steps) }
+    ensures max { dir ≡ Max → IfOk result (λ found. AreMaxBounds model.now (total name) steps (plain found)) }
+    ensures min { dir ≡ Min → IfOk result (λ found. AreMinBounds model.now (total name) steps (plain found)) }
     ensures gap { let o = total name in
-        IfOk result (λ found. NoneIsWide dir (pos (unit_of model.now o digits steps)) model.now o steps
-        → steps * 10 ^ digits ≤ unit_of model.now o digits steps → AreNearBounds (10 ^ digits) model.now (plain found)) }
+        IfOk result (λ found. WhereFine dir model.now o digits steps (AreNearBounds (10 ^ digits) model.now (plain found))) }
 {
-    model.known();
-    let query = Query {
-        dir,
-        model,
-        objective: Objective::Total(name),
-        one: 1,
-    };
-    finer_bounds(alloc, query, steps, digits)
+    let total = Objective::Total(name);
+    bounds_within(alloc, dir, model, total, steps, digits)
 }

@@ -88,7 +88,8 @@ fn push_values(
     lower: &Option<Frac>,
     upper: &Option<Frac>,
 ) -> Result<(), Memory>
-    ensures text { OnOk result (out.new.items ≡ out.old.items ++ line (front.now ++ (decimal state ++ 32 ∷ (lower_text lower.now ++ 32 ∷ upper_text upper.now)))) }
+    ensures text { let values = lower_text lower.now ++ 32 ∷ upper_text upper.now in
+        OnOk result (out.new.items ≡ out.old.items ++ line (front.now ++ (decimal state ++ 32 ∷ values))) }
     ensures front { Keeps out.old.items out.new.items }
 {
     push_parts(

@@ -16,7 +16,8 @@ fn push_lines(out: &mut Vec<u8>, model: &Model, bounds: &HorizonBounds) -> Resul
     requires lower { length bounds.now.lower.items ≡ states_of model.now }
     requires upper { length bounds.now.upper.items ≡ states_of model.now }
     ensures text { let b = plain bounds.now in OnOk result (out.new.items ≡ out.old.items
-        ++ (line (states_text (states_of model.now)) ++ (line (init_text (initial_of model.now) b.lower b.upper) ++ (state_lines 0 b.lower b.upper ++ (step_lines b.steps ++ line end_text))))) }
+        ++ (line (states_text (states_of model.now)) ++ (line (init_text (initial_of model.now) b.lower b.upper)
+        ++ (state_lines 0 b.lower b.upper ++ (step_lines b.steps ++ line end_text))))) }
     ensures front { Keeps out.old.items out.new.items }
 {
     push_number(out, u64::from(model.states()))?;

@@ -1,14 +1,14 @@
 ghost use Rattle.std.specs.Prelude.{◌≡◌, ◌<◌, ◌≤◌, ◌^◌, length, map, pos, ◌<ℤ◌, unsigned_abs, IfOk};
 ghost use Rattle.mdp_spec.specs.Mdp.{states_of, choices_at};
 ghost use Rattle.mdp_horizon.specs.Objective.{earns};
-ghost use Rattle.mdp_horizon.specs.Columns.{stopped, ended, scaled_state, cover_at, follow_at, end_column, cover_next, follow_next, choices_next};
-ghost use Rattle.mdp_horizon.specs.BoundsCode.{plain_choices, plain_objective, values_of, IsAsked, AreOf};
+ghost use Rattle.mdp_horizon.specs.Columns.{stopped, ended, cover_at, follow_at, end_column, cover_next, follow_next, choices_next};
+ghost use Rattle.mdp_horizon.specs.{Code.{plain_objective, IsObjectiveOf, IsObjectiveOf-prop}, BoundsCode.{plain_choices, values_of, AreOf}};
 
 use crate::best::{covered, followed};
-use crate::bounds_objective::Objective;
 use crate::choice::{Arenas, Choices};
 use crate::column::Column;
 use crate::leader::Leader;
+use crate::objective::Objective;
 use crate::scaling::scaled;
 use mdp_num::Frac;
 use mdp_rows::{Dir, Model};
@@ -21,6 +21,8 @@ pub(crate) struct Query<'a> {
     pub model: &'a Model,
     pub objective: Objective<'a>,
     pub one: i128,
+    ghost positive: { pos 0 <ℤ one },
+    ghost fits: { IsObjectiveOf model.now (plain_objective objective) } by { IsObjectiveOf-prop model.now (plain_objective objective) },
 }
 
 /// Two columns of values, and the choices of a step.
@@ -32,10 +34,10 @@ pub(crate) struct Columns {
 }
 
 impl Query<'_> {
+    ghost use Rattle.mdp_horizon.specs.Queries.{for_query, choices_of};
+
     /// The value of state `s`, where nothing more happens at it.
     fn stopped(self, s: u32) -> Option<i128>
-        requires one { pos 0 <ℤ self.one }
-        requires asked { IsAsked self.model.now (plain_objective self.objective) }
         requires state { s < states_of self.model.now }
         ensures { result ≡ stopped self.entry.one (plain_objective self.entry.objective) s }
     {
@@ -55,8 +57,6 @@ impl Query<'_> {
 
     /// The value of state `s` with no step left.
     fn ended(self, s: u32) -> i128
-        requires one { pos 0 <ℤ self.one }
-        requires asked { IsAsked self.model.now (plain_objective self.objective) }
         requires state { s < states_of self.model.now }
         ensures { result ≡ ended self.entry.one (plain_objective self.entry.objective) s }
     {
@@ -68,7 +68,6 @@ impl Query<'_> {
 
     /// What choice `c` of state `s` earns at once.
     pub(crate) fn earns(self, s: u32, c: u32) -> Frac
-        requires asked { IsAsked self.model.now (plain_objective self.objective) }
         requires state { s < states_of self.model.now }
         requires choice { c < length (choices_at self.model.now s) }
         ensures { result ≡ earns self.entry.model.now (plain_objective self.entry.objective) s c }
@@ -86,10 +85,8 @@ impl Query<'_> {
         arenas: Arenas<'b>,
         s: u32,
     ) -> Result<Choices<'b>, AllocError>
-        requires one { pos 0 <ℤ self.one }
-        requires asked { IsAsked self.model.now (plain_objective self.objective) }
         requires state { s < states_of self.model.now }
-        ensures { IfOk result (λ made. plain_choices made ≡ scaled_state self.entry.one self.entry.model.now (plain_objective self.entry.objective) s) }
+        ensures { IfOk result (λ made. plain_choices made ≡ choices_of self.entry s) }
     {
         let mut choices = Vec::with_capacity(alloc, self.model.choices(s) as usize)?;
         for c in 0..self.model.choices(s) {
@@ -105,8 +102,6 @@ impl Query<'_> {
         alloc: Global,
         arenas: Arenas<'b>,
     ) -> Result<Vec<Choices<'b>>, AllocError>
-        requires one { pos 0 <ℤ self.one }
-        requires asked { IsAsked self.model.now (plain_objective self.objective) }
         ensures { IfOk result (λ rows. AreOf self.entry.one self.entry.model.now (plain_objective self.entry.objective) rows.items) }
     {
         let mut rows = Vec::with_capacity(alloc, self.model.states() as usize)?;
@@ -118,9 +113,7 @@ impl Query<'_> {
 
     /// The values of all states with no step left.
     pub(crate) fn end_column(self, alloc: Global) -> Result<Column, AllocError>
-        requires one { pos 0 <ℤ self.one }
-        requires asked { IsAsked self.model.now (plain_objective self.objective) }
-        ensures { IfOk result (λ column. values_of column ≡ end_column self.entry.dir self.entry.one self.entry.model.now (plain_objective self.entry.objective)) }
+        ensures { IfOk result (λ column. values_of column ≡ for_query self.entry end_column) }
     {
         let mut column = Column::with_capacity(alloc, self.model.states() as usize)?;
         for s in 0..self.model.states() {
@@ -131,12 +124,10 @@ impl Query<'_> {
 
     /// The covering value of state `s`, from the column with a step less.
     fn cover_at(self, choices: &Choices<'_>, column: &Column, s: u32) -> Option<i128>
-        requires one { pos 0 <ℤ self.one }
-        requires asked { IsAsked self.model.now (plain_objective self.objective) }
         requires state { s < states_of self.model.now }
-        requires choices { plain_choices choices.now ≡ scaled_state self.one self.model.now (plain_objective self.objective) s }
+        requires choices { plain_choices choices.now ≡ choices_of self s }
         requires column { length (values_of column.now) ≡ states_of self.model.now }
-        ensures { result ≡ cover_at self.entry.dir self.entry.one self.entry.model.now (plain_objective self.entry.objective) (values_of column.now) s }
+        ensures { result ≡ for_query self.entry cover_at (values_of column.now) s }
     {
         self.model.known();
         match self.stopped(s) {
@@ -147,12 +138,10 @@ impl Query<'_> {
 
     /// The following value of state `s`, from the column with a step less, and its choice.
     fn follow_at(self, choices: &Choices<'_>, column: &Column, s: u32) -> Leader
-        requires one { pos 0 <ℤ self.one }
-        requires asked { IsAsked self.model.now (plain_objective self.objective) }
         requires state { s < states_of self.model.now }
-        requires choices { plain_choices choices.now ≡ scaled_state self.one self.model.now (plain_objective self.objective) s }
+        requires choices { plain_choices choices.now ≡ choices_of self s }
         requires column { length (values_of column.now) ≡ states_of self.model.now }
-        ensures { result ≡ follow_at self.entry.dir self.entry.one self.entry.model.now (plain_objective self.entry.objective) (values_of column.now) s }
+        ensures { result ≡ for_query self.entry follow_at (values_of column.now) s }
     {
         self.model.known();
         let count = self.model.choices(s);
@@ -173,14 +162,12 @@ impl Query<'_> {
         cover: &Column,
         follow: &Column,
     ) -> Result<Columns, AllocError>
-        requires one { pos 0 <ℤ self.one }
-        requires asked { IsAsked self.model.now (plain_objective self.objective) }
         requires rows { AreOf self.one self.model.now (plain_objective self.objective) rows.now }
         requires cover { length (values_of cover.now) ≡ states_of self.model.now }
         requires follow { length (values_of follow.now) ≡ states_of self.model.now }
-        ensures cover { IfOk result (λ made. values_of made.cover ≡ cover_next self.entry.dir self.entry.one self.entry.model.now (plain_objective self.entry.objective) (values_of cover.now)) }
-        ensures follow { IfOk result (λ made. values_of made.follow ≡ follow_next self.entry.dir self.entry.one self.entry.model.now (plain_objective self.entry.objective) (values_of follow.now)) }
-        ensures choices { IfOk result (λ made. made.choices.items ≡ choices_next self.entry.dir self.entry.one self.entry.model.now (plain_objective self.entry.objective) (values_of follow.now)) }
+        ensures cover { IfOk result (λ made. values_of made.cover ≡ for_query self.entry cover_next (values_of cover.now)) }
+        ensures follow { IfOk result (λ made. values_of made.follow ≡ for_query self.entry follow_next (values_of follow.now)) }
+        ensures choices { IfOk result (λ made. made.choices.items ≡ for_query self.entry choices_next (values_of follow.now)) }
     {
         let states = self.model.states() as usize;
         let mut made = Columns {

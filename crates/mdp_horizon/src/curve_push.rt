@@ -1,7 +1,7 @@
 ghost use Rattle.std.specs.Prelude.{◌≡◌, ◌<◌, ◌≤◌, ◌+◌, ◌-◌, ◌++◌, codes, length, OnOk, OnErr};
 ghost use Rattle.mdp_text.specs.{Answer.{Keeps}, Spelling.{line, dir_text, end_text, init_text}, declared.init.Init.TheVariants.{Start}};
-ghost use Rattle.mdp_horizon.specs.BoundsSpelling.{plain_claim};
-ghost use Rattle.mdp_horizon.specs.CurveSpelling.{version_text, claim_text, steps_text, same_value, same_point, numbers_text, run_text, point_lines, steps_in};
+ghost use Rattle.mdp_horizon.specs.{BoundsSpelling.{plain_claim}, CurveSpelling.{version_text, claim_text, steps_text, same_value}};
+ghost use Rattle.mdp_horizon.specs.CurveSpelling.{same_point, numbers_text, run_text, point_lines, steps_in};
 
 use crate::bounds_push::{lower_part, upper_part};
 use crate::claim::Claim;

@@ -1,10 +1,10 @@
 ghost use Rattle.std.specs.Prelude.{◌≡◌, ◌+◌, ◌*◌, ◌-◌, ◌/◌, ◌<◌, ◌≤◌, ◌^◌, length, pos, ◌<ℤ◌};
 ghost use Rattle.mdp_spec.specs.Mdp.{states_of, choices_at, choice_at};
 ghost use Rattle.mdp_horizon.specs.Finer.{greater, common_of, reach_of, widened, widened_by, widest, span, room, finer, factor_of, unit_of};
-ghost use Rattle.mdp_horizon.specs.BoundsCode.{plain_objective, IsAsked};
+ghost use Rattle.mdp_horizon.specs.Code.{plain_objective};
 
-use crate::bounds_objective::Objective;
 use crate::columns::Query;
+use crate::objective::Objective;
 use crate::scaling::common_in;
 use crate::whole::power_of_ten;
 
@@ -64,7 +64,6 @@ fn factor_of(steps: u32, room: u128) -> u32
 impl Query<'_> {
     /// How wide rows are, with that of choice `c` of state `s`.
     fn widened(self, widest: Widest, s: u32, c: u32) -> Widest
-        requires asked { IsAsked self.model.now (plain_objective self.objective) }
         requires state { s < states_of self.model.now }
         requires choice { c < length (choices_at self.model.now s) }
         ensures value { result ≡ widened (plain_objective self.entry.objective) widest (choice_at self.entry.model.now s c) }
@@ -82,7 +81,6 @@ impl Query<'_> {
 
     /// How wide rows are, with those of state `s`.
     fn widened_by(self, widest: Widest, s: u32) -> Widest
-        requires asked { IsAsked self.model.now (plain_objective self.objective) }
         requires state { s < states_of self.model.now }
         ensures value { result ≡ widened_by (plain_objective self.entry.objective) widest (choices_at self.entry.model.now s) }
         ensures common { widest.common ≤ result.common }
@@ -97,7 +95,6 @@ impl Query<'_> {
 
     /// How wide the model's rows are.
     fn widest(self) -> Widest
-        requires asked { IsAsked self.model.now (plain_objective self.objective) }
         ensures value { result ≡ widest self.entry.model.now (plain_objective self.entry.objective) }
         ensures common { 0 < result.common }
         ensures reach { 0 < result.reach }
@@ -127,7 +124,6 @@ impl Query<'_> {
     /// has no room for that. So the two values of each number of steps come at most 10^-digits apart, where no row is wide.
     pub(crate) fn unit_of(self, digits: u32, steps: u32) -> i128
         requires digits { digits ≤ 30 }
-        requires asked { IsAsked self.model.now (plain_objective self.objective) }
         ensures value { result ≡ pos (unit_of self.entry.model.now (plain_objective self.entry.objective) digits steps) }
         ensures positive { pos 0 <ℤ result }
     {

@@ -1,7 +1,8 @@
 ghost use Rattle.std.specs.Prelude.{◌≡◌, ◌<◌, ◌*◌, ◌≤◌, ◌^◌, length, IfOk};
 ghost use Rattle.mdp_spec.specs.Mdp.{states_of};
 ghost use Rattle.mdp_rows.specs.declared.dir.Dir.TheVariants.{Max, Min};
-ghost use Rattle.mdp_horizon.specs.{Bounds.{BoundedMax, BoundedMin, TotalMax, TotalMin}, Written.{written_until, written_total}, Answer.{Answers, plain}};
+ghost use Rattle.mdp_horizon.specs.{Bounds.{BoundedMax, BoundedMin, TotalMax, TotalMin}, Answer.{Answers, plain}};
+ghost use Rattle.mdp_horizon.specs.Written.{written_until, written_total};
 
 use crate::backup::Query;
 use crate::bounded::Bounded;
@@ -34,7 +35,7 @@ pub fn until(
     let query = Query {
         dir,
         model,
-        objective: Objective::Until { stay, goals },
+        objective: Objective::Until(stay, goals),
     };
     values_within(alloc, query, steps)
 }
@@ -59,7 +60,7 @@ pub fn total(
     let rewards = Query {
         dir,
         model,
-        objective: Objective::Total { name },
+        objective: Objective::Total(name),
     };
     values_within(alloc, rewards, steps)
 }

@@ -1,10 +1,10 @@
 use mdp_rows::Marks;
 
-/// What a policy is judged by.
+/// What is asked of each policy.
 #[derive(Clone, Copy)]
-pub(crate) enum Objective<'a> {
+pub enum Objective<'a> {
     /// The probability of coming to a goal by way of states that stay.
-    Until { stay: &'a Marks, goals: &'a Marks },
+    Until(&'a Marks, &'a Marks),
     /// The total reward of the name of this place.
-    Total { name: u32 },
+    Total(u32),
 }

@@ -1,7 +1,8 @@
 ghost use Rattle.std.specs.Prelude.{◌≡◌, ◌<◌, ◌≤◌, ◌^◌, length, pos, ◌<ℤ◌, ◌≤ℤ◌, unsigned_abs, IfOk, IfSome, All};
 ghost use Rattle.mdp_spec.specs.Row.{entries};
-ghost use Rattle.mdp_horizon.specs.Scaled.{beyond, common_with, common_in, scaled_start, scale_in, scale_of, terms_of, term_of, rounded_start, scaled};
-ghost use Rattle.mdp_horizon.specs.{Probability.{IsProbability}, Short.{wide_term, wide_terms, weights_of}, BoundsCode.{plain_choice, plain_terms}};
+ghost use Rattle.mdp_horizon.specs.{Probability.{IsProbability}, Scaled.{beyond, common_with, common_in, scaled_start, scale_in, scale_of}};
+ghost use Rattle.mdp_horizon.specs.{Scaled.{terms_of, term_of, rounded_start, scaled}, Short.{wide_term, wide_terms, weights_of}};
+ghost use Rattle.mdp_horizon.specs.BoundsCode.{plain_choice, plain_terms};
 
 use crate::choice::{Arenas, RoundedStart, Scale, ScaledChoice, ShortTerm, Term, Terms};
 use crate::short_terms::ShortTerms;
@@ -120,7 +121,8 @@ fn short_list<'b>(
     common: i128,
 ) -> Result<Option<&'b [ShortTerm]>, AllocError>
     requires { unsigned_abs common < 2 ^ 127 }
-    ensures { IfOk result (λ found. IfSome found (λ terms. wide_terms terms.now ≡ terms_of common (entries row.entry.targets.now row.entry.probs.now))) }
+    ensures { let list = entries row.entry.targets.now row.entry.probs.now in
+        IfOk result (λ found. IfSome found (λ terms. wide_terms terms.now ≡ terms_of common list)) }
 {
     let mut terms = Vec::with_capacity(arena, row.targets.len())?;
     for i in 0..row.targets.len() {
@@ -139,7 +141,8 @@ fn short_terms<'b>(
     common: i128,
 ) -> Result<Option<ShortTerms<'b>>, AllocError>
     requires { unsigned_abs common < 2 ^ 127 }
-    ensures { IfOk result (λ found. IfSome found (λ short. wide_terms short.terms.now ≡ terms_of common (entries row.entry.targets.now row.entry.probs.now))) }
+    ensures { let list = entries row.entry.targets.now row.entry.probs.now in
+        IfOk result (λ found. IfSome found (λ short. wide_terms short.terms.now ≡ terms_of common list)) }
 {
     let Some(terms) = short_list(arena, row, common)? else {
         return Ok(None);

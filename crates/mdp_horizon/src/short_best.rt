@@ -85,7 +85,8 @@ impl ShortChoice<'_> {
     #[inline(always)]
     fn judged(&self, dir: Dir, values: &[i64], c: u32, leader: ShortLeader) -> Option<ShortLeader>
         requires { IsReady (length values.now) (plain_short self.now) }
-        ensures { IfSome result (λ next. judged dir c (plain_leader leader) (rounded_sum (opposite dir) (known values.now) (plain_short self.now)) ≡ plain_leader next) }
+        ensures { let sum = rounded_sum (opposite dir) (known values.now) (plain_short self.now) in
+            IfSome result (λ next. judged dir c (plain_leader leader) sum ≡ plain_leader next) }
     {
         let sum = self.summed(values);
         let ahead = is_ahead(dir, leader.value, sum, self.common);

@@ -1,6 +1,6 @@
 ghost use Rattle.std.specs.Prelude.{◌≡◌, ◌*◌, ◌≤◌, ◌^◌, length, IfOk};
 ghost use Rattle.mdp_spec.specs.Mdp.{states_of};
-ghost use Rattle.mdp_horizon.specs.{Written.{written_values}, Code.{plain_objective}, Answer.{Answers, plain}};
+ghost use Rattle.mdp_horizon.specs.{Written.{written_values}, Queries.{for_exact}, Answer.{Answers, plain}};
 
 use crate::backup::Query;
 use crate::bounded::Bounded;
@@ -14,7 +14,7 @@ pub(crate) fn values_within(
     steps: u32,
 ) -> Result<Bounded, HorizonError>
     requires { steps * states_of query.model.now ≤ 2 ^ 22 }
-    ensures written { Answers plain result (written_values query.entry.dir query.entry.model.now (plain_objective query.entry.objective) steps) }
+    ensures written { Answers plain result (for_exact query.entry written_values steps) }
     ensures one_each { IfOk result (λ found. length found.values.items ≡ states_of query.entry.model.now) }
 {
     let mut values = query.endings(alloc)?;

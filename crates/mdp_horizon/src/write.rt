@@ -72,8 +72,8 @@ pub fn write_until(
     write_answer(out, &head, model, bounded)
 }
 
-/// Appends the text of the best total rewards of this name: what was asked, and then the lines that a bounded until has. After `Memory` the text is as
-/// before.
+/// Appends the text of the best total rewards of this name: what was asked, and then the lines that a bounded until has. After `Memory` the text is
+/// as before.
 #[tactic(auto, unfolding(crate::specs::Spelling::total_text))]
 pub fn write_total(
     model: &Model,

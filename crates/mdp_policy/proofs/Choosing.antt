@@ -1,5 +1,5 @@
 -- What the choice that is taken at a state says in exact numbers, and what it says where none is taken.
-use Rattle.std.proofs.Common.{◌≡◌, ℕ, suc, ◌<◌, inl, inr, Bool, true, false, if◌then◌else◌, List, length, Option, Some, None, Result, Ok, refl, ◌∙◌, sym, ap, subst, arith}
+use Rattle.std.proofs.Common.{◌≡◌, ℕ, zero, suc, ◌<◌, ◌≤◌, inl, inr, Bool, true, false, if◌then◌else◌, List, length, Option, Some, None, Result, Ok, refl, ◌∙◌, sym, ap, subst, arith}
 use Rattle.std.specs.Option.{is_some}
 use Rattle.mdp_math.specs.{Rational.{ℚ}, Result.{◌>>=◌}, Written.{written_compare, cmp_ℚ}}
 use Rattle.mdp_math.proofs.{Laws.{zero-+ℚ}, Numbers.{last_or}, Options.{Some_same, step_told}, Order.{0ℚ, ≤ℚ_trans, ≤ℚ_of_lt, ≤ℚ_of_eq, ≤ℚ-<ℚ_trans}}
@@ -11,7 +11,9 @@ use Rattle.mdp_policy_iteration.proofs.{Turned.{better_by, worse_by}, Results.{o
 use Rattle.mdp_spec.proofs.Summed.{written_sum-some}
 use Rattle.mdp_policy.specs.{Choices.{sum_of_choice, compared}, Written.{next_choice, own, best_of, taken_at, change_at, next_state, first_change}}
 use Rattle.mdp_policy.specs.declared.value.Change.{Change}
-use Rattle.mdp_policy.proofs.{Turns.{in_turn-keeps, in_turn-kept, in_turn-more}, Values.{NoBetter, IsBetterChoice}}
+use Rattle.mdp_horizon.specs.Written.{in_turn}
+use Rattle.mdp_horizon.proofs.Turns.{in_turn-keeps, in_turn-more}
+use Rattle.mdp_policy.proofs.Values.{NoBetter, IsBetterChoice}
 
 -- ---- better and no better
 
@@ -85,10 +87,19 @@ module _ (dir : Dir) (m : Mdp) (x : List ℚ) (s : ℕ) where
 
   best_of-is : (n : ℕ) (b : Best) → best_of dir m x s n ≡ Ok b → IsBestOf dir m x s n b
   best_of-is n b made =
-      in_turn-keeps (next_choice dir m x s) (own x s) (λ k b. IsBestOf dir m x s k b) n (record { led = refl; covers = λ c l. absurd (omega arith) })
+      in_turn-keeps (next_choice dir m x s) (Ok (own x s)) (λ k b. IsBestOf dir m x s k b) n
+      (λ b e. subst (IsBestOf dir m x s 0) (ok_same (own x s) b e) (record { led = refl; covers = λ c l. absurd (omega arith) }))
       (λ k b c l p e. next_is_best k b c p e) n b (omega arith) made
 
 -- ---- all states
+
+-- what each later step keeps
+in_turn-kept : {A R : Type 0} (f : ℕ → A → Result A R) (start : Result A R) (n m : ℕ) (b : A) → in_turn f start n ≡ Ok b → ((k : ℕ) → f k b ≡ Ok b) → n ≤ m → in_turn f start m ≡ Ok b
+in_turn-kept f start n zero b h same l = let e : n ≡ 0 = omega arith in subst (λ k. in_turn f start k ≡ Ok b) e h
+in_turn-kept f start n (suc m) b h same l = elim (last_or (suc m) n (omega arith)) as (λ _. in_turn f start (suc m) ≡ Ok b) [
+  | inl q ↦ subst (λ k. in_turn f start k ≡ Ok b) q h
+  | inr k ↦ ap (λ (x : Result _ _). x >>= f m) (in_turn-kept f start n m b h same (omega arith)) ∙ same m
+]
 
 -- what is found among the first k states: a better choice, or no choice of theirs is better
 abbrev pub IsFound : Dir → Mdp → List Bool → List ℚ → ℕ → Option Change → Type 0
@@ -134,15 +145,16 @@ module _ (dir : Dir) (m : Mdp) (goals : List Bool) (x : List ℚ) where
 
   pub first_change-is : (o : Option Change) → first_change dir m goals x (states_of m) ≡ Ok o → IsFound dir m goals x (states_of m) o
   first_change-is o made =
-      in_turn-keeps (next_state dir m goals x) None (λ k o. IsFound dir m goals x k o) (states_of m) (λ s c l g i. absurd (omega arith))
+      in_turn-keeps (next_state dir m goals x) (Ok None) (λ k o. IsFound dir m goals x k o) (states_of m)
+      (λ o e. subst (IsFound dir m goals x 0) (ok_same None o e) (λ s c l g i. absurd (omega arith)))
       (λ k b c l p e. next_found k b c l p e) (states_of m) o (omega arith) made
 
   found_by_test : (s n : ℕ) (choice : Option ℕ) (o : Option Change) → first_change dir m goals x s ≡ Ok None → taken_at dir m goals x s ≡ Ok choice → o ≡ change_at s choice
       → is_some (change_at s choice) ≡ true → s < n → first_change dir m goals x n ≡ Ok o
   found_by_test s n None o before here e test l = cc
   found_by_test s n (Some c) o before here e test l =
-      in_turn-kept (next_state dir m goals x) None (suc s) n (Some (record { state = s; choice = c }))
-      (in_turn-more (next_state dir m goals x) None s (suc s) None (Some (record { state = s; choice = c })) before
+      in_turn-kept (next_state dir m goals x) (Ok None) (suc s) n (Some (record { state = s; choice = c }))
+      (in_turn-more (next_state dir m goals x) (Ok None) s (suc s) None (Some (record { state = s; choice = c })) before
       (ap (λ (r : Result (Option ℕ) Place). let q : Result (Option Change) Place = r >>= (λ choice. Ok (change_at s choice)) in q) here) refl) (λ k. refl) l
       ∙ ap (λ (o : Option Change). let q : Result (Option Change) Place = Ok o in q) (sym e)
 

@@ -8,7 +8,7 @@ use Rattle.mdp_graph.specs.Laws.{RowsFall, RowsStay}
 use Rattle.mdp_policy_iteration.specs.Places.{Place}
 use Rattle.mdp_policy_iteration.proofs.Results.{ok_same, ok_part}
 use Rattle.mdp_reach.specs.Query.{AreMaxRanks}
-use Rattle.mdp_policy.specs.{Bounds.{PolicyBound, AreGreatest, SomeTreePasses, DeepTreesStayBelow}, Written.{Answer, evaluated, first_change, with_changes, written_value}}
+use Rattle.mdp_policy.specs.{Bounds.{PolicyBound, AreGreatest, Raises, Lowers}, Written.{Answer, evaluated, first_change, with_changes, written_value}}
 use Rattle.mdp_policy.specs.declared.value.Change.{Change}
 use Rattle.mdp_policy.proofs.Values.{MeetsPolicyValue, IsBetterChoice, policy_bound_of_rules, reach_max_of_policy, passes_of_better, stays_below_of_better}
 use Rattle.mdp_policy.proofs.{Choosing.{IsFound, first_change-is}, Solving.{evaluated_meets}}
@@ -17,8 +17,8 @@ pub record IsValued (m : Mdp) (stay : Option (List Bool)) (goals : List Bool) (p
   pub each : length a.values ≡ states_of m
   pub bound : PolicyBound m stay goals a.values policy
   pub none_up : a.up ≡ None → AreGreatest m stay goals a.values policy
-  pub up : (change : Change) → a.up ≡ Some change → SomeTreePasses m stay goals a.values change.state
-  pub down : (change : Change) → a.down ≡ Some change → DeepTreesStayBelow m stay goals a.values change.state
+  pub up : Raises m stay goals a
+  pub down : Lowers m stay goals a
   pub up_in : (change : Change) → a.up ≡ Some change → change.state < states_of m
   pub down_in : (change : Change) → a.down ≡ Some change → change.state < states_of m
 

@@ -1,6 +1,5 @@
 pub mod Deviations
 pub mod Values
-pub mod Turns
 pub mod Solving
 pub mod Choosing
 pub mod Facts

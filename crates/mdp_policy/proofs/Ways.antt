@@ -8,7 +8,7 @@ use Rattle.mdp_spec.specs.{Bounds.{ReachMax, part}, Until.{until, UntilMax}}
 use Rattle.mdp_spec.proofs.Subsystem.{sub-states, stays-kept, policy_on-stays, policy_on_sub}
 use Rattle.mdp_spec.proofs.Until.{policy_there, reach_is_until, until_max_exact}
 use Rattle.mdp_wide.specs.Errors.{SolveError}
-use Rattle.mdp_policy.specs.{Answer.{plain}, Bounds.{PolicyBound, AreGreatest, SomeTreePasses, DeepTreesStayBelow}, Written.{Answer}}
+use Rattle.mdp_policy.specs.{Answer.{plain}, Bounds.{PolicyBound, AreGreatest, SomeTreePasses, DeepTreesStayBelow, Raises, Lowers}, Written.{Answer}}
 use Rattle.mdp_policy.specs.{declared.value.Change.{Change}, declared.value.PolicyValue.{PolicyValue}}
 use Rattle.mdp_policy.proofs.Facts.{IsValued}
 
@@ -84,8 +84,7 @@ module _ (m : Mdp) (stay : Option (List Bool)) (goals : List Bool) (policy : Lis
   -- the clauses together, and each of them
   pub as_one : (r : Result PolicyValue SolveError) → IfOk r (λ v. length v.values.items ≡ states_of m) → IfOk r (λ v. PolicyBound m stay goals v.values.items policy)
       → IfOk r (λ v. v.up ≡ None → AreGreatest m stay goals v.values.items policy)
-      → IfOk r (λ v. (change : Change) → v.up ≡ Some change → SomeTreePasses m stay goals v.values.items change.state)
-      → IfOk r (λ v. (change : Change) → v.down ≡ Some change → DeepTreesStayBelow m stay goals v.values.items change.state)
+      → IfOk r (λ v. Raises m stay goals (plain v)) → IfOk r (λ v. Lowers m stay goals (plain v))
       → IfOk r (λ v. (change : Change) → v.up ≡ Some change → change.state < states_of m)
       → IfOk r (λ v. (change : Change) → v.down ≡ Some change → change.state < states_of m) → IfOk r (λ v. IsValued m stay goals policy (plain v))
   as_one (Ok v) each bound none_up up down up_in down_in = record {
@@ -109,8 +108,8 @@ module _ (m : Mdp) (stay : Option (List Bool)) (goals : List Bool) (policy : Lis
     pub none_up_part : IfOk r (λ v. v.up ≡ None → AreGreatest m stay goals v.values.items policy)
     none_up_part = if_ok_so r _ _ (λ v h. IsValued.none_up h) valued
 
-    pub up_part : IfOk r (λ v. (change : Change) → v.up ≡ Some change → SomeTreePasses m stay goals v.values.items change.state)
+    pub up_part : IfOk r (λ v. Raises m stay goals (plain v))
     up_part = if_ok_so r _ _ (λ v h. IsValued.up h) valued
 
-    pub down_part : IfOk r (λ v. (change : Change) → v.down ≡ Some change → DeepTreesStayBelow m stay goals v.values.items change.state)
+    pub down_part : IfOk r (λ v. Lowers m stay goals (plain v))
     down_part = if_ok_so r _ _ (λ v h. IsValued.down h) valued

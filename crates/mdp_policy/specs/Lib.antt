@@ -3,6 +3,7 @@ pub mod Bounds
 pub mod Choices
 pub mod Written
 pub mod Answer
+pub mod Queries
 pub mod Laws
 pub mod Spelling
 pub mod Text

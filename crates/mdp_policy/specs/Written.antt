@@ -1,6 +1,6 @@
 -- The value of a given policy in written arithmetic: its evaluation by state elimination, and then for the greatest and for the least values the
 -- first state at which a choice is strictly better than the value, where there is one. It gives these, or says where the first term past width is.
-use Rattle.std.specs.Prelude.{ℕ, zero, suc, Bool, not, ◌&&◌, List, [], ◌∷◌, length, map, slice_index, slice_index_or, Option, Some, None, Result, Ok, if◌then◌else◌, pos}
+use Rattle.std.specs.Prelude.{ℕ, Bool, not, ◌&&◌, List, [], ◌∷◌, length, map, slice_index, slice_index_or, Option, Some, None, Result, Ok, if◌then◌else◌, pos}
 use Rattle.std.specs.List.{range_with_len}
 use Rattle.mdp_math.specs.{Rational.{ℚ, of_int}, Result.{◌>>=◌}}
 use Rattle.mdp_spec.specs.{Mdp.{Mdp, states_of, choices_at, row_at, value_at}, Tree.{is_marked}, Written.{written_sum}}
@@ -8,6 +8,7 @@ use Rattle.mdp_rows.specs.{declared.dir.Dir.{Dir}, declared.dir.Dir.TheVariants.
 use Rattle.mdp_elim.specs.Solve.{written_solution}
 use Rattle.mdp_policy_iteration.specs.{Places.{Place, at_place, up_to}, Candidates.{Best}, Path.{outer, evaluating, comparing, placed}}
 use Rattle.mdp_reach.specs.Query.{policy_rows}
+use Rattle.mdp_horizon.specs.Written.{in_turn}
 use Rattle.mdp_policy.specs.{Choices.{compared}, declared.value.Change.{Change}}
 
 -- ---- evaluation. The marks are those of the states from which the policy can reach a goal
@@ -58,11 +59,6 @@ evaluated m goals marks policy = constants m goals marks policy >>= solved m goa
 
 -- ---- comparison
 
--- f 0, .., f (n - 1) in turn, from a start on; the first refusal ends it
-abbrev pub in_turn : {A R : Type 0} → (ℕ → A → Result A R) → A → ℕ → Result A R
-in_turn f start zero = Ok start
-in_turn f start (suc n) = in_turn f start n >>= f n
-
 abbrev pub next_choice : Dir → Mdp → List ℚ → ℕ → ℕ → Best → Result Best Place
 next_choice dir m x s c best = at_place (comparing s c) (compared dir m x s c best)
 
@@ -71,7 +67,7 @@ abbrev pub own : List ℚ → ℕ → Best
 own x s = record { value = value_at x s; choice = None }
 
 abbrev pub best_of : Dir → Mdp → List ℚ → ℕ → ℕ → Result Best Place
-best_of dir m x s n = in_turn (next_choice dir m x s) (own x s) n
+best_of dir m x s n = in_turn (next_choice dir m x s) (Ok (own x s)) n
 
 -- the choice that is taken at state s, where it is no goal and one is: the last one
 abbrev pub taken_at : Dir → Mdp → List Bool → List ℚ → ℕ → Result (Option ℕ) Place
@@ -87,7 +83,7 @@ next_state dir m goals x s (Some change) = Ok (Some change)
 next_state dir m goals x s None = taken_at dir m goals x s >>= (λ choice. Ok (change_at s choice))
 
 abbrev pub first_change : Dir → Mdp → List Bool → List ℚ → ℕ → Result (Option Change) Place
-first_change dir m goals x n = in_turn (next_state dir m goals x) None n
+first_change dir m goals x n = in_turn (next_state dir m goals x) (Ok None) n
 
 -- ---- the value
 

@@ -25,7 +25,8 @@ fn give_state(
     requires choice { c < length (choices_at model.now s) }
     requires names { builder.old.names ≡ model.now.names }
     requires zeros { zeros.now ≡ no_rewards model.now.names }
-    ensures given { OnOk result (with_states model.now.names model.now.labels (with_choice (state_at model.now s) c ∷ []) builder.old ≡ Ok builder.new) }
+    ensures given { let states = with_choice (state_at model.now s) c ∷ [] in
+        OnOk result (with_states model.now.names model.now.labels states builder.old ≡ Ok builder.new) }
     ensures same { OnOk result (IsSameHead builder.old builder.new) }
 {
     let Ok(()) = builder.state(zeros) else {

@@ -1,5 +1,5 @@
-ghost use Rattle.mdp_policy.specs.ChainLaws.{KeepsChoices, TreesAreOwn, ReachIsOwn, ReachBoundsAreOwn, RewardIsOwn, RewardBoundsAreOwn, MeanIsOwn, MeanBoundsAreOwn, BoundedIsOwn, DiscountIsOwn};
-ghost use Rattle.mdp_policy.specs.ChainLaws.{TotalIsOwn, StepBoundsAreOwn, DiscountBoundsAreOwn};
+ghost use Rattle.mdp_policy.specs.ChainLaws.{KeepsChoices, TreesAreOwn, ReachIsOwn, ReachBoundsAreOwn, RewardIsOwn, RewardBoundsAreOwn, MeanIsOwn};
+ghost use Rattle.mdp_policy.specs.ChainLaws.{MeanBoundsAreOwn, BoundedIsOwn, DiscountIsOwn, TotalIsOwn, StepBoundsAreOwn, DiscountBoundsAreOwn};
 
 /// Laws of the chain of a policy: what it keeps of the model, that each of its trees has what the policy's own tree has, and that the greatest and
 /// the least values of it, for each objective, are the policy's own.

@@ -30,6 +30,8 @@ fn change_at(s: u32, choice: Option<u32>) -> Option<Change>
 }
 
 impl Comparison<'_, '_> {
+    ghost use Rattle.mdp_policy.specs.Queries.{for_values, for_goals};
+
     /// The sum of choice `c` of state `s`.
     fn sum(self, s: u32, c: u32) -> Result<Frac, Wide>
         requires state { s < states_of self.model.now }
@@ -44,8 +46,8 @@ impl Comparison<'_, '_> {
     fn compared(self, s: u32, c: u32, leader: Leader) -> Result<Leader, Wide>
         requires state { s < states_of self.model.now }
         requires choice { c < length (choices_at self.model.now s) }
-        ensures value { IfOk result (λ next. compared self.entry.dir self.entry.model.now self.entry.values.now s c (shown leader) ≡ Some (shown next)) }
-        ensures wide { IfErr result (λ _. compared self.entry.dir self.entry.model.now self.entry.values.now s c (shown leader) ≡ None) }
+        ensures value { IfOk result (λ next. for_values self.entry compared s c (shown leader) ≡ Some (shown next)) }
+        ensures wide { IfErr result (λ _. for_values self.entry compared s c (shown leader) ≡ None) }
     {
         let sum = self.sum(s, c)?;
         judged(self.dir, c, leader, sum)
@@ -54,7 +56,7 @@ impl Comparison<'_, '_> {
     /// The leader after all choices of state `s`, from the state's own value on.
     fn best(self, s: u32) -> Result<Leader, RoundError>
         requires { s < states_of self.model.now }
-        ensures { Answers shown result (best_of self.entry.dir self.entry.model.now self.entry.values.now s (length (choices_at self.entry.model.now s))) }
+        ensures { Answers shown result (for_values self.entry best_of s (length (choices_at self.entry.model.now s))) }
     {
         let mut leader = Leader {
             value: self.values[s as usize],
@@ -69,7 +71,7 @@ impl Comparison<'_, '_> {
     /// The choice that is taken at state `s`, where it is no goal and one is.
     fn taken(self, s: u32) -> Result<Option<u32>, RoundError>
         requires { s < states_of self.model.now }
-        ensures { Answers (λ choice. choice) result (taken_at self.entry.dir self.entry.model.now self.entry.goals.now self.entry.values.now s) }
+        ensures { Answers (λ choice. choice) result (for_goals self.entry taken_at s) }
     {
         if self.goals.at(s) {
             return Ok(None);
@@ -80,7 +82,7 @@ impl Comparison<'_, '_> {
 
     /// The first state at which a choice is taken, and the choice.
     pub(crate) fn first_change(self) -> Result<Option<Change>, RoundError>
-        ensures { Answers (λ change. change) result (first_change self.entry.dir self.entry.model.now self.entry.goals.now self.entry.values.now (states_of self.entry.model.now)) }
+        ensures { Answers (λ change. change) result (for_goals self.entry first_change (states_of self.entry.model.now)) }
     {
         for s in 0..self.model.states() {
             let change = change_at(s, self.taken(s)?);

@@ -3,7 +3,7 @@ ghost use Rattle.mdp_spec.specs.{Mdp.{states_of}, Tree.{IsPolicy}};
 ghost use Rattle.mdp_elim.specs.System.{Leaves};
 ghost use Rattle.mdp_wide.specs.declared.too_wide.Kind.TheVariants.{Evaluate};
 ghost use Rattle.mdp_reach.specs.Query.{policy_rows};
-ghost use Rattle.mdp_policy.specs.Written.{is_under_way, under_way, goal_value, goal_values, constant_of, constants, value_by, values_by, eliminated, evaluated};
+ghost use Rattle.mdp_policy.specs.Written.{is_under_way, goal_value, goal_values, constant_of, constants, value_by, values_by, eliminated, evaluated};
 ghost use Rattle.mdp_policy_iteration.specs.Faults.{Answers};
 
 use mdp_elim::{ElimError, solve_leaving};
@@ -27,6 +27,8 @@ pub(crate) struct Evaluation<'m, 'k> {
 }
 
 impl Evaluation<'_, '_> {
+    ghost use Rattle.mdp_policy.specs.Queries.{for_policy, states_under_way, AllLeave};
+
     /// Whether state `s` is no goal and is marked.
     fn is_under_way(self, s: u32) -> bool
         requires { s < states_of self.model.now }
@@ -37,7 +39,7 @@ impl Evaluation<'_, '_> {
 
     /// The states that are no goals and are marked.
     pub(crate) fn under_way(self, alloc: Global) -> Result<Marks, AllocError>
-        ensures { IfOk result (λ marks. marks ≡ under_way self.entry.model.now self.entry.goals.now self.entry.marks.now) }
+        ensures { IfOk result (λ marks. marks ≡ states_under_way self.entry) }
     {
         let mut marks = Vec::new(alloc);
         for s in 0..self.model.states() {
@@ -72,9 +74,9 @@ impl Evaluation<'_, '_> {
     /// The constant of state `s`: under way the sum over the entries to states that aren't.
     fn constant_of(self, active: &Marks, values: &[Frac], s: u32) -> Result<Frac, Wide>
         requires state { s < states_of self.model.now }
-        requires active { active.now ≡ under_way self.model.now self.goals.now self.marks.now }
+        requires active { active.now ≡ states_under_way self }
         requires values { values.now ≡ goal_values self.model.now self.goals.now }
-        ensures { result_ok result ≡ constant_of self.entry.model.now self.entry.goals.now self.entry.marks.now self.entry.policy.now s }
+        ensures { result_ok result ≡ for_policy self.entry constant_of s }
     {
         if !self.is_under_way(s) {
             return Ok(Frac::whole(0));
@@ -85,8 +87,8 @@ impl Evaluation<'_, '_> {
 
     /// The constants of all states.
     fn constants(self, alloc: Global, active: &Marks) -> Result<Vec<Frac>, RoundError>
-        requires { active.now ≡ under_way self.model.now self.goals.now self.marks.now }
-        ensures { Answers (λ constants. constants.items) result (constants self.entry.model.now self.entry.goals.now self.entry.marks.now self.entry.policy.now) }
+        requires { active.now ≡ states_under_way self }
+        ensures { Answers (λ constants. constants.items) result (for_policy self.entry constants) }
     {
         let values = self.goal_values(alloc)?;
         let mut constants = Vec::new(alloc);
@@ -130,9 +132,9 @@ impl Evaluation<'_, '_> {
         constants: &Vec<Frac>,
     ) -> Result<Vec<Frac>, RoundError>
         requires leaves { (ranks : List ℕ) × Leaves (policy_rows self.model.now self.policy.now) active.now ranks }
-        requires active { active.now ≡ under_way self.model.now self.goals.now self.marks.now }
+        requires active { active.now ≡ states_under_way self }
         requires constants { length constants.now.items ≡ states_of self.model.now }
-        ensures value { Answers (λ x. x.items ∷ []) result (eliminated self.entry.model.now self.entry.goals.now self.entry.marks.now self.entry.policy.now constants.now.items) }
+        ensures value { Answers (λ x. x.items ∷ []) result (for_policy self.entry eliminated constants.now.items) }
         ensures count { IfOk result (λ x. length x.items ≡ states_of self.entry.model.now) }
     {
         let rows = PolicyRows {
@@ -155,8 +157,8 @@ impl Evaluation<'_, '_> {
 
     /// The values of the policy.
     pub(crate) fn values(self, alloc: Global) -> Result<Vec<Frac>, RoundError>
-        requires { (ranks : List ℕ) × Leaves (policy_rows self.model.now self.policy.now) (under_way self.model.now self.goals.now self.marks.now) ranks }
-        ensures { Answers (λ values. values.items) result (evaluated self.entry.model.now self.entry.goals.now self.entry.marks.now self.entry.policy.now) }
+        requires { AllLeave self }
+        ensures { Answers (λ values. values.items) result (for_policy self.entry evaluated) }
     {
         let active = self.under_way(alloc)?;
         let constants = self.constants(alloc, &active)?;

@@ -30,7 +30,8 @@ fn choices_from(
     bytes: &[u8],
 ) -> Result<(Vec<u32>, u64, &[u8]), CertError>
     requires { line < 2 ^ 32 }
-    ensures said { let read = choices_from states 0 (place line bytes.now) in MatchResult result (λ p. read ≡ Ok (p.0.items, place p.1 p.2.now)) (λ e. Refuses e read) }
+    ensures said { let read = choices_from states 0 (place line bytes.now) in
+        MatchResult result (λ p. read ≡ Ok (p.0.items, place p.1 p.2.now)) (λ e. Refuses e read) }
     ensures lines { IfOk result (λ p. p.1 ≤ line + states) }
 {
     let mut choices = Vec::new(alloc);

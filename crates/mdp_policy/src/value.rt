@@ -1,8 +1,7 @@
-ghost use Rattle.std.specs.Prelude.{◌≡◌, ◌<◌, ℕ, List, length, IfOk, Some, None};
+ghost use Rattle.std.specs.Prelude.{◌≡◌, ◌<◌, length, IfOk, Some, None};
 ghost use Rattle.mdp_spec.specs.{Mdp.{states_of}, Tree.{IsPolicy}};
-ghost use Rattle.mdp_elim.specs.System.{Leaves};
-ghost use Rattle.mdp_reach.specs.Query.{policy_rows};
-ghost use Rattle.mdp_policy.specs.{Bounds.{PolicyBound, AreGreatest, SomeTreePasses, DeepTreesStayBelow}, Written.{under_way, written_value}, Answer.{Gives, plain, Named}};
+ghost use Rattle.mdp_policy.specs.{Bounds.{PolicyBound, AreGreatest, Raises, Lowers}, Written.{written_value}, Answer.{Gives, plain, Named}};
+ghost use Rattle.mdp_policy.specs.Queries.{for_policy, AllLeave};
 ghost use Rattle.mdp_policy_iteration.specs.Faults.{Answers};
 
 use crate::compare::Comparison;
@@ -52,8 +51,8 @@ fn named(alloc: Global, error: RoundError, policy: &[u32]) -> SolveError
 
 /// The values, and then the first changes.
 fn evaluated(alloc: Global, evaluation: Evaluation<'_, '_>) -> Result<PolicyValue, RoundError>
-    requires { (ranks : List ℕ) × Leaves (policy_rows evaluation.model.now evaluation.policy.now) (under_way evaluation.model.now evaluation.goals.now evaluation.marks.now) ranks }
-    ensures { Answers plain result (written_value evaluation.entry.model.now evaluation.entry.goals.now evaluation.entry.marks.now evaluation.entry.policy.now) }
+    requires { AllLeave evaluation }
+    ensures { Answers plain result (for_policy evaluation.entry written_value) }
 {
     let values = evaluation.values(alloc)?;
     let up = Comparison {
@@ -87,8 +86,8 @@ pub(crate) fn reach_value(
     ensures each { IfOk result (λ v. length v.values.items ≡ states_of model.now) }
     ensures bound { IfOk result (λ v. PolicyBound model.now None goals.now v.values.items policy.now) }
     ensures none_up { IfOk result (λ v. v.up ≡ None → AreGreatest model.now None goals.now v.values.items policy.now) }
-    ensures up { IfOk result (λ v. (change : Change) → v.up ≡ Some change → SomeTreePasses model.now None goals.now v.values.items change.state) }
-    ensures down { IfOk result (λ v. (change : Change) → v.down ≡ Some change → DeepTreesStayBelow model.now None goals.now v.values.items change.state) }
+    ensures up { IfOk result (λ v. Raises model.now None goals.now (plain v)) }
+    ensures down { IfOk result (λ v. Lowers model.now None goals.now (plain v)) }
     ensures up_in { IfOk result (λ v. (change : Change) → v.up ≡ Some change → change.state < states_of model.now) }
     ensures down_in { IfOk result (λ v. (change : Change) → v.down ≡ Some change → change.state < states_of model.now) }
 {

@@ -1,6 +1,6 @@
 ghost use Rattle.std.specs.Prelude.{◌≡◌, ◌<◌, length, slice_index, option_copied, IfOk, IfSome, Some, None};
 ghost use Rattle.mdp_spec.specs.{Mdp.{states_of}, Tree.{IsPolicy}, Sub.{policy_on}};
-ghost use Rattle.mdp_policy.specs.{Bounds.{PolicyBound, AreGreatest, SomeTreePasses, DeepTreesStayBelow}, Answer.{GivesOn}, declared.value.Change.{Change}};
+ghost use Rattle.mdp_policy.specs.{Bounds.{PolicyBound, AreGreatest, Raises, Lowers}, Answer.{GivesOn, plain}};
 
 use crate::value::{PolicyValue, reach_value};
 use mdp_rows::{Marks, Model};
@@ -56,8 +56,8 @@ fn until_value(
     ensures each { IfOk result (λ v. length v.values.items ≡ states_of model.now) }
     ensures bound { IfOk result (λ v. PolicyBound model.now (Some stay.now) goals.now v.values.items policy.now) }
     ensures none_up { IfOk result (λ v. v.up ≡ None → AreGreatest model.now (Some stay.now) goals.now v.values.items policy.now) }
-    ensures up { IfOk result (λ v. (change : Change) → v.up ≡ Some change → SomeTreePasses model.now (Some stay.now) goals.now v.values.items change.state) }
-    ensures down { IfOk result (λ v. (change : Change) → v.down ≡ Some change → DeepTreesStayBelow model.now (Some stay.now) goals.now v.values.items change.state) }
+    ensures up { IfOk result (λ v. Raises model.now (Some stay.now) goals.now (plain v)) }
+    ensures down { IfOk result (λ v. Lowers model.now (Some stay.now) goals.now (plain v)) }
 {
     model.known();
     let way = model.cut(alloc, stay, goals)?;
@@ -82,8 +82,8 @@ pub fn value_of(
     ensures each { IfOk result (λ v. length v.values.items ≡ states_of model.now) }
     ensures bound { IfOk result (λ v. PolicyBound model.now (option_copied stay.entry) goals.now v.values.items policy.now) }
     ensures none_up { IfOk result (λ v. v.up ≡ None → AreGreatest model.now (option_copied stay.entry) goals.now v.values.items policy.now) }
-    ensures up { IfOk result (λ v. (change : Change) → v.up ≡ Some change → SomeTreePasses model.now (option_copied stay.entry) goals.now v.values.items change.state) }
-    ensures down { IfOk result (λ v. (change : Change) → v.down ≡ Some change → DeepTreesStayBelow model.now (option_copied stay.entry) goals.now v.values.items change.state) }
+    ensures up { IfOk result (λ v. Raises model.now (option_copied stay.entry) goals.now (plain v)) }
+    ensures down { IfOk result (λ v. Lowers model.now (option_copied stay.entry) goals.now (plain v)) }
 {
     match stay {
         None => reach_value(alloc, model, goals, policy),

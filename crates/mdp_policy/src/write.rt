@@ -58,8 +58,8 @@ fn push_lines(
 }
 
 /// Appends the text of a policy's value: what was asked, the number of states, the initial state, the first changes that raise and that lower a
-/// value, and a line for each state. `stay` is the name of the states on the way, where it was asked, and `label` that of the goals. After `Memory` the
-/// text is as before.
+/// value, and a line for each state. `stay` is the name of the states on the way, where it was asked, and `label` that of the goals. After
+/// `Memory` the text is as before.
 pub fn write_value(
     model: &Model,
     stay: Option<&[u8]>,

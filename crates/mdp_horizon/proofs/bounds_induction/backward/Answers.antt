@@ -1,5 +1,5 @@
 use Rattle.std.proofs.Common.{◌≡◌, ℕ, ◌∙◌, length, ap, subst, arith}
-use Rattle.mdp_horizon.specs.{Columns.{cover, follow, cover_next, follow_next, choices_next}, BoundsCode.{plain_objective, values_of}}
+use Rattle.mdp_horizon.specs.{Columns.{cover, follow, cover_next, follow_next, choices_next}, Code.{plain_objective}, BoundsCode.{values_of}}
 use Rattle.mdp_horizon.proofs.StepsLemmas.{cover_states, follow_states, cover_more, follow_more, table_more}
 use Rattle.mdp_horizon.proofs.bounds_induction.backward.Goals as goal
 

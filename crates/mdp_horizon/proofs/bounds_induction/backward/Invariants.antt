@@ -1,5 +1,5 @@
 use Rattle.std.proofs.Common.{◌≡◌, reverse}
-use Rattle.mdp_horizon.specs.{Answer.{lists}, Columns.{cover, follow, table}, BoundsCode.{plain_objective, values_of}}
+use Rattle.mdp_horizon.specs.{Answer.{lists}, Columns.{cover, follow, table}, Code.{plain_objective}, BoundsCode.{values_of}}
 use Rattle.mdp_horizon.proofs.bounds_induction.backward.Given as goal
 
 abbrev pub invariant-loop-done : goal.invariant-loop-done

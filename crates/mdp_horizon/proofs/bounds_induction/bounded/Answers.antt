@@ -1,5 +1,5 @@
 use Rattle.std.proofs.Common.{◌∙◌, length, sym, ap}
-use Rattle.mdp_horizon.specs.BoundsCode.{plain_objective}
+use Rattle.mdp_horizon.specs.Code.{plain_objective}
 use Rattle.mdp_horizon.proofs.StepsLemmas.{cover_states, follow_states}
 use Rattle.mdp_horizon.proofs.bounds_induction.bounded.Goals as goal
 

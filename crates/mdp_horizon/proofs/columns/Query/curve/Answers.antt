@@ -1,6 +1,6 @@
 use Rattle.std.proofs.Common.{◌≡◌, ◌∙◌, ℕ, ℤ, suc, ◌+◌, List, Option, map, length, ap, ap₂, arith}
 use Rattle.std.specs.List.{range_with_len}
-use Rattle.mdp_horizon.specs.{Whole.{whole_at}, Columns.{cover_next, follow_next}, Curve.{point_by, point_of, curve_of}, BoundsCode.{plain_objective}}
+use Rattle.mdp_horizon.specs.{Whole.{whole_at}, Columns.{cover_next, follow_next}, Curve.{point_by, point_of, curve_of}, Code.{plain_objective}}
 use Rattle.mdp_horizon.proofs.{More.{more}, StepsLemmas.{cover_states, follow_states, cover_more, follow_more}}
 use Rattle.mdp_horizon.proofs.columns.Query.curve.Goals as goal
 

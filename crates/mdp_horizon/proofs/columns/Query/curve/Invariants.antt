@@ -1,6 +1,6 @@
 use Rattle.std.proofs.Common.{◌≡◌, ◌+◌, map}
 use Rattle.std.specs.List.{range_with_len}
-use Rattle.mdp_horizon.specs.{Columns.{cover, follow}, Curve.{point_of}, BoundsCode.{plain_objective, values_of}}
+use Rattle.mdp_horizon.specs.{Columns.{cover, follow}, Curve.{point_of}, Code.{plain_objective}, BoundsCode.{values_of}}
 use Rattle.mdp_horizon.proofs.columns.Query.curve.Given as goal
 
 abbrev pub invariant-loop-done : goal.invariant-loop-done

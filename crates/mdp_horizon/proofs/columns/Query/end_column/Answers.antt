@@ -2,7 +2,7 @@ use Rattle.std.proofs.Common.{◌≡◌, ℕ, ◌∙◌, Option, Some, ℤ, map,
 use Rattle.std.specs.List.{range_with_len}
 use Rattle.mdp_spec.specs.Mdp.{states_of}
 use Rattle.mdp_num.proofs.Values.{result-bits}
-use Rattle.mdp_horizon.specs.{Columns.{ended}, BoundsCode.{plain_objective, values_of}}
+use Rattle.mdp_horizon.specs.{Columns.{ended}, Code.{plain_objective}, BoundsCode.{values_of}}
 use Rattle.mdp_horizon.proofs.More.{more}
 use Rattle.mdp_horizon.proofs.columns.Query.end_column.Goals as goal
 

@@ -1,6 +1,6 @@
 use Rattle.std.proofs.Common.{◌≡◌, map, Some}
 use Rattle.std.specs.List.{range_with_len}
-use Rattle.mdp_horizon.specs.{Columns.{ended}, BoundsCode.{plain_objective, values_of}}
+use Rattle.mdp_horizon.specs.{Columns.{ended}, Code.{plain_objective}, BoundsCode.{values_of}}
 use Rattle.mdp_horizon.proofs.columns.Query.end_column.Given as goal
 
 abbrev pub invariant-loop-s : goal.invariant-loop-s

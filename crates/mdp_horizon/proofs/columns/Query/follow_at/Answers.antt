@@ -1,5 +1,5 @@
 use Rattle.std.proofs.Common.{length, sym, ◌∙◌, arith}
-use Rattle.mdp_horizon.specs.BoundsCode.{plain_choices, plain_objective, values_of}
+use Rattle.mdp_horizon.specs.{Code.{plain_objective}, BoundsCode.{plain_choices, values_of}}
 use Rattle.mdp_horizon.proofs.Ready.{count_of, ready_state}
 use Rattle.mdp_horizon.proofs.columns.Query.follow_at.Goals as goal
 

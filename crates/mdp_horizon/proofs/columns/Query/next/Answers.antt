@@ -1,5 +1,5 @@
 use Rattle.std.proofs.Common.{◌∙◌, ap, arith}
-use Rattle.mdp_horizon.specs.{declared.leader.Leader.{Leader}, Columns.{cover_at, follow_at}, BoundsCode.{plain_objective, values_of}}
+use Rattle.mdp_horizon.specs.{declared.leader.Leader.{Leader}, Columns.{cover_at, follow_at}, Code.{plain_objective}, BoundsCode.{values_of}}
 use Rattle.mdp_horizon.proofs.{More.{more}, Ready.{rows_length, rows_at}}
 use Rattle.mdp_horizon.proofs.columns.Query.next.Goals as goal
 

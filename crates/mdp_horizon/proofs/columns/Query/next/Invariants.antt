@@ -1,6 +1,6 @@
 use Rattle.std.proofs.Common.{◌≡◌, map}
 use Rattle.std.specs.List.{range_with_len}
-use Rattle.mdp_horizon.specs.{Columns.{cover_at, follow_at}, BoundsCode.{plain_objective, values_of}, declared.leader.Leader.{Leader}}
+use Rattle.mdp_horizon.specs.{Columns.{cover_at, follow_at}, Code.{plain_objective}, BoundsCode.{values_of}, declared.leader.Leader.{Leader}}
 use Rattle.mdp_horizon.proofs.columns.Query.next.Given as goal
 
 abbrev pub invariant-loop-s : goal.invariant-loop-s

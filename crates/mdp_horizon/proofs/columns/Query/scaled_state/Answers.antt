@@ -3,7 +3,7 @@ use mir.Syntax.{w128}
 use mir.Val.{to_z, of_z}
 use Rattle.mdp_math.specs.Rational.{ℚ}
 use Rattle.mdp_spec.specs.{Row.{entries}, Mdp.{Entry, choices_at, no_choice}}
-use Rattle.mdp_horizon.specs.{Scaled.{scaled}, Columns.{scaled_choice}, BoundsCode.{plain_choice, plain_objective}}
+use Rattle.mdp_horizon.specs.{Scaled.{scaled}, Columns.{scaled_choice}, Code.{plain_objective}, BoundsCode.{plain_choice}}
 use Rattle.mdp_horizon.proofs.More.{seen_taken}
 use Rattle.mdp_horizon.proofs.columns.Query.scaled_state.Goals as goal
 

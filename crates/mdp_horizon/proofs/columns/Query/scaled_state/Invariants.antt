@@ -1,6 +1,6 @@
 use Rattle.std.proofs.Common.{◌≡◌, map, take}
 use Rattle.mdp_spec.specs.Mdp.{choices_at}
-use Rattle.mdp_horizon.specs.{Columns.{scaled_choice}, BoundsCode.{plain_choice, plain_objective}}
+use Rattle.mdp_horizon.specs.{Columns.{scaled_choice}, Code.{plain_objective}, BoundsCode.{plain_choice}}
 use Rattle.mdp_horizon.proofs.columns.Query.scaled_state.Given as goal
 
 abbrev pub invariant-loop-c : goal.invariant-loop-c

@@ -1,5 +1,5 @@
 use Rattle.std.proofs.Common.{◌∙◌, List, map, ap}
-use Rattle.mdp_horizon.specs.{declared.choice.Choices.{Choices}, Columns.{scaled_state}, BoundsCode.{plain_choices, plain_objective}}
+use Rattle.mdp_horizon.specs.{declared.choice.Choices.{Choices}, Columns.{scaled_state}, Code.{plain_objective}, BoundsCode.{plain_choices}}
 use Rattle.mdp_horizon.proofs.More.{seen_more}
 use Rattle.mdp_horizon.proofs.columns.Query.scaled_states.Goals as goal
 

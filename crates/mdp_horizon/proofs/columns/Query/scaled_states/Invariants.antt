@@ -1,6 +1,6 @@
 use Rattle.std.proofs.Common.{◌≡◌, map}
 use Rattle.std.specs.List.{range_with_len}
-use Rattle.mdp_horizon.specs.{Columns.{scaled_state}, BoundsCode.{plain_choices, plain_objective}}
+use Rattle.mdp_horizon.specs.{Columns.{scaled_state}, Code.{plain_objective}, BoundsCode.{plain_choices}}
 use Rattle.mdp_horizon.proofs.columns.Query.scaled_states.Given as goal
 
 abbrev pub invariant-loop-s : goal.invariant-loop-s

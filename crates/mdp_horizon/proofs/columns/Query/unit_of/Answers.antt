@@ -3,7 +3,7 @@ use Rattle.std.proofs.lemmas.Int.{ints, fits_signed_from_abs}
 use mir.Syntax.{w128}
 use mir.Val.{to_z, of_z}
 use Rattle.mdp_num.proofs.Values.{result-bits}
-use Rattle.mdp_horizon.specs.{Finer.{unit_of}, BoundsCode.{plain_objective}}
+use Rattle.mdp_horizon.specs.{Finer.{unit_of}, Code.{plain_objective}}
 use Rattle.mdp_horizon.proofs.{Fineness.{unit-positive, unit-narrow, unit_is}, Loops.{back}}
 use Rattle.mdp_horizon.proofs.columns.Query.unit_of.Goals as goal
 

@@ -1,6 +1,6 @@
 use Rattle.std.proofs.Common.{◌≡◌, ◌≤◌, drop}
 use Rattle.mdp_spec.specs.Mdp.{choices_at}
-use Rattle.mdp_horizon.specs.{Finer.{widened_by}, BoundsCode.{plain_objective}}
+use Rattle.mdp_horizon.specs.{Finer.{widened_by}, Code.{plain_objective}}
 use Rattle.mdp_horizon.proofs.columns.Query.widened_by.Given as goal
 
 abbrev pub invariant-loop-c : goal.invariant-loop-c

@@ -1,5 +1,5 @@
 use Rattle.std.proofs.Common.{◌≡◌, ◌<◌, drop}
-use Rattle.mdp_horizon.specs.{Finer.{widened_in, widest}, BoundsCode.{plain_objective}}
+use Rattle.mdp_horizon.specs.{Finer.{widened_in, widest}, Code.{plain_objective}}
 use Rattle.mdp_horizon.proofs.columns.Query.widest.Given as goal
 
 abbrev pub invariant-loop-s : goal.invariant-loop-s

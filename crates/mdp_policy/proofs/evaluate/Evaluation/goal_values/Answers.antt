@@ -1,8 +1,6 @@
-use Rattle.std.proofs.{Common.{◌∙◌, ◌++◌, ◌∷◌, [], List, sym, ap₂, zero-add}, lemmas.List.FromFn.{map-range_with_len_more}}
-use Rattle.mdp_math.specs.Rational.{ℚ}
+use Rattle.std.proofs.Common.{◌∙◌}
+use Rattle.mdp_horizon.proofs.More.{more}
 use Rattle.mdp_policy.proofs.evaluate.Evaluation.goal_values.Goals as goal
 
 pub loop-s-preserved : goal.loop-s-preserved
-loop-s-preserved c =
-    (c.in_ok-push.ensures {u = tt}).items ∙ ap₂ (λ (xs : List ℚ) (x : ℚ). xs ++ x ∷ []) c.loop-s.invariant c.goal_value.ensures
-    ∙ sym (map-range_with_len_more _ 0 c.loop-s.s c.loop-s.s (zero-add c.loop-s.s))
+loop-s-preserved c = (c.in_ok-push.ensures {u = tt}).items ∙ more _ c.loop-s.s _ _ c.loop-s.invariant c.goal_value.ensures
