@@ -1,7 +1,7 @@
 //! Iterative refinement: residuals in whole numbers, corrections in floats, until the rows hold in whole numbers.
 
 use crate::bound::Task;
-use crate::component::{Component, FloatRow};
+use crate::component::Component;
 use crate::convert::to_float;
 use crate::correct::Corrector;
 use crate::lists::{put, set_at, takes};
@@ -60,13 +60,6 @@ impl Refinement<'_> {
         }
     }
 
-    /// What a row has over the value of its node: in the row's denominator times a unit, and about how many units. None past 128 bits.
-    fn excess(&self, row: &FloatRow, values: &[Value]) -> Option<(i128, f64)> {
-        let whole = self.rows.row(row.place as usize)?;
-        let excess = self.rows.excess(whole, values)?;
-        Some((excess, to_float(excess) / to_float(whole.denominator)))
-    }
-
     /// Measures all rows. None past 128 bits.
     fn measure(&mut self, policy: &[usize], values: &[Value]) -> Option<Measured> {
         let mut measured = Measured {
@@ -76,7 +69,9 @@ impl Refinement<'_> {
         };
         for at in 0..self.component.rows.len() {
             let row = self.component.row_at(at);
-            let (excess, gap) = self.excess(&row, values)?;
+            let whole = self.rows.row(row.place as usize)?;
+            let excess = self.rows.excess(whole, values)?;
+            let gap = to_float(excess) / to_float(whole.denominator);
             let is_chosen = takes(policy, row.node, at);
             if is_chosen {
                 measured.error = measured.error.max(gap.abs());
