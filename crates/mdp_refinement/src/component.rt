@@ -92,11 +92,6 @@ impl Source<'_> {
     }
 }
 
-/// The value that is so many units more, rounded. None past 128 bits, or where one isn't a number.
-fn moved(value: Option<i128>, more: f64) -> Option<i128> {
-    value?.checked_add(nearest(more)?)
-}
-
 /// What a row with these entries that earns so much has over the value of its node. It goes by differences, so that
 /// what is alike in all values costs no digits.
 pub(crate) fn over(row: &FloatRow, earned: f64, entries: &[(u32, f64)], values: &[f64]) -> f64 {
@@ -201,10 +196,14 @@ impl Component {
     pub(crate) fn add(&self, corrections: &[f64], values: &mut [Value]) -> bool {
         for place in 0..self.nodes.len().min(corrections.len()) {
             let node = self.nodes[place];
-            match moved(value_at(values, node), corrections[place]) {
-                Some(sum) => put(values, node, Value::known(sum)),
-                None => return false,
-            }
+            let (Some(value), Some(more)) = (value_at(values, node), nearest(corrections[place]))
+            else {
+                return false;
+            };
+            let Some(sum) = value.checked_add(more) else {
+                return false;
+            };
+            put(values, node, Value::known(sum));
         }
         true
     }

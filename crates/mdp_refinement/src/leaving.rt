@@ -28,11 +28,6 @@ impl<'a> Leaving<'a> {
         }
     }
 
-    /// Whether the last search led all nodes.
-    pub(crate) fn has_led_all(&self) -> bool {
-        self.queue.len() >= self.component.nodes.len()
-    }
-
     /// Changes a policy to another one at the nodes from which it doesn't leave the component.
     pub(crate) fn make_proper(
         &mut self,
@@ -64,7 +59,8 @@ impl<'a> Leaving<'a> {
     }
 
     /// Leads all nodes that leave the component, by the policy's rows or by all, in the fewest steps. The others keep the rows that they had.
-    pub(crate) fn search(&mut self, policy: Option<&[usize]>) -> Result<(), AllocError> {
+    /// Whether there are none.
+    pub(crate) fn search(&mut self, policy: Option<&[usize]>) -> Result<bool, AllocError> {
         let nodes = self.component.nodes.len();
         self.policy.resize(nodes, 0)?;
         self.is_led.clear();
@@ -84,6 +80,6 @@ impl<'a> Leaving<'a> {
                 self.lead(*row as usize, policy)?;
             }
         }
-        Ok(())
+        Ok(self.queue.len() >= nodes)
     }
 }

@@ -92,17 +92,6 @@ impl Solver<'_> {
         false
     }
 
-    /// A component with one node, exactly.
-    fn solve_single(&mut self, node: u32) {
-        match best_rounded(self.rows, self.task, node, &self.solution.values) {
-            Some((value, place)) => self.solution.settle(node, value, Some(place)),
-            None => {
-                self.solution.is_full = false;
-                self.give_up(&[node]);
-            }
-        }
-    }
-
     /// A component by refinement that begins with a policy, or else by interval iteration.
     fn solve_leaving(
         &mut self,
@@ -149,8 +138,7 @@ impl Solver<'_> {
         component: &Component,
         search: &mut Leaving<'_>,
     ) -> Result<bool, AllocError> {
-        search.search(None)?;
-        if !search.has_led_all() {
+        if !search.search(None)? {
             return Ok(false);
         }
         if let Some(other) = self.other {
@@ -185,7 +173,7 @@ impl Solver<'_> {
         self.solve_open(alloc, &component, &leading)
     }
 
-    /// The component of this number, whose successors are solved.
+    /// The component of this number, whose successors are solved; exactly, where it has one node.
     fn solve_component(&mut self, alloc: Global, number: usize) -> Result<(), AllocError> {
         let components = self.components;
         let nodes = components.nodes_of(number);
@@ -193,13 +181,17 @@ impl Solver<'_> {
             self.give_up(nodes);
             return Ok(());
         }
-        match nodes {
-            [node] => {
-                self.solve_single(*node);
-                Ok(())
+        let [node] = nodes else {
+            return self.solve_many(alloc, number);
+        };
+        match best_rounded(self.rows, self.task, *node, &self.solution.values) {
+            Some((value, place)) => self.solution.settle(*node, value, Some(place)),
+            None => {
+                self.solution.is_full = false;
+                self.give_up(nodes);
             }
-            _ => self.solve_many(alloc, number),
         }
+        Ok(())
     }
 
     /// All components, successors first, unless it ends with the first one that isn't refined.
