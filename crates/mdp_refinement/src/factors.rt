@@ -61,14 +61,6 @@ impl Factors {
         part_of(&self.rows, step.row.0, step.row.1)
     }
 
-    /// Appends a step.
-    fn push(&mut self, step: Step) -> Result<(), AllocError> {
-        let width = step.row.1.saturating_sub(step.row.0);
-        let height = step.column.1.saturating_sub(step.column.0);
-        self.products = self.products.saturating_add(width.saturating_mul(height));
-        append(&mut self.steps, step)
-    }
-
     /// Brings gains forward through the steps.
     fn forward(&self, gains: &mut [f64]) {
         for step in &self.steps {
@@ -274,7 +266,10 @@ impl System {
         put(&mut self.is_gone, node, true);
         self.fold_all(alloc, &step)?;
         step.column.1 = self.factors.columns.len();
-        self.factors.push(step)?;
+        let width = step.row.1.saturating_sub(first);
+        let products = width.saturating_mul(step.column.1.saturating_sub(column));
+        self.factors.products = self.factors.products.saturating_add(products);
+        append(&mut self.factors.steps, step)?;
         Ok(true)
     }
 

@@ -131,25 +131,8 @@ impl Solver<'_> {
         self.solve_leaving(alloc, component, start, &mut corrector)
     }
 
-    /// Searches the policy to begin with: for each node its first row that leaves the component, else one that leads to a node which does so in fewer steps;
-    /// or that of the other bound where it leaves. Whether each node can leave.
-    fn search_start(
-        &self,
-        component: &Component,
-        search: &mut Leaving<'_>,
-    ) -> Result<bool, AllocError> {
-        if !search.search(None)? {
-            return Ok(false);
-        }
-        if let Some(other) = self.other {
-            let mut policy = search.policy.clone()?;
-            other.put_policy(component, &mut policy);
-            search.search(Some(&policy))?;
-        }
-        Ok(true)
-    }
-
-    /// A component with several nodes, if each node can leave it.
+    /// A component with several nodes, if each node can leave it. It begins with a policy by which each takes its first row that leaves the component, else
+    /// one that leads to a node which does so in fewer steps; or with that of the other bound where it leaves.
     fn solve_open(
         &mut self,
         alloc: Global,
@@ -157,12 +140,16 @@ impl Solver<'_> {
         leading: &Graph,
     ) -> Result<(), AllocError> {
         let mut search = Leaving::new(alloc, component, leading);
-        if self.search_start(component, &mut search)? {
-            self.correct(alloc, component, leading, &search.policy)
-        } else {
+        if !search.search(None)? {
             self.give_up(&component.nodes);
-            Ok(())
+            return Ok(());
         }
+        if let Some(other) = self.other {
+            let mut policy = search.policy.clone()?;
+            other.put_policy(component, &mut policy);
+            search.search(Some(&policy))?;
+        }
+        self.correct(alloc, component, leading, &search.policy)
     }
 
     /// The component of this number, which has several nodes.
