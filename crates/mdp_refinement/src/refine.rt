@@ -86,19 +86,6 @@ impl Refinement<'_> {
         Some(measured)
     }
 
-    /// Takes in a round at whose begin rows are wrong by so much.
-    fn count(&mut self, error: f64) {
-        if error < self.least / 2.0 {
-            self.least = error;
-            self.stale = 0;
-        } else {
-            self.stale = self.stale.saturating_add(1);
-        }
-        if self.stale >= FEW_STALE {
-            self.room *= GROWTH;
-        }
-    }
-
     /// Measures the rows and corrects the values by turns. Whether the rows hold at the end that are to hold.
     fn run(
         &mut self,
@@ -110,7 +97,15 @@ impl Refinement<'_> {
             let Some(measured) = self.measure(&corrector.policy, values) else {
                 return Ok(false);
             };
-            self.count(measured.error);
+            if measured.error < self.least / 2.0 {
+                self.least = measured.error;
+                self.stale = 0;
+            } else {
+                self.stale = self.stale.saturating_add(1);
+            }
+            if self.stale >= FEW_STALE {
+                self.room *= GROWTH;
+            }
             let is_enough = measured.is_near && round > 0 || self.stale >= FEW_STALE;
             if measured.is_held && is_enough {
                 return Ok(true);
