@@ -56,11 +56,12 @@ impl Chosen {
         self.rows.clear();
         self.entries.clear();
         for at in policy {
-            let row = component.row_at(*at);
+            let mut row = component.row_at(*at);
             let first = number(self.entries.len());
             self.entries.extend_from_slice(component.entries_of(&row))?;
-            let end = number(self.entries.len());
-            append(&mut self.rows, FloatRow { first, end, ..row })?;
+            row.first = first;
+            row.end = number(self.entries.len());
+            append(&mut self.rows, row)?;
         }
         Ok(())
     }

@@ -1,6 +1,6 @@
 use crate::convert::{nearest, to_float};
 use crate::graph::Graph;
-use crate::lists::{append, float_at, item_at, number, number_at, part_of, put, target_of};
+use crate::lists::{append, float_at, item_at, number, number_at, part_of, put, sum_of, target_of};
 use crate::rows::{Rows, WholeRow};
 use crate::strong::Components;
 use crate::value::{Value, value_at};
@@ -92,11 +92,6 @@ impl Source<'_> {
     }
 }
 
-/// The value that is so many units more, rounded. None past 128 bits, or where one isn't a number.
-fn moved(value: Option<i128>, more: f64) -> Option<i128> {
-    value?.checked_add(nearest(more)?)
-}
-
 /// What a row with these entries that earns so much has over the value of its node. It goes by differences, so that
 /// what is alike in all values costs no digits.
 pub(crate) fn over(row: &FloatRow, earned: f64, entries: &[(u32, f64)], values: &[f64]) -> f64 {
@@ -123,10 +118,7 @@ impl Component {
             entries.sort_unstable_by_key(target_of);
         }
         let exit = to_float(leaving) / to_float(row.denominator);
-        let mut inner = 0.0;
-        for entry in part_of(&self.entries, from, self.entries.len()) {
-            inner += entry.1;
-        }
+        let inner = sum_of(0.0, part_of(&self.entries, from, self.entries.len()));
         let total = exit + inner;
         let slack = if row.is_stop() {
             0.0
@@ -202,11 +194,16 @@ impl Component {
 
     /// Adds corrections to the values of its nodes, rounded to units. Not where one is past 128 bits or not a number: whether none was.
     pub(crate) fn add(&self, corrections: &[f64], values: &mut [Value]) -> bool {
-        for (node, correction) in self.nodes.iter().zip(corrections) {
-            match moved(value_at(values, *node), *correction) {
-                Some(sum) => put(values, *node, Value::known(sum)),
-                None => return false,
-            }
+        for place in 0..self.nodes.len().min(corrections.len()) {
+            let node = self.nodes[place];
+            let (Some(value), Some(more)) = (value_at(values, node), nearest(corrections[place]))
+            else {
+                return false;
+            };
+            let Some(sum) = value.checked_add(more) else {
+                return false;
+            };
+            put(values, node, Value::known(sum));
         }
         true
     }
@@ -238,11 +235,6 @@ impl Component {
         item_at(&self.rows, place, NO_ROW)
     }
 
-    /// The entries of the row at a place, none where there is no such row.
-    pub(crate) fn entries_at(&self, place: usize) -> &[(u32, f64)] {
-        self.entries_of(&self.row_at(place))
-    }
-
     /// The place of the whole row of the row at a place, if there is such a row.
     pub(crate) fn pick_at(&self, place: usize) -> Option<usize> {
         Some(self.rows.get(place)?.place as usize)
@@ -252,7 +244,7 @@ impl Component {
     pub(crate) fn leading(&self, alloc: Global) -> Result<Graph, AllocError> {
         let mut pairs = Vec::with_capacity(alloc, self.entries.len())?;
         for place in 0..self.rows.len() {
-            for entry in self.entries_at(place) {
+            for entry in self.entries_of(&self.row_at(place)) {
                 append(&mut pairs, (entry.0, number(place)))?;
             }
         }
@@ -264,15 +256,10 @@ impl Component {
         Ok(leading)
     }
 
-    /// What a row that earns so much over the gain has over the value of its node, from values within the component.
-    pub(crate) fn over(&self, row: &FloatRow, earned: f64, values: &[f64]) -> f64 {
-        over(row, earned, self.entries_of(row), values)
-    }
-
     /// Picks for each of its nodes the whole row of a policy's.
     pub(crate) fn pick(&self, policy: &[usize], picks: &mut [Option<usize>]) {
-        for (node, row) in self.nodes.iter().zip(policy) {
-            put(picks, *node, self.pick_at(*row));
+        for place in 0..self.nodes.len().min(policy.len()) {
+            put(picks, self.nodes[place], self.pick_at(policy[place]));
         }
     }
 }

@@ -1,7 +1,7 @@
 //! Corrections of the values of a component, in floats: the best values that gains come to, by sweeps where these come forward, else by policies, each
 //! better than the one before.
 
-use crate::component::Component;
+use crate::component::{Component, over};
 use crate::convert::to_float;
 use crate::evaluate::Evaluation;
 use crate::graph::Graph;
@@ -65,15 +65,10 @@ impl Earning<'_> {
         item_at(self.gains, at, 0.0) - self.gain
     }
 
-    /// Whether a row earns so much less than another one that values can't make it better.
-    fn is_far(self, at: usize, chosen: usize) -> bool {
-        (self.of(chosen) - self.of(at)) * self.sense > self.far
-    }
-
     /// What a row has over the value of its node, times `sense`.
     fn over(self, at: usize, values: &[f64]) -> f64 {
         let row = self.component.row_at(at);
-        self.component.over(&row, self.of(at), values) * self.sense
+        over(&row, self.of(at), self.component.entries_of(&row), values) * self.sense
     }
 
     /// By what a row is compared that has so much over the value of its node: that, or, in a sweep, what it makes of the value.
@@ -92,7 +87,9 @@ impl Earning<'_> {
         let mut best = (chosen, own);
         let mut most = self.rank(chosen, own) + least;
         for at in from..to {
-            if at != chosen && !self.is_far(at, chosen) {
+            // A row that earns so much less that values can't make it better isn't looked at.
+            let is_far = (self.of(chosen) - self.of(at)) * self.sense > self.far;
+            if at != chosen && !is_far {
                 let more = self.over(at, values);
                 let rank = self.rank(at, more);
                 if rank > most {
@@ -154,29 +151,36 @@ pub(crate) struct Corrector<'a> {
 }
 
 impl<'a> Corrector<'a> {
-    /// A search that begins with a policy from which each node leaves.
+    /// A search. By the rows of `start` each node leaves, unless each step may end.
     pub(crate) fn new(
         alloc: Global,
         component: &'a Component,
         leading: &'a Graph,
         sense: f64,
         start: &'a [usize],
-    ) -> Result<Corrector<'a>, AllocError> {
-        let nodes = component.nodes.len();
-        Ok(Corrector {
+    ) -> Corrector<'a> {
+        Corrector {
             component,
             sense,
             start,
-            policy: start.to_vec(alloc)?,
-            values: vec![in alloc; 0.0; nodes]?,
+            policy: Vec::new(alloc),
+            values: Vec::new(alloc),
             gain: 0.0,
             small_gain: SMALL_GAIN,
             far: f64::INFINITY,
-            is_sweeping: nodes > FEW_NODES,
-            earned: vec![in alloc; 0.0; nodes]?,
+            is_sweeping: component.nodes.len() > FEW_NODES,
+            earned: Vec::new(alloc),
             evaluation: Evaluation::new(alloc, component),
-            leaving: Leaving::new(alloc, component, leading)?,
-        })
+            leaving: Leaving::new(alloc, component, leading),
+        }
+    }
+
+    /// Takes the policy to begin with, and makes place for the values of all nodes.
+    pub(crate) fn begin(&mut self, policy: &[usize]) -> Result<(), AllocError> {
+        let nodes = self.component.nodes.len();
+        self.policy.extend_from_slice(policy)?;
+        self.values.resize(nodes, 0.0)?;
+        self.earned.resize(nodes, 0.0)
     }
 
     /// What rows earn.
@@ -204,9 +208,8 @@ impl<'a> Corrector<'a> {
 
     /// Puts what the policy's rows earn.
     fn earn(&mut self, gains: &[f64]) {
-        let earning = self.earning(gains, false);
         for place in 0..self.earned.len().min(self.policy.len()) {
-            self.earned[place] = earning.of(self.policy[place]);
+            self.earned[place] = item_at(gains, self.policy[place], 0.0) - self.gain;
         }
     }
 
@@ -222,14 +225,6 @@ impl<'a> Corrector<'a> {
         spread.size(mean)
     }
 
-    /// Has rows tried that the values may make better. Where these are 0 they are to become no greater than before.
-    fn look_far(&mut self) {
-        let size = greatest_size(&self.values);
-        if size > 0.0 {
-            self.far = FAR * size;
-        }
-    }
-
     /// Sweeps along the policy's rows. What they are wrong by then.
     fn follow(&mut self, gains: &[f64]) -> f64 {
         self.earn(gains);
@@ -239,11 +234,16 @@ impl<'a> Corrector<'a> {
         self.settle()
     }
 
-    /// Sweeps so many times over all rows, and then along those of the policy. Whether that changed, and what its rows are wrong by.
+    /// Sweeps so many times over all rows that the values may make better, and then along those of the policy. Whether that changed, and what its rows are
+    /// wrong by.
     fn sweep_round(&mut self, gains: &[f64], first: usize) -> Result<(bool, f64), AllocError> {
         let mut is_changed = false;
         for _ in 0..first {
-            self.look_far();
+            // Where the values are 0 they are to become no greater than before.
+            let size = greatest_size(&self.values);
+            if size > 0.0 {
+                self.far = FAR * size;
+            }
             let earning = self.earning(gains, true);
             if earning.improve(0.0, &mut self.values, &mut self.policy) {
                 is_changed = true;

@@ -4,8 +4,8 @@
 
 use crate::component::Component;
 use crate::lists::{
-    add_over, append, flag_at, float_at, item_at, length_at, number, part_of, place_of, put,
-    sum_over, target_of,
+    add_over, append, flag_at, float_at, item_at, number, part_of, place_of, put, sum_of, sum_over,
+    target_of,
 };
 use std::alloc::{AllocError, Global};
 use std::cmp::{OrderedFloat, Reverse};
@@ -44,19 +44,28 @@ pub(crate) enum Elimination {
     Long,
 }
 
-/// Appends entries to others. Where they stand.
-fn append_all(all: &mut Entries, entries: &[(u32, f64)]) -> Result<(usize, usize), AllocError> {
-    let first = all.len();
-    all.extend_from_slice(entries)?;
-    Ok((first, all.len()))
-}
-
 impl Factors {
+    /// No step yet.
+    fn empty(alloc: Global) -> Factors {
+        Factors {
+            steps: Vec::new(alloc),
+            rows: Vec::new(alloc),
+            columns: Vec::new(alloc),
+            is_exact: true,
+            products: 0,
+        }
+    }
+
+    /// What the node of a step gave to the nodes that were left.
+    fn row_of(&self, step: &Step) -> &[(u32, f64)] {
+        part_of(&self.rows, step.row.0, step.row.1)
+    }
+
     /// Brings gains forward through the steps.
     fn forward(&self, gains: &mut [f64]) {
         for step in &self.steps {
-            let column = part_of(&self.columns, step.column.0, step.column.1);
             let gain = float_at(gains, step.node);
+            let column = part_of(&self.columns, step.column.0, step.column.1);
             add_over(gains, column, gain);
         }
     }
@@ -65,34 +74,17 @@ impl Factors {
     pub(crate) fn solve(&self, gains: &mut [f64]) {
         self.forward(gains);
         for step in self.steps.iter().rev() {
-            let row = part_of(&self.rows, step.row.0, step.row.1);
-            let total = sum_over(float_at(gains, step.node), row, gains);
+            let total = sum_over(float_at(gains, step.node), self.row_of(step), gains);
             put(gains, step.node, total / step.pivot);
         }
     }
 }
 
-/// Takes the list at a place, an empty one outside.
-fn take_list<T>(alloc: Global, lists: &mut [Vec<T>], place: u32) -> Vec<T> {
-    match lists.get_mut(place as usize) {
-        Some(list) => mem::replace(list, Vec::new(alloc)),
-        None => Vec::new(alloc),
-    }
-}
-
 /// Appends a number to the list at a place.
 fn push_at(lists: &mut [Vec<u32>], place: u32, item: u32) -> Result<(), AllocError> {
-    if let Some(list) = lists.get_mut(place as usize) {
-        list.push(item)?;
-    }
-    Ok(())
-}
-
-/// Takes the entry to a target out of a row, which is ordered by target. Its probability, if there is one.
-fn take_entry(row: &mut Entries, target: u32) -> Option<f64> {
-    match row.binary_search_by_key(&target, target_of) {
-        Ok(place) => Some(row.remove(place).1),
-        Err(_) => None,
+    match lists.get_mut(place as usize) {
+        Some(list) => append(list, item),
+        None => Ok(()),
     }
 }
 
@@ -109,19 +101,26 @@ fn merge(
     merged.clear();
     let mut next = 0usize;
     for entry in row {
-        let more = share * entry.1;
+        let mut more = share * entry.1;
         let end = place_of(own, next, entry.0);
         merged.extend_from_slice(part_of(own, next, end))?;
         next = end;
         if next < own.len() && own[next].0 == entry.0 {
-            merged.push((entry.0, own[next].1 + more))?;
+            more += own[next].1;
             next = next.saturating_add(1);
         } else if entry.0 != node {
-            merged.push((entry.0, more))?;
             push_at(preds, entry.0, node)?;
+        } else {
+            continue;
         }
+        append(merged, (entry.0, more))?;
     }
     merged.extend_from_slice(part_of(own, next, own.len()))
+}
+
+/// By what entries are ordered, the greatest first.
+fn by_size(entry: &(u32, f64)) -> Reverse<OrderedFloat<f64>> {
+    Reverse(OrderedFloat(entry.1))
 }
 
 /// Keeps the greatest entries of a row that is ordered by target, at most so many. Whether some were dropped.
@@ -129,7 +128,7 @@ fn keep_greatest(row: &mut Entries, most: usize) -> bool {
     if row.len() <= most {
         return false;
     }
-    row.sort_unstable_by_key(|entry| Reverse(OrderedFloat(entry.1)));
+    row.sort_unstable_by_key(by_size);
     row.truncate(most);
     row.sort_unstable_by_key(target_of);
     true
@@ -151,40 +150,43 @@ struct System {
 }
 
 impl System {
-    /// No row yet, of so many nodes.
-    fn empty(alloc: Global, nodes: usize, most: usize) -> Result<System, AllocError> {
-        let mut preds = Vec::new(alloc);
-        for _ in 0..nodes {
-            preds.push(Vec::new(alloc))?;
-        }
-        Ok(System {
+    /// No row yet.
+    fn empty(alloc: Global, most: usize) -> System {
+        System {
             most,
             rows: Vec::new(alloc),
-            exits: vec![in alloc; 0.0; nodes]?,
-            preds,
+            exits: Vec::new(alloc),
+            preds: Vec::new(alloc),
             queue: BinaryHeap::new(alloc),
-            products: vec![in alloc; usize::MAX; nodes]?,
-            is_gone: vec![in alloc; false; nodes]?,
+            products: Vec::new(alloc),
+            is_gone: Vec::new(alloc),
             merged: Vec::new(alloc),
-            factors: Factors {
-                steps: Vec::new(alloc),
-                rows: Vec::new(alloc),
-                columns: Vec::new(alloc),
-                is_exact: true,
-                products: 0,
-            },
-        })
+            factors: Factors::empty(alloc),
+        }
     }
 
-    /// Appends the row of the next node.
-    fn push(&mut self, alloc: Global, exit: f64, entries: &[(u32, f64)]) -> Result<(), AllocError> {
-        let node = number(self.rows.len());
+    /// Makes place for so many nodes, whose rows are empty.
+    fn make_place(&mut self, alloc: Global, nodes: usize) -> Result<(), AllocError> {
+        self.exits.resize(nodes, 0.0)?;
+        self.products.resize(nodes, usize::MAX)?;
+        self.is_gone.resize(nodes, false)?;
+        for _ in 0..nodes {
+            self.rows.push(Vec::new(alloc))?;
+            self.preds.push(Vec::new(alloc))?;
+        }
+        Ok(())
+    }
+
+    /// Takes the row of a node.
+    fn take(&mut self, node: u32, exit: f64, entries: &[(u32, f64)]) -> Result<(), AllocError> {
         put(&mut self.exits, node, exit);
         for entry in entries {
             push_at(&mut self.preds, entry.0, node)?;
         }
-        self.rows.push(entries.to_vec(alloc)?)?;
-        Ok(())
+        match self.rows.get_mut(node as usize) {
+            Some(own) => own.extend_from_slice(entries),
+            None => Ok(()),
+        }
     }
 
     /// Has a node wait with the products that it takes at most to eliminate it now, if these are fewer than before.
@@ -199,118 +201,117 @@ impl System {
 
     /// How many products it takes at most to eliminate a node now.
     fn products_of(&self, node: u32) -> usize {
-        length_at(&self.rows, node).saturating_mul(length_at(&self.preds, node))
-    }
-
-    /// The node to go next; none where all have gone. Nodes whose products have become more wait longer.
-    fn next(&mut self) -> Result<Option<u32>, AllocError> {
-        for _ in 0..usize::MAX {
-            let Some(Reverse((products, node))) = self.queue.pop() else {
-                break;
-            };
-            if !flag_at(&self.is_gone, node) {
-                if self.products_of(node) <= products {
-                    return Ok(Some(node));
-                }
-                put(&mut self.products, node, usize::MAX);
-                self.wait(node)?;
-            }
+        let place = node as usize;
+        if place >= self.rows.len() || place >= self.preds.len() {
+            return 0;
         }
-        Ok(None)
+        self.rows[place]
+            .len()
+            .saturating_mul(self.preds[place].len())
     }
 
-    /// Puts the row of the node `gone` into that of `pred`. The share that it takes, if it has an entry to that node.
-    fn fold_into(
-        &mut self,
-        pred: u32,
-        gone: u32,
-        row: &[(u32, f64)],
-        pivot: f64,
-    ) -> Result<Option<f64>, AllocError> {
+    /// Puts the row of the node that goes in a step into that of another one, if this leads to that node, and notes the share that it takes.
+    fn fold_into(&mut self, pred: u32, step: &Step) -> Result<(), AllocError> {
         let Some(own) = self.rows.get_mut(pred as usize) else {
-            return Ok(None);
+            return Ok(());
         };
-        let Some(prob) = take_entry(own, gone) else {
-            return Ok(None);
+        let Ok(place) = own.binary_search_by_key(&step.node, target_of) else {
+            return Ok(());
         };
-        let share = prob / pivot;
-        merge(
-            own.as_slice(),
-            pred,
-            row,
-            share,
-            &mut self.merged,
-            &mut self.preds,
-        )?;
+        let share = own.remove(place).1 / step.pivot;
+        let row = self.factors.row_of(step);
+        merge(own, pred, row, share, &mut self.merged, &mut self.preds)?;
         mem::swap(own, &mut self.merged);
         if keep_greatest(own, self.most) {
             self.factors.is_exact = false;
         }
-        let exit = float_at(&self.exits, gone);
+        let exit = float_at(&self.exits, step.node);
         add_over(&mut self.exits, &[(pred, exit)], share);
-        Ok(Some(share))
+        append(&mut self.factors.columns, (pred, share))?;
+        self.wait(pred)
     }
 
-    /// The shares that the nodes which are left take of a node.
-    fn fold_all(
-        &mut self,
-        alloc: Global,
-        node: u32,
-        row: &[(u32, f64)],
-        pivot: f64,
-    ) -> Result<Entries, AllocError> {
-        let preds = take_list(alloc, &mut self.preds, node);
-        let mut column = Vec::new(alloc);
+    /// Puts the row of the node that goes in a step into those of the nodes which are left.
+    fn fold_all(&mut self, alloc: Global, step: &Step) -> Result<(), AllocError> {
+        let Some(list) = self.preds.get_mut(step.node as usize) else {
+            return Ok(());
+        };
+        let preds = mem::replace(list, Vec::new(alloc));
         for pred in &preds {
-            if flag_at(&self.is_gone, *pred) {
-                continue;
-            }
-            if let Some(share) = self.fold_into(*pred, node, row, pivot)? {
-                column.push((*pred, share))?;
-                self.wait(*pred)?;
+            if !flag_at(&self.is_gone, *pred) {
+                self.fold_into(*pred, step)?;
             }
         }
-        Ok(column)
+        Ok(())
     }
 
     /// Eliminates a node. Whether it leaves.
     fn eliminate(&mut self, alloc: Global, node: u32) -> Result<bool, AllocError> {
-        let row = take_list(alloc, &mut self.rows, node);
-        let mut pivot = float_at(&self.exits, node);
-        for entry in &row {
-            pivot += entry.1;
+        let factors = &mut self.factors;
+        let (first, column) = (factors.rows.len(), factors.columns.len());
+        if let Some(row) = self.rows.get_mut(node as usize) {
+            factors.rows.extend_from_slice(row)?;
+            *row = Vec::new(alloc);
         }
-        if !(pivot > 0.0) {
+        let mut step = Step {
+            node,
+            pivot: 0.0,
+            row: (first, factors.rows.len()),
+            column: (column, column),
+        };
+        step.pivot = sum_of(float_at(&self.exits, node), factors.row_of(&step));
+        if !(step.pivot > 0.0) {
             return Ok(false);
         }
         put(&mut self.is_gone, node, true);
-        let column = self.fold_all(alloc, node, &row, pivot)?;
-        let products = row.len().saturating_mul(column.len());
+        self.fold_all(alloc, &step)?;
+        step.column.1 = self.factors.columns.len();
+        let width = step.row.1.saturating_sub(first);
+        let products = width.saturating_mul(step.column.1.saturating_sub(column));
         self.factors.products = self.factors.products.saturating_add(products);
-        let step = Step {
-            node,
-            pivot,
-            row: append_all(&mut self.factors.rows, &row)?,
-            column: append_all(&mut self.factors.columns, &column)?,
-        };
         append(&mut self.factors.steps, step)?;
         Ok(true)
     }
 
-    /// Eliminates all nodes, with so many products at most.
-    fn eliminate_all(mut self, alloc: Global, products: usize) -> Result<Elimination, AllocError> {
-        for _ in 0..self.rows.len() {
-            let Some(node) = self.next()? else {
+    /// Eliminates all nodes, with so many products at most. Those whose products have become more than these they waited with wait longer.
+    fn eliminate_all(&mut self, alloc: Global, products: usize) -> Result<Elimination, AllocError> {
+        for _ in 0..usize::MAX {
+            let Some(Reverse((least, node))) = self.queue.pop() else {
                 break;
             };
-            if !self.eliminate(alloc, node)? {
-                return Ok(Elimination::Closed(!self.factors.is_exact));
+            if flag_at(&self.is_gone, node) {
+                continue;
             }
-            if self.factors.products > products {
+            if self.products_of(node) > least {
+                put(&mut self.products, node, usize::MAX);
+                self.wait(node)?;
+            } else if !self.eliminate(alloc, node)? {
+                return Ok(Elimination::Closed(!self.factors.is_exact));
+            } else if self.factors.products > products {
                 return Ok(Elimination::Long);
             }
         }
-        Ok(Elimination::Done(self.factors))
+        let factors = mem::replace(&mut self.factors, Factors::empty(alloc));
+        Ok(Elimination::Done(factors))
+    }
+
+    /// Eliminates all nodes of a component under a policy, with so many products at most.
+    fn run(
+        &mut self,
+        alloc: Global,
+        component: &Component,
+        policy: &[usize],
+        products: usize,
+    ) -> Result<Elimination, AllocError> {
+        self.make_place(alloc, policy.len())?;
+        for place in 0..policy.len() {
+            let row = component.row_at(policy[place]);
+            self.take(number(place), row.exit, component.entries_of(&row))?;
+        }
+        for node in 0..number(policy.len()) {
+            self.wait(node)?;
+        }
+        self.eliminate_all(alloc, products)
     }
 }
 
@@ -322,13 +323,6 @@ pub(crate) fn eliminated(
     most: usize,
     products: usize,
 ) -> Result<Elimination, AllocError> {
-    let mut system = System::empty(alloc, policy.len(), most)?;
-    for at in policy {
-        let row = component.row_at(*at);
-        system.push(alloc, row.exit, component.entries_of(&row))?;
-    }
-    for node in 0..number(policy.len()) {
-        system.wait(node)?;
-    }
-    system.eliminate_all(alloc, products)
+    let mut system = System::empty(alloc, most);
+    system.run(alloc, component, policy, products)
 }

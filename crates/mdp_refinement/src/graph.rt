@@ -31,9 +31,8 @@ impl Graph {
 
     /// Appends an edge from a node, the last one or one behind it.
     pub(crate) fn push_edge_from(&mut self, node: u32, target: u32) -> Result<(), AllocError> {
-        for _ in self.starts.len()..(node as usize).saturating_add(1) {
-            self.push_node()?;
-        }
+        let nodes = self.starts.len().max((node as usize).saturating_add(1));
+        self.starts.resize(nodes, self.targets.len())?;
         self.push_edge(target)
     }
 

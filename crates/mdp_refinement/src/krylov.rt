@@ -59,14 +59,15 @@ pub(crate) struct Equations<'a> {
 }
 
 impl Equations<'_> {
-    /// Nearly the values that values lack so that rows which earn so much come to them.
+    /// Nearly the values that values lack, of which there are so many, so that rows which earn so much come to them. Those that aren't there are 0.
     fn lacking(
         self,
         alloc: Global,
+        nodes: usize,
         earned: &[f64],
         values: &[f64],
     ) -> Result<Vec<f64>, AllocError> {
-        let mut lacking = vec![in alloc; 0.0; values.len()]?;
+        let mut lacking = vec![in alloc; 0.0; nodes]?;
         self.chosen.put_over(earned, values, &mut lacking);
         match self.factors {
             Some(factors) => factors.solve(&mut lacking),
@@ -77,7 +78,7 @@ impl Equations<'_> {
 
     /// What the equations make of a vector: about that itself.
     fn product(self, alloc: Global, vector: &[f64]) -> Result<Vec<f64>, AllocError> {
-        let mut product = self.lacking(alloc, &[], vector)?;
+        let mut product = self.lacking(alloc, vector.len(), &[], vector)?;
         divide(&mut product, -1.0);
         Ok(product)
     }
@@ -97,12 +98,12 @@ impl Equations<'_> {
             directions: Vec::new(alloc),
             vector: vec![in alloc; 0.0; nodes]?,
             constant: 0.0,
-            lacking: self.lacking(alloc, earned, values)?,
+            lacking: self.lacking(alloc, nodes, earned, values)?,
         };
         let ones = vec![in alloc; 1.0; nodes]?;
         let product = self.product(alloc, &ones)?;
         steps.take(vec![in alloc; 0.0; nodes]?, 1.0, product)?;
-        let mut all = self.lacking(alloc, earned, &vec![in alloc; 0.0; nodes]?)?;
+        let mut all = self.lacking(alloc, nodes, earned, &[])?;
         let least = LOSS * length_of(&all);
         steps.turn(&mut [], &mut all);
         let enough = least.max(tolerance * length_of(&all));

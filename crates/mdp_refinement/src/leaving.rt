@@ -11,26 +11,21 @@ use std::alloc::{AllocError, Global};
 pub(crate) struct Leaving<'a> {
     component: &'a Component,
     leading: &'a Graph,
-    policy: Vec<usize>,
+    pub(crate) policy: Vec<usize>,
     is_led: Vec<bool>,
     queue: Vec<u32>,
 }
 
 impl<'a> Leaving<'a> {
     /// A search that has led no node.
-    pub(crate) fn new(
-        alloc: Global,
-        component: &'a Component,
-        leading: &'a Graph,
-    ) -> Result<Leaving<'a>, AllocError> {
-        let nodes = component.nodes.len();
-        Ok(Leaving {
+    pub(crate) fn new(alloc: Global, component: &'a Component, leading: &'a Graph) -> Leaving<'a> {
+        Leaving {
             component,
             leading,
-            policy: vec![in alloc; 0; nodes]?,
-            is_led: vec![in alloc; false; nodes]?,
+            policy: Vec::new(alloc),
+            is_led: Vec::new(alloc),
             queue: Vec::new(alloc),
-        })
+        }
     }
 
     /// Changes a policy to another one at the nodes from which it doesn't leave the component.
@@ -55,53 +50,36 @@ impl<'a> Leaving<'a> {
             Some(policy) => takes(policy, node, row),
             None => true,
         };
-        if is_followed && !flag_at(&self.is_led, node) {
-            put(&mut self.is_led, node, true);
-            put(&mut self.policy, node, row);
-            append(&mut self.queue, node)?;
+        if !is_followed || flag_at(&self.is_led, node) {
+            return Ok(());
         }
-        Ok(())
+        put(&mut self.is_led, node, true);
+        put(&mut self.policy, node, row);
+        append(&mut self.queue, node)
     }
 
-    /// Leads the nodes that have an entry to this one.
-    fn lead_to(&mut self, target: u32, policy: Option<&[usize]>) -> Result<(), AllocError> {
-        let leading = self.leading;
-        for row in leading.targets_of(target) {
-            self.lead(*row as usize, policy)?;
-        }
-        Ok(())
-    }
-
-    /// Leads all nodes that leave the component, by the policy's rows or by all, in the fewest steps.
-    fn search(&mut self, policy: Option<&[usize]>) -> Result<(), AllocError> {
-        self.is_led.fill(false);
+    /// Leads all nodes that leave the component, by the policy's rows or by all, in the fewest steps. The others keep the rows that they had.
+    /// Whether there are none.
+    pub(crate) fn search(&mut self, policy: Option<&[usize]>) -> Result<bool, AllocError> {
+        let nodes = self.component.nodes.len();
+        self.policy.resize(nodes, 0)?;
+        self.is_led.clear();
+        self.is_led.resize(nodes, false)?;
         self.queue.clear();
         for row in 0..self.component.rows.len() {
             if self.component.row_at(row).exit > 0.0 {
                 self.lead(row, policy)?;
             }
         }
+        let leading = self.leading;
         for place in 0..self.is_led.len() {
             let Some(target) = self.queue.get(place).copied() else {
                 break;
             };
-            self.lead_to(target, policy)?;
+            for row in leading.targets_of(target) {
+                self.lead(*row as usize, policy)?;
+            }
         }
-        Ok(())
+        Ok(self.queue.len() >= nodes)
     }
-}
-
-/// For each node a row by which it may leave the component: its first that leaves, else one that leads to a node which does so in fewer steps. None
-/// where a node can't leave.
-pub(crate) fn exit_policy(
-    alloc: Global,
-    component: &Component,
-    leading: &Graph,
-) -> Result<Option<Vec<usize>>, AllocError> {
-    let mut search = Leaving::new(alloc, component, leading)?;
-    search.search(None)?;
-    if search.queue.len() < component.nodes.len() {
-        return Ok(None);
-    }
-    Ok(Some(search.policy))
 }

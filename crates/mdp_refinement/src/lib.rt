@@ -34,4 +34,4 @@ pub use rows::{ChoiceRow, Discount, Entry, Rows, Scale, WholeRow};
 pub use solving::{Solution, solve};
 pub use strong::{Components, strong_components};
 pub use value::{Value, value_at};
-pub use whole::{above_magnitude, digits_of, power_of_ten, quotient};
+pub use whole::{digits_of, power_of_ten, quotient};

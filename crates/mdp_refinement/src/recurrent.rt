@@ -8,7 +8,7 @@ use crate::convert::{nearest, to_float};
 use crate::correct::Corrector;
 use crate::graph::Graph;
 use crate::lists::{greatest_size, item_at, put, put_each, set_at};
-use crate::rows::{Rows, WholeRow};
+use crate::rows::Rows;
 use crate::strong::Components;
 use crate::value::{Value, value_at};
 use crate::whole::divided;
@@ -90,39 +90,29 @@ fn put_relative(values: &mut [Value], component: &Component, from: &[Value], les
     }
 }
 
-/// The bias of the last node. Relative to it all are simple where the gain is.
-fn reference(component: &Component, bias: &[Value]) -> i128 {
-    match component.nodes.as_slice() {
-        [.., last] => value_at(bias, *last).unwrap_or(0),
-        [] => 0,
-    }
-}
-
 impl Refinement<'_> {
     /// Whether the bounds are near enough.
     fn is_near(&self) -> bool {
         self.best.width() <= NEAR
     }
 
-    /// What a row has over a bias, in its denominator times a unit. None past 128 bits. The first bias is 0.
-    fn excess(&self, row: &WholeRow, bias: &[Value]) -> Option<i128> {
-        if self.best.upper == i128::MAX {
-            return Some(row.reward);
-        }
-        self.rows.excess(row, bias)
-    }
-
     /// Measures the row at a place over a bias. What it gains: its reward, and what it makes of the bias over that of its node. None past 128 bits.
     fn measure_row(&mut self, component: &Component, at: usize, bias: &[Value]) -> Option<Range> {
-        let row = self.rows.row(component.pick_at(at)?)?;
+        let row = self.rows.picked(component.pick_at(at))?;
         let due = row.denominator.checked_mul(self.gain)?;
-        let over = self.excess(row, bias)?.checked_sub(due)?;
+        // The first bias is 0.
+        let excess = if self.best.upper == i128::MAX {
+            row.reward
+        } else {
+            self.rows.excess(row, bias)?
+        };
+        let over = excess.checked_sub(due)?;
         let (more, rest) = divided(over, row.denominator)?;
-        let lower = self.gain.checked_add(more)?;
+        let lower = self.gain.saturating_add(more);
         let earned = to_float(over) / to_float(row.denominator);
         set_at(&mut self.earned, at, earned);
         Some(Range {
-            upper: lower.checked_add(i128::from(rest > 0))?,
+            upper: lower.saturating_add(i128::from(rest > 0)),
             lower,
         })
     }
@@ -179,7 +169,10 @@ impl Refinement<'_> {
         if !self.has_far {
             self.far = 0.0;
         }
-        let (nodes, less) = (&component.nodes, reference(component, bias));
+        // Relative to the bias of the last node all are simple where the gain is.
+        let nodes = component.nodes.as_slice();
+        let last = item_at(nodes, nodes.len().saturating_sub(1), u32::MAX);
+        let less = value_at(bias, last).unwrap_or(0);
         let before = self.best.width();
         if range.upper <= self.best.upper {
             self.best.upper = range.upper;
@@ -225,20 +218,32 @@ impl Refinement<'_> {
         &mut self,
         alloc: Global,
         component: &Component,
+        corrector: &mut Corrector<'_>,
         bias: &mut [Value],
         found: &mut EndGains,
     ) -> Result<(), AllocError> {
-        let start = self.policy.clone()?;
-        let leading = Graph::empty(alloc);
-        let mut corrector = Corrector::new(alloc, component, &leading, 1.0, &start)?;
+        corrector.begin(&self.policy)?;
         self.stale = 0;
         for _ in 0..MOST_ROUNDS {
-            let is_measured = self.correct(alloc, component, &mut corrector, bias, found)?;
+            let is_measured = self.correct(alloc, component, corrector, bias, found)?;
             if !is_measured || self.is_near() || self.stale > MOST_STALE {
                 break;
             }
         }
         Ok(())
+    }
+
+    /// Corrects the bias with a new corrector, which begins with the policy at hand.
+    fn correct_anew(
+        &mut self,
+        alloc: Global,
+        component: &Component,
+        bias: &mut [Value],
+        found: &mut EndGains,
+    ) -> Result<(), AllocError> {
+        let leading = Graph::empty(alloc);
+        let mut corrector = Corrector::new(alloc, component, &leading, 1.0, &[]);
+        self.rounds(alloc, component, &mut corrector, bias, found)
     }
 
     /// Corrects the bias with less and less chances, as long as that brings the bounds of the gain nearer. They are there from the beginning on.
@@ -255,7 +260,7 @@ impl Refinement<'_> {
                 break;
             }
             component.end_with(chance - component.ending);
-            self.rounds(alloc, component, bias, found)?;
+            self.correct_anew(alloc, component, bias, found)?;
             if self.is_near() {
                 break;
             }
@@ -263,10 +268,10 @@ impl Refinement<'_> {
             self.far = f64::INFINITY;
             chance *= RARER;
         }
-        if component.ending > 0.0 && component.nodes.len() <= FEW_NODES {
-            self.rounds(alloc, component, bias, found)?;
+        if !(component.ending > 0.0) || component.nodes.len() > FEW_NODES {
+            return Ok(());
         }
-        Ok(())
+        self.correct_anew(alloc, component, bias, found)
     }
 }
 

@@ -1,7 +1,7 @@
 //! Iterative refinement: residuals in whole numbers, corrections in floats, until the rows hold in whole numbers.
 
 use crate::bound::Task;
-use crate::component::{Component, FloatRow};
+use crate::component::Component;
 use crate::convert::to_float;
 use crate::correct::Corrector;
 use crate::lists::{put, set_at, takes};
@@ -60,13 +60,6 @@ impl Refinement<'_> {
         }
     }
 
-    /// What a row has over the value of its node: in the row's denominator times a unit, and about how many units. None past 128 bits.
-    fn excess(&self, row: &FloatRow, values: &[Value]) -> Option<(i128, f64)> {
-        let whole = self.rows.row(row.place as usize)?;
-        let excess = self.rows.excess(whole, values)?;
-        Some((excess, to_float(excess) / to_float(whole.denominator)))
-    }
-
     /// Measures all rows. None past 128 bits.
     fn measure(&mut self, policy: &[usize], values: &[Value]) -> Option<Measured> {
         let mut measured = Measured {
@@ -76,7 +69,9 @@ impl Refinement<'_> {
         };
         for at in 0..self.component.rows.len() {
             let row = self.component.row_at(at);
-            let (excess, gap) = self.excess(&row, values)?;
+            let whole = self.rows.row(row.place as usize)?;
+            let excess = self.rows.excess(whole, values)?;
+            let gap = to_float(excess) / to_float(whole.denominator);
             let is_chosen = takes(policy, row.node, at);
             if is_chosen {
                 measured.error = measured.error.max(gap.abs());
@@ -91,19 +86,6 @@ impl Refinement<'_> {
         Some(measured)
     }
 
-    /// Takes in a round at whose begin rows are wrong by so much.
-    fn count(&mut self, error: f64) {
-        if error < self.least / 2.0 {
-            self.least = error;
-            self.stale = 0;
-        } else {
-            self.stale = self.stale.saturating_add(1);
-        }
-        if self.stale >= FEW_STALE {
-            self.room *= GROWTH;
-        }
-    }
-
     /// Measures the rows and corrects the values by turns. Whether the rows hold at the end that are to hold.
     fn run(
         &mut self,
@@ -115,7 +97,15 @@ impl Refinement<'_> {
             let Some(measured) = self.measure(&corrector.policy, values) else {
                 return Ok(false);
             };
-            self.count(measured.error);
+            if measured.error < self.least / 2.0 {
+                self.least = measured.error;
+                self.stale = 0;
+            } else {
+                self.stale = self.stale.saturating_add(1);
+            }
+            if self.stale >= FEW_STALE {
+                self.room *= GROWTH;
+            }
             let is_enough = measured.is_near && round > 0 || self.stale >= FEW_STALE;
             if measured.is_held && is_enough {
                 return Ok(true);

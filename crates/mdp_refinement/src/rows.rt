@@ -88,6 +88,11 @@ fn numerator_of(prob: &Frac, times: i128, factor: &Frac) -> Option<i128> {
     times_multiple(prob, times)?.checked_mul(factor.num())
 }
 
+/// The node of an entry, by which entries are ordered.
+fn node_of(entry: &Entry) -> u32 {
+    entry.node
+}
+
 /// The product of two numbers; none past 128 bits. Where both begin with so many zeros together that it is below 2 ^ 126, it needn't be checked.
 fn times(a: i128, b: i128) -> Option<i128> {
     let zeros = a.unsigned_abs().leading_zeros();
@@ -150,20 +155,20 @@ impl Rows {
         let times = denominator.checked_div(factor.den()).unwrap_or(0);
         let less = factor.den().saturating_sub(factor.num());
         self.pending.clear();
-        for (target, prob) in row.targets.iter().zip(row.probs) {
-            let Some(numerator) = numerator_of(prob, times, factor) else {
+        for place in 0..row.targets.len().min(row.probs.len()) {
+            let Some(numerator) = numerator_of(&row.probs[place], times, factor) else {
                 return Ok(false);
             };
-            let node = nodes.of(*target);
-            self.pending.push(Entry { node, numerator })?;
+            let node = nodes.of(row.targets[place]);
+            append(&mut self.pending, Entry { node, numerator })?;
         }
-        self.pending.sort_unstable_by_key(|entry| entry.node);
+        self.pending.sort_unstable_by_key(node_of);
         if less > 0 {
             let rest = Entry {
                 node: discount.end,
                 numerator: less.saturating_mul(times),
             };
-            self.pending.push(rest)?;
+            append(&mut self.pending, rest)?;
         }
         Ok(true)
     }

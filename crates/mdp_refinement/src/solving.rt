@@ -5,7 +5,7 @@ use crate::component::Component;
 use crate::correct::Corrector;
 use crate::graph::Graph;
 use crate::intervals::{best_rounded, sweep_exact};
-use crate::leaving::{Leaving, exit_policy};
+use crate::leaving::Leaving;
 use crate::lists::{item_at, number, put, put_each};
 use crate::refine::refine;
 use crate::rows::Rows;
@@ -23,6 +23,18 @@ pub struct Solution {
 }
 
 impl Solution {
+    /// Takes the given values, and elsewhere those that hold anyway.
+    fn begin(&mut self, given: &[Value], anyway: Value) -> Result<(), AllocError> {
+        self.picks.resize(given.len(), None)?;
+        self.values.extend_from_slice(given)?;
+        for value in self.values.iter_mut() {
+            if value.units().is_none() {
+                *value = anyway;
+            }
+        }
+        Ok(())
+    }
+
     /// Gives a node a value and a row.
     pub(crate) fn settle(&mut self, node: u32, value: i128, pick: Option<usize>) {
         put(&mut self.values, node, Value::known(value));
@@ -80,41 +92,21 @@ impl Solver<'_> {
         false
     }
 
-    /// A component with one node, exactly.
-    fn solve_single(&mut self, node: u32) {
-        match best_rounded(self.rows, self.task, node, &self.solution.values) {
-            Some((value, place)) => self.solution.settle(node, value, Some(place)),
-            None => {
-                self.solution.is_full = false;
-                self.give_up(&[node]);
-            }
-        }
-    }
-
-    /// A component by refinement, or else by interval iteration.
+    /// A component by refinement that begins with a policy, or else by interval iteration.
     fn solve_leaving(
         &mut self,
         alloc: Global,
         component: &Component,
-        leading: &Graph,
         start: &[usize],
+        corrector: &mut Corrector<'_>,
     ) -> Result<(), AllocError> {
-        let task = self.task;
-        let mut corrector = Corrector::new(alloc, component, leading, task.sense(), start)?;
         let first = match self.other {
             Some(other) => other.values.as_slice(),
             None => &[],
         };
-        let values = &mut self.solution.values;
-        if refine(
-            alloc,
-            self.rows,
-            component,
-            task,
-            first,
-            &mut corrector,
-            values,
-        )? {
+        corrector.begin(start)?;
+        let (rows, task, values) = (self.rows, self.task, &mut self.solution.values);
+        if refine(alloc, rows, component, task, first, corrector, values)? {
             component.pick(&corrector.policy, &mut self.solution.picks);
             return Ok(());
         }
@@ -122,45 +114,53 @@ impl Solver<'_> {
         self.give_up(&component.nodes);
         if task.to_end && task.anyway.is_some() {
             component.pick(start, &mut self.solution.picks);
-            sweep_exact(self.rows, task, &component.nodes, &mut self.solution);
+            sweep_exact(rows, task, &component.nodes, &mut self.solution);
         }
         Ok(())
     }
 
-    /// The policy to begin with: one that leaves the component, or that of the other bound where it leaves. None where a node can't leave.
-    fn start(
-        &self,
+    /// A component by corrections that begin with a policy from which each node leaves.
+    fn correct(
+        &mut self,
         alloc: Global,
         component: &Component,
         leading: &Graph,
-    ) -> Result<Option<Vec<usize>>, AllocError> {
-        let Some(exit) = exit_policy(alloc, component, leading)? else {
-            return Ok(None);
-        };
-        let mut policy = exit.clone()?;
-        if let Some(other) = self.other {
-            other.put_policy(component, &mut policy);
-            let mut search = Leaving::new(alloc, component, leading)?;
-            search.make_proper(&mut policy, &exit)?;
-        }
-        Ok(Some(policy))
+        start: &[usize],
+    ) -> Result<(), AllocError> {
+        let mut corrector = Corrector::new(alloc, component, leading, self.task.sense(), start);
+        self.solve_leaving(alloc, component, start, &mut corrector)
     }
 
-    /// A component with several nodes, if each node can leave it.
+    /// A component with several nodes, if each node can leave it. It begins with a policy by which each takes its first row that leaves the component, else
+    /// one that leads to a node which does so in fewer steps; or with that of the other bound where it leaves.
+    fn solve_open(
+        &mut self,
+        alloc: Global,
+        component: &Component,
+        leading: &Graph,
+    ) -> Result<(), AllocError> {
+        let mut search = Leaving::new(alloc, component, leading);
+        if !search.search(None)? {
+            self.give_up(&component.nodes);
+            return Ok(());
+        }
+        if let Some(other) = self.other {
+            let mut policy = search.policy.clone()?;
+            other.put_policy(component, &mut policy);
+            search.search(Some(&policy))?;
+        }
+        self.correct(alloc, component, leading, &search.policy)
+    }
+
+    /// The component of this number, which has several nodes.
     fn solve_many(&mut self, alloc: Global, number: usize) -> Result<(), AllocError> {
         let values = &self.solution.values;
         let component = Component::new(alloc, self.rows, self.components, number, values)?;
         let leading = component.leading(alloc)?;
-        match self.start(alloc, &component, &leading)? {
-            Some(start) => self.solve_leaving(alloc, &component, &leading, &start),
-            None => {
-                self.give_up(&component.nodes);
-                Ok(())
-            }
-        }
+        self.solve_open(alloc, &component, &leading)
     }
 
-    /// The component of this number, whose successors are solved.
+    /// The component of this number, whose successors are solved; exactly, where it has one node.
     fn solve_component(&mut self, alloc: Global, number: usize) -> Result<(), AllocError> {
         let components = self.components;
         let nodes = components.nodes_of(number);
@@ -168,17 +168,22 @@ impl Solver<'_> {
             self.give_up(nodes);
             return Ok(());
         }
-        match nodes {
-            [node] => {
-                self.solve_single(*node);
-                Ok(())
+        let [node] = nodes else {
+            return self.solve_many(alloc, number);
+        };
+        match best_rounded(self.rows, self.task, *node, &self.solution.values) {
+            Some((value, place)) => self.solution.settle(*node, value, Some(place)),
+            None => {
+                self.solution.is_full = false;
+                self.give_up(nodes);
             }
-            _ => self.solve_many(alloc, number),
         }
+        Ok(())
     }
 
     /// All components, successors first, unless it ends with the first one that isn't refined.
-    fn solve_all(&mut self, alloc: Global) -> Result<(), AllocError> {
+    fn solve_all(&mut self, alloc: Global, given: &[Value]) -> Result<(), AllocError> {
+        self.solution.begin(given, Value::of(self.task.anyway))?;
         for component in 0..self.components.count() {
             self.solve_component(alloc, component)?;
             if !self.solution.is_full && !self.task.to_end {
@@ -205,35 +210,15 @@ fn open_nodes(
     Ok(open)
 }
 
-/// The given values, and elsewhere those that hold anyway.
-fn first_solution(
-    alloc: Global,
-    given: &[Value],
-    anyway: Option<i128>,
-) -> Result<Solution, AllocError> {
-    let mut values = vec![in alloc; Value::of(anyway); given.len()]?;
-    for place in 0..given.len() {
-        if given[place].units().is_some() {
-            values[place] = given[place];
-        }
-    }
-    Ok(Solution {
-        values,
-        picks: vec![in alloc; None; given.len()]?,
-        is_full: true,
-    })
-}
-
-/// The graph of so many nodes: an edge for each entry.
-fn graph_of(alloc: Global, rows: &Rows, nodes: u32) -> Result<Graph, AllocError> {
-    let mut graph = Graph::empty(alloc);
+/// Appends a node for each of so many, with an edge for each entry.
+fn push_edges(graph: &mut Graph, rows: &Rows, nodes: u32) -> Result<(), AllocError> {
     for node in 0..nodes {
         graph.push_node()?;
         for entry in rows.edges_of(node) {
             graph.push_edge(entry.node)?;
         }
     }
-    Ok(graph)
+    Ok(())
 }
 
 /// The strong components of the nodes that are to be solved.
@@ -244,7 +229,8 @@ fn open_components(
     task: Task,
 ) -> Result<Components, AllocError> {
     let open = open_nodes(alloc, rows, given, task)?;
-    let graph = graph_of(alloc, rows, number(given.len()))?;
+    let mut graph = Graph::empty(alloc);
+    push_edges(&mut graph, rows, number(given.len()))?;
     strong_components(alloc, &graph, &open)
 }
 
@@ -259,14 +245,17 @@ pub fn solve(
     other: Option<&Solution>,
 ) -> Result<Solution, AllocError> {
     let components = open_components(alloc, rows, given, task)?;
-    let solution = first_solution(alloc, given, task.anyway)?;
     let mut solver = Solver {
         rows,
         components: &components,
         task,
         other,
-        solution,
+        solution: Solution {
+            values: Vec::new(alloc),
+            picks: Vec::new(alloc),
+            is_full: true,
+        },
     };
-    solver.solve_all(alloc)?;
+    solver.solve_all(alloc, given)?;
     Ok(solver.solution)
 }
