@@ -134,13 +134,6 @@ spread-same states n p q a below len few rest e = entries-same 0 states n p q a 
 
 -- ---- values
 
-pub spread_values-length : (states : List ℕ) (n : ℕ) (values : List ℚ) → length (spread_values states n values) ≡ n
-spread_values-length states n values = entries-length (of_int (pos 0)) states n values
-
 pub spread_values-at : (states : List ℕ) (n : ℕ) (values : List ℚ) → Ascend states → (j : ℕ) → j < length states → length states ≤ length values
     → slice_index states j < n → value_at (spread_values states n values) (slice_index states j) ≡ value_at values j
 spread_values-at states n values a j l k b = entries-at (of_int (pos 0)) (of_int (pos 0)) states n values a j l k b
-
-pub spread_values-other : (states : List ℕ) (n : ℕ) (values : List ℚ) (s : ℕ) → IsUnlisted states s
-    → value_at (spread_values states n values) s ≡ of_int (pos 0)
-spread_values-other states n values s h = entries-other (of_int (pos 0)) states n values s h
