@@ -1,10 +1,9 @@
 -- Part 0 of the model of one end component alone is the component, its states at their places.
 use Rattle.std.proofs.Common.{◌≡◌, ◌⊎◌, inl, inr, ℕ, ◌+◌, ◌<◌, ◌≤◌, Bool, true, false, List, [], ◌∷◌, ◌++◌, length, map}
 use Rattle.std.proofs.Common.{filter, cond, get_or, Option, refl, sym, ap, subst, ◌∙◌, arith, pos}
-use Rattle.std.proofs.lemmas.Bool.{false≢true, and_parts, and_from, false_from_ne_true}
+use Rattle.std.proofs.lemmas.{Bool.{false≢true, and_parts, and_from, false_from_ne_true}, List.FromFn.{length-range_with_len, get_or-range_with_len}}
 use Rattle.std.proofs.lemmas.List.{append-nil, length-map, get_or-map, get_or_default, get_or_past}
 use Rattle.std.proofs.lemmas.List.Elements.{All-head, All-tail, All-map, All-weaker, All-from_get_or, filter-append}
-use Rattle.std.proofs.lemmas.List.FromFn.{length-range_with_len, get_or-range_with_len}
 use Rattle.std.specs.{Prelude.{slice_index}, List.{All, Any, range_with_len}}
 use Rattle.mdp_math.specs.Rational.{of_int}
 use Rattle.mdp_math.proofs.{Lists.{range_more}, Numbers.{last_or, le_or}}
@@ -17,8 +16,8 @@ use Rattle.mdp_unichain.specs.Part.{IsPart, members, is_inner, inner_component}
 use Rattle.mdp_unichain.proofs.{Best.{inner_of_state}, Improving.{state-of}, Members.{inside_of, inner_of, row-is}}
 use Rattle.mdp_unichain.proofs.Parts.{member-below, part-component, part-state, part-count, part-choices, part-choice}
 use Rattle.mdp_gain.specs.{Renumbering.{renamed, IsSameChoice, IsRenumbering}, Alone.{place_in, placed_entry, alone}}
-use Rattle.mdp_gain.proofs.MemberPlaces.{ascend-same, members-ascend, listed-below, listed-in, place-below, at_place}
 use Rattle.mdp_gain.proofs.{AloneStates.{count-alone, width-alone, reward-alone, row-inner}, AloneRows.{inner-targets, row-alone, alone-mdp}}
+use Rattle.mdp_gain.proofs.MemberPlaces.{ascend-same, members-ascend, listed-below, listed-in, place-below, at_place}
 use Rattle.mdp_gain.proofs.AloneEnds.{first-below, own-in, elsewhere-out, inner-alone}
 
 -- ---- lists

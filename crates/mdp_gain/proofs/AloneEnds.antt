@@ -1,15 +1,13 @@
 -- The end components of the model of one end component alone: part 0 has all states but the one more, and its choices are those of the component.
 use Rattle.std.proofs.Common.{◌≡◌, inl, inr, ℕ, zero, suc, ◌<◌, Bool, true, false, ◌==◌, nat_lt, List, [], ◌∷◌, length, map}
-use Rattle.std.proofs.Common.{Option, Some, None, refl, sym, ap, subst, ◌∙◌, arith}
+use Rattle.std.proofs.{Common.{Option, Some, None, refl, sym, ap, subst, ◌∙◌, arith}, lemmas.List.Elements.{All-head, All-tail}}
 use Rattle.std.proofs.lemmas.Bool.{false≢true, eqb-true, eq-eqb, lt-ltb, ltb-true, or_cases, or_left, or_right, and_parts, and_from, false_from_ne_true}
-use Rattle.std.proofs.lemmas.List.Elements.{All-head, All-tail}
 use Rattle.std.specs.{Prelude.{slice_index}, List.{All}}
 use Rattle.mdp_math.proofs.Booleans.{same_truth}
 use Rattle.mdp_spec.specs.Mdp.{Entry, Mdp, states_of, choices_at, row_at}
 use Rattle.mdp_rows.specs.Preds.{leads_to}
 use Rattle.mdp_graph.specs.{Sets.{stays_in}, Layers.{reached}}
-use Rattle.mdp_ends.specs.{Numbers.{is_numbered}, Walks.{chosen_step, comes_to, Reaches}}
-use Rattle.mdp_ends.specs.Ends.{count_of, part_of, in_part, is_inside, IsEnd, IsMaximal, AreEnds}
+use Rattle.mdp_ends.specs.{Numbers.{is_numbered}, Walks.{chosen_step, comes_to, Reaches}, Ends.{count_of, part_of, in_part, is_inside, IsEnd, IsMaximal, AreEnds}}
 use Rattle.mdp_ends.proofs.{Walking.{step-has, here, one_more, walk_to}, Numbering.{head_cases}, RoundLaws.{number-has, inside-stays, inside-by}}
 use Rattle.mdp_unichain.specs.Part.{IsPart, members, is_inner}
 use Rattle.mdp_unichain.proofs.{Entries.{all-target}, Parts.{member-below, inside_inner}}

@@ -9,8 +9,7 @@ use Rattle.mdp_unichain.specs.{Evaluation.{mean}, Chain.{AllLeadTo}, Component.{
 use Rattle.mdp_unichain.specs.Written.{active_of, columns_of, written_columns}
 use Rattle.mdp_policy_iteration.specs.Path.{placed}
 use Rattle.mdp_unichain.proofs.Exact.{rows-leave, same-solution, steps-least}
-use Rattle.mdp_parts.specs.FoundEnds.{AreEndsOf}
-use Rattle.mdp_gain.specs.{Code.{component_in}, declared.chosen.Chosen.{Chosen}, declared.referred.Referred.{Referred}}
+use Rattle.mdp_gain.specs.{Code.{component_in, HasEnds}, Policies.{under}, declared.chosen.Chosen.{Chosen}, declared.referred.Referred.{Referred}}
 use Rattle.mdp_gain.proofs.Given.{count-is, is-component, row-of-policy}
 
 module _ {V : Type 0} (f : V → List ℚ) where
@@ -40,14 +39,13 @@ module _ (r : Referred) where
   each-side (suc zero) l = length-map-range_with_len (λ s. of_int (pos 1)) 0 (count p) ∙ sym rows-count
   each-side (suc (suc k)) l = absurd (omega (arith, l))
 
-  pub sides_long : {V : Type 0} (f : V → List ℚ) (vs : List V) → map f vs ≡ columns_of (component_in r.chosen.component) r.chosen.policy.now
+  pub sides_long : {V : Type 0} (f : V → List ℚ) (vs : List V) → map f vs ≡ under r.chosen columns_of
       → All (λ v. length (f v)
       ≡ length (map (λ s. row_at r.chosen.component.model.now s (slice_index r.chosen.policy.now s)) (range_with_len 0 (states_of r.chosen.component.model.now)))) vs
   sides_long f vs e =
       each_long f vs (length rows) (subst (λ (cs : List (List ℚ)). (k : ℕ) → k < length cs → length (slice_index_or cs k []) ≡ length rows) (sym e) each-side)
 
-  module _ (ends : AreEndsOf r.chosen.component.model.now r.chosen.component.ends.now)
-      (leads : AllLeadTo (is_state (component_in r.chosen.component)) (row_by (component_in r.chosen.component) r.chosen.policy.now) r.t) where
+  module _ (ends : HasEnds r.chosen.component) (leads : AllLeadTo (is_state (component_in r.chosen.component)) (under r.chosen row_by) r.t) where
     module _ (active : List Bool) (e : active ≡ active_of (component_in r.chosen.component) r.t) where
       pub leave : (ranks : List ℕ)
           × Leaves (map (λ s. row_at r.chosen.component.model.now s (slice_index r.chosen.policy.now s)) (range_with_len 0 (states_of r.chosen.component.model.now))) active ranks
@@ -55,17 +53,16 @@ module _ (r : Referred) where
           subst (λ (a : List Bool). (ranks : List ℕ) × Leaves rows a ranks) (sym e)
           (rows-leave p policy r.t (is-component y.component ends) y.is leads rows rows-count (row-of-policy y))
 
-      pub solution-told : (columns : List (List ℚ)) → columns ≡ columns_of (component_in r.chosen.component) r.chosen.policy.now → (found : Result (List (List ℚ)) ℕ)
+      pub solution-told : (columns : List (List ℚ)) → columns ≡ under r.chosen columns_of → (found : Result (List (List ℚ)) ℕ)
           → written_solution (map (λ s. row_at r.chosen.component.model.now s (slice_index r.chosen.policy.now s)) (range_with_len 0 (states_of r.chosen.component.model.now))) active columns
-          ≡ found
-          → written_columns (component_in r.chosen.component) r.chosen.policy.now r.t ≡ placed r.chosen.policy.now found
+          ≡ found → under r.chosen written_columns r.t ≡ placed r.chosen.policy.now found
       solution-told columns f found h =
           ap (placed policy)
           (sym (same-solution p policy r.t (is-component y.component ends) y.is leads rows rows-count (row-of-policy y) (columns_of p policy))
           ∙ ap₂ (λ (a : List Bool) (cs : List (List ℚ)). written_solution rows a cs) (sym e) (sym f) ∙ h)
 
-    pub steps-positive : GivesSolutions → (xs : List (List ℚ)) → written_columns (component_in r.chosen.component) r.chosen.policy.now r.t ≡ Ok xs → (steps : List ℚ)
-        → steps ≡ slice_index_or xs 1 [] → of_int (pos 1) ≤ℚ of_int (pos 1) +ℚ mean (row_by (component_in r.chosen.component) r.chosen.policy.now r.t) (value_at steps)
+    pub steps-positive : GivesSolutions → (xs : List (List ℚ)) → under r.chosen written_columns r.t ≡ Ok xs → (steps : List ℚ)
+        → steps ≡ slice_index_or xs 1 [] → of_int (pos 1) ≤ℚ of_int (pos 1) +ℚ mean (under r.chosen row_by r.t) (value_at steps)
     steps-positive gives xs h steps e =
         subst (λ (z : List ℚ). of_int (pos 1) ≤ℚ of_int (pos 1) +ℚ mean (row_by p policy r.t) (value_at z)) (sym e)
         (steps-least p policy r.t (is-component y.component ends) y.is leads gives xs h)

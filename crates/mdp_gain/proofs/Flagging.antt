@@ -1,15 +1,15 @@
 -- Parts that are flagged while the states are gone through, the targets of a row, and the first number of a range that passes a test.
 use Rattle.std.proofs.Common.{◌≡◌, inl, inr, ℕ, zero, suc, ◌+◌, ◌<◌, ◌≤◌, Bool, true, false, ◌&&◌, ◌||◌, ◌==◌, cond, List, [], ◌∷◌, length, map, set, replicate, Option, Some, None}
 use Rattle.std.proofs.{Common.{refl, sym, ap, ◌∙◌, subst, arith, eq-eqb}, lemmas.Bool.{false≢true, cases_eq, ne_eqb}}
-use Rattle.std.proofs.{lemmas.List.{length-set, get_or-set_other, length-replicate, get_or-replicate}, lemmas.List.Folds.{list_any-append}}
-use Rattle.std.proofs.lemmas.Grind.{get_or-set_at}
+use Rattle.std.proofs.lemmas.{List.{length-set, get_or-set_other, length-replicate, get_or-replicate}, List.Folds.{list_any-append}, Grind.{get_or-set_at}}
 use Rattle.std.specs.{Option.{unwrap_or}, List.{list_any, find, range_with_len}, Prelude.{slice_index, slice_index_or}}
 use Rattle.mdp_math.specs.Rational.{ℚ}
-use Rattle.mdp_math.proofs.{Lists.{range_more}, Booleans.{or-false}}
+use Rattle.mdp_math.proofs.{Lists.{range_more}, Booleans.{or-true, or-false}}
 use Rattle.mdp_spec.specs.Row.{entries}
 use Rattle.mdp_graph.specs.Sets.{marked}
 use Rattle.mdp_unichain.specs.{Component.{Component, count}, Classes.{differs, has_flag, AreClasses}}
 use Rattle.mdp_unichain.proofs.Picking.{IsFirst}
+use Rattle.mdp_gain.specs.Code.{part_has}
 
 -- ---- flags
 
@@ -37,16 +37,13 @@ module _ (flags : List Bool) (parts : List ℕ) where
         | inl same ↦
             get_or-set_at marks (slice_index parts n) k true false same (omega (arith, l, a.count))
             ∙ sym (flag_more flags parts n k
-            ∙ ap (λ b. has_flag flags parts n k || b) (ap (λ b. b && (slice_index parts n == k)) f ∙ eq-eqb (slice_index parts n) k (sym same)) ∙ or_true (has_flag flags parts n k))
+            ∙ ap (λ b. has_flag flags parts n k || b) (ap (λ b. b && (slice_index parts n == k)) f ∙ eq-eqb (slice_index parts n) k (sym same)) ∙ or-true (has_flag flags parts n k))
         | inr other ↦
             get_or-set_other marks (slice_index parts n) k true false other ∙ a.at k h
             ∙ sym (flag_more flags parts n k
             ∙ ap (λ b. has_flag flags parts n k || b) (ap (λ b. b && (slice_index parts n == k)) f ∙ ne_eqb (slice_index parts n) k (λ e. other (sym e))) ∙ or-false (has_flag flags parts n k))
       ];
-    }) where
-      or_true : (b : Bool) → (b || true) ≡ true
-      or_true true = refl
-      or_true false = refl
+    })
 
     pub not_flagged : marked flags n ≡ false → AreFlagged flags parts (n + 1) marks
     not_flagged f = record {
@@ -142,8 +139,7 @@ flagged-is flags fs parts ps n marks e q l h k b =
 
 pub changed-is : (p : Component) (policy improved parts ps : List ℕ) (left changed fs : List Bool) → AreClasses p improved parts left → length policy ≡ count p
     → fs ≡ map (differs policy improved) (range_with_len 0 (length policy)) → ps ≡ parts → ((k : ℕ) → k < length ps → marked changed k ≡ has_flag fs ps (length ps) k)
-    → (s : ℕ) → s < count p
-    → marked changed (slice_index parts s) ≡ has_flag (map (differs policy improved) (range_with_len 0 (count p))) parts (count p) (slice_index parts s)
+    → (s : ℕ) → s < count p → marked changed (slice_index parts s) ≡ part_has p (differs policy improved) parts (slice_index parts s)
 changed-is p policy improved parts ps left changed fs a len e q h s l =
     flagged-is (map (differs policy improved) (range_with_len 0 (count p))) fs parts ps (count p) changed (e ∙ ap (λ (n : ℕ). map (differs policy improved) (range_with_len 0 n)) len) q
     a.count_parts h (slice_index parts s) (a.below s l)

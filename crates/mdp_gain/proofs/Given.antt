@@ -9,9 +9,8 @@ use Rattle.mdp_spec.specs.Tree as tree
 use Rattle.mdp_unichain.proofs.{Improving.{inner-below, state-below as state-below-of}, Reaching.{test_or_not}}
 use Rattle.mdp_unichain.proofs.Parts.{part-component, part-state, part-count, part-choices, part-choice}
 use Rattle.mdp_ends.specs.Ends.{has_number, in_part, is_inside}
-use Rattle.mdp_parts.specs.FoundEnds.{AreEndsOf}
 use Rattle.mdp_unichain.specs.{Component.{Choice, count, choices_at, choice_at, is_state, row_by, IsComponent}, Part.{IsPart, is_inner}}
-use Rattle.mdp_gain.specs.{Code.{component_in}, declared.chosen.Chosen.{Chosen}, declared.component.EndComponent.{EndComponent}}
+use Rattle.mdp_gain.specs.{Code.{component_in, HasEnds}, declared.chosen.Chosen.{Chosen}, declared.component.EndComponent.{EndComponent}}
 
 module _ (x : EndComponent) where
   abbrev m : Mdp
@@ -39,26 +38,26 @@ module _ (x : EndComponent) where
     pub inner-is : (choice_at (component_in x) s c).inner ≡ is_inner m x.ends.now.parts x.number s c
     inner-is = ap Choice.inner (part-choice x.dir m x.ends.now.parts x.number x.name s c (state-below s l) (choice-below s c l k))
 
-  pub part-of : AreEndsOf x.model.now x.ends.now → IsPart x.model.now x.ends.now.parts x.number
+  pub part-of : HasEnds x → IsPart x.model.now x.ends.now.parts x.number
   part-of ends = record { model = x.mdp; ends = ends.ends; below = x.below }
 
-  pub is-component : AreEndsOf x.model.now x.ends.now → IsComponent (component_in x)
+  pub is-component : HasEnds x → IsComponent (component_in x)
   is-component ends = part-component m x.ends.now.parts x.number (part-of ends) x.dir x.name
 
   pub parts-len : length x.ends.now.parts ≡ states_of m
-  parts-len = ∥∥₁_elim x.found (ℕ_set _ _) (λ (ends : AreEndsOf x.model.now x.ends.now). ends.ends.count)
+  parts-len = ∥∥₁_elim x.found (ℕ_set _ _) (λ (ends : HasEnds x). ends.ends.count)
 
   pub member-is : (s : ℕ) → is_state (component_in x) s ≡ in_part x.ends.now.parts x.number s
-  member-is s = ∥∥₁_elim x.found (Bool-set _ _) (λ (ends : AreEndsOf x.model.now x.ends.now). part-state m x.ends.now.parts x.number (part-of ends) x.dir x.name s)
+  member-is s = ∥∥₁_elim x.found (Bool-set _ _) (λ (ends : HasEnds x). part-state m x.ends.now.parts x.number (part-of ends) x.dir x.name s)
 
   pub inner-count : length x.ends.now.inner ≡ states_of m
-  inner-count = ∥∥₁_elim x.found (ℕ_set _ _) (λ (ends : AreEndsOf x.model.now x.ends.now). ends.count)
+  inner-count = ∥∥₁_elim x.found (ℕ_set _ _) (λ (ends : HasEnds x). ends.count)
 
   pub inner-width : (s : ℕ) → s < states_of x.model.now → length (slice_index_or x.ends.now.inner s []) ≡ length (mdp.choices_at x.model.now s)
-  inner-width s l = ∥∥₁_elim x.found (ℕ_set _ _) (λ (ends : AreEndsOf x.model.now x.ends.now). ends.width s l)
+  inner-width s l = ∥∥₁_elim x.found (ℕ_set _ _) (λ (ends : HasEnds x). ends.width s l)
 
   inside-is : (s c : ℕ) → s < states_of m → c < length (mdp.choices_at m s) → marked (slice_index_or x.ends.now.inner s []) c ≡ is_inside m x.ends.now.parts s c
-  inside-is s c l k = ∥∥₁_elim x.found (Bool-set _ _) (λ (ends : AreEndsOf x.model.now x.ends.now). ends.inner s c l k)
+  inside-is s c l k = ∥∥₁_elim x.found (Bool-set _ _) (λ (ends : HasEnds x). ends.inner s c l k)
 
 -- the test of a part's number
 pub number-eq : (n : ℕ) (o : Option ℕ) → option_eq eqb o (Some n) ≡ has_number n o

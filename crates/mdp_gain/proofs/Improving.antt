@@ -6,9 +6,8 @@ use Rattle.mdp_elim.specs.Laws.{GivesSolutions}
 use Rattle.mdp_policy_iteration.specs.{Iteration.{Step, next}, Path.{Round, Refusal}, Laws.{first}}
 use Rattle.mdp_unichain.specs.{Chain.{IsReference}, Component.{Component, is_state, row_by, reward_by, IsComponent}, Evaluation.{IsEvaluation}}
 use Rattle.mdp_unichain.specs.{Improvement.{IsEvaluated, IsImproved, IsNext}, Part.{inner_component}, Path.{Found, Makes, IsStart}, Written.{written_values}}
-use Rattle.mdp_unichain.proofs.{Classes.{one_reference}, Ending.{none_twice}, Improving.{has_one_evaluation, gain_rises_next, bias_rises}}
+use Rattle.mdp_unichain.proofs.{Classes.{one_reference}, Ending.{none_twice}, Improving.{has_one_evaluation, gain_rises_next, bias_rises}, Starts.{has_one_first}}
 use Rattle.mdp_unichain.proofs.{Nexts.{exact_is_next}, Paths.{Goes_on, evaluation_next, now, imp, after, some_changed, kept, one, first_is_start}}
-use Rattle.mdp_unichain.proofs.Starts.{has_one_first}
 use Rattle.mdp_gain.specs.{Improvement.{LeadsTo, HasValues, GainIsBetter, BiasIsBetter, ImprovesTo}, Laws.{StepImproves, NoPolicyTwice}}
 use Rattle.mdp_gain.proofs.BestInner.{known}
 

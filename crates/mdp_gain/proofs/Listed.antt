@@ -2,6 +2,7 @@
 use Rattle.std.proofs.Common.{◌≡◌, ℕ, ◌<◌, Bool, true, false, ◌&&◌, ◌||◌, ◌==◌, if◌then◌else◌, List, [], ◌∷◌, map, filter, refl, sym, ◌∙◌, ap, subst}
 use Rattle.std.proofs.lemmas.Bool.{false≢true, eqb-true, eq-eqb, and_from}
 use Rattle.std.specs.List.{list_any, range_with_len}
+use Rattle.mdp_math.proofs.Booleans.{and-parts, or-left_false, or-right_false}
 use Rattle.mdp_ends.proofs.Walking.{any-range, range-any}
 use Rattle.mdp_gain.specs.Best.{entry_of}
 
@@ -29,16 +30,8 @@ module _ {A : Type 0} (d : A) (f : ℕ → A) where
   pub entry-none : (xs : List ℕ) (s : ℕ) → list_any (λ t. t == s) xs ≡ false → entry_of d xs (map f xs) s ≡ d
   entry-none [] s h = refl
   entry-none (t ∷ xs) s h =
-      not_by t s (entry_of d xs (map f xs) s) (t == s) (first (t == s) (list_any (λ u. u == s) xs) h)
-      (entry-none xs s (second (t == s) (list_any (λ u. u == s) xs) h))
-    where
-      first : (a b : Bool) → (a || b) ≡ false → a ≡ false
-      first true b h = absurd (false≢true (sym h))
-      first false b h = refl
-
-      second : (a b : Bool) → (a || b) ≡ false → b ≡ false
-      second true b h = absurd (false≢true (sym h))
-      second false b h = h
+      not_by t s (entry_of d xs (map f xs) s) (t == s) (or-left_false (t == s) (list_any (λ u. u == s) xs) h)
+      (entry-none xs s (or-right_false (t == s) (list_any (λ u. u == s) xs) h))
 
 -- which states a filtered range has
 filter_by : (test p : ℕ → Bool) (x : ℕ) (xs : List ℕ) (rest : Bool) (b : Bool) → list_any p (filter test xs) ≡ rest
@@ -56,13 +49,9 @@ filtered-has test n s l e = any-filter test (λ t. t == s) (range_with_len 0 n) 
 pub filtered-not : (test : ℕ → Bool) (n s : ℕ) → test s ≡ false → list_any (λ t. t == s) (filter test (range_with_len 0 n)) ≡ false
 filtered-not test n s e = any-filter test (λ t. t == s) (range_with_len 0 n) ∙ none (list_any (λ t. test t && (t == s)) (range_with_len 0 n)) refl
   where
-    both : (a b : Bool) → (a && b) ≡ true → (a ≡ true) × (b ≡ true)
-    both true b h = (refl, h)
-    both false b h = absurd (false≢true h)
-
     none : (b : Bool) → list_any (λ t. test t && (t == s)) (range_with_len 0 n) ≡ b → b ≡ false
     none false h = refl
     none true h =
         let w = any-range (λ t. test t && (t == s)) n h in
-        let b = both (test w.0) (w.0 == s) w.2 in
+        let b = and-parts (test w.0) (w.0 == s) w.2 in
         absurd (false≢true (sym e ∙ subst (λ t. test t ≡ true) (eqb-true w.0 s b.1) b.0))

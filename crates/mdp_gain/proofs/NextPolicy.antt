@@ -1,6 +1,6 @@
 -- The policy that keeps a class and goes toward it is the next one.
 use Rattle.std.proofs.Common.{◌≡◌, ℕ, ◌<◌, ◌≤◌, ◌⊎◌, inl, inr, Bool, true, false, ◌&&◌, if◌then◌else◌, List, length, refl, sym, ◌∙◌, ap, subst, arith, zero-add}
-use Rattle.std.proofs.{Math.ListN.{get_or-eq_default}, lemmas.List.FromFn.{get_or-map-range_with_len, length-map-range_with_len}}
+use Rattle.std.proofs.{Math.ListN.{get_or-eq_default}, lemmas.Bool.{cond-true, cond-false}, lemmas.List.FromFn.{get_or-map-range_with_len, length-map-range_with_len}}
 use Rattle.std.specs.Prelude.{slice_index}
 use Rattle.mdp_math.proofs.Numbers.{le_or}
 use Rattle.mdp_spec.specs.Mdp.{states_of}
@@ -8,11 +8,10 @@ use Rattle.mdp_graph.specs.{Sets.{marked}, Choices.{AreLeast}}
 use Rattle.mdp_ends.specs.{Ends.{in_part}, Toward.{target_in, IsToward}}
 use Rattle.mdp_unichain.specs.{Chain.{IsClosedClass}, Component.{Component, count, is_state, IsInner, IsPolicy}, Next.{IsPicked, IsNearest, IsExactNext}}
 use Rattle.mdp_unichain.proofs.{Improving.{state-below}, Reaching.{test_or_not, clash_test}, Toward.{ranks_toward, nearest_choice, outside_choice}}
-use Rattle.mdp_parts.specs.FoundEnds.{AreEndsOf}
-use Rattle.mdp_gain.specs.{Code.{component_in, joined}, declared.chosen.Chosen.{Chosen}, declared.component.EndComponent.{EndComponent}}
+use Rattle.mdp_gain.specs.{Code.{component_in, HasEnds, joined}, declared.chosen.Chosen.{Chosen}, declared.component.EndComponent.{EndComponent}}
 use Rattle.mdp_gain.proofs.Given.{count-is, part-of, member-is}
 
-module _ (y : Chosen) (ends : AreEndsOf y.component.model.now y.component.ends.now) (policy : List ℕ) (class : List Bool) (pick : IsPicked (component_in y.component) policy y.policy.now (marked class)) where
+module _ (y : Chosen) (ends : HasEnds y.component) (policy : List ℕ) (class : List Bool) (pick : IsPicked (component_in y.component) policy y.policy.now (marked class)) where
   abbrev x : EndComponent
   x = y.component
 
@@ -58,19 +57,11 @@ module _ (y : Chosen) (ends : AreEndsOf y.component.model.now y.component.ends.n
         ap (λ (xs : List ℕ). slice_index xs s) made
         ∙ get_or-map-range_with_len (λ s. if marked class s then slice_index improved s else slice_index choices s) 0 (length choices) s s 0 (let n = choices-len in omega arith) (zero-add s)
 
-    if_in : (b : Bool) (a c : ℕ) → b ≡ true → (if b then a else c) ≡ a
-    if_in true a c e = refl
-    if_in false a c e = cc
-
-    if_out : (b : Bool) (a c : ℕ) → b ≡ false → (if b then a else c) ≡ c
-    if_out true a c e = cc
-    if_out false a c e = refl
-
     after_in : (s : ℕ) → marked class s ≡ true → slice_index after s ≡ slice_index improved s
-    after_in s h = after-at s (state-below p s (class_state s h)) ∙ if_in (marked class s) (slice_index improved s) (slice_index choices s) h
+    after_in s h = after-at s (state-below p s (class_state s h)) ∙ cond-true (marked class s) (slice_index improved s) (slice_index choices s) h
 
     after_out : (s : ℕ) → s < count p → marked class s ≡ false → slice_index after s ≡ slice_index choices s
-    after_out s l h = after-at s l ∙ if_out (marked class s) (slice_index improved s) (slice_index choices s) h
+    after_out s l h = after-at s l ∙ cond-false (marked class s) (slice_index improved s) (slice_index choices s) h
 
     nearest : (s : ℕ) → is_state p s ≡ true → marked class s ≡ false → IsNearest p (slice_index ranks) s (slice_index after s)
     nearest s h o =

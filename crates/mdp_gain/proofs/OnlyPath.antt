@@ -1,8 +1,8 @@
 -- The path of an end component of one state, choice by choice.
 use Rattle.std.proofs.Common.{◌≡◌, ◌≢◌, ℕ, zero, suc, ◌+◌, ◌-◌, ◌<◌, ◌≤◌, ◌^◌, min, Bool, true, false, if◌then◌else◌}
-use Rattle.std.proofs.Common.{List, [], ◌∷◌, length, map, filter, Some, Result, Ok, Err, refl, sym, ◌∙◌, ap, subst, arith, pos}
+use Rattle.std.proofs.Common.{List, [], ◌∷◌, length, map, filter, Some, Result, Ok, Err, refl, sym, ◌∙◌, ap, subst, arith}
 use Rattle.std.specs.{List.{find, range_with_len}, Option.{unwrap_or}, Prelude.{slice_index}}
-use Rattle.mdp_math.specs.Rational.{ℚ, of_int}
+use Rattle.mdp_math.specs.Rational.{ℚ}
 use Rattle.mdp_elim.specs.Laws.{GivesSolutions}
 use Rattle.mdp_spec.specs.Mdp.{states_of, value_at}
 use Rattle.mdp_wide.specs.{declared.too_wide.Kind.{Kind}, declared.too_wide.Part.TheVariants.{Inner}, Term.{WideTerm}, Errors.{SolveError}}
@@ -10,13 +10,12 @@ use Rattle.mdp_ends.specs.Ends.{in_part}
 use Rattle.mdp_policy_iteration.specs.{Iteration.{refused}, Path.{Round, Refusal}, Laws.{first}, Ends.{error_of_part}, Queries.{Solves}}
 use Rattle.mdp_policy_iteration.specs.Errors.{PathError, RoundError}
 use Rattle.mdp_wide.specs.declared.unfinished.Unfinished.TheVariants as error
-use Rattle.mdp_unichain.specs.{Component.{Component, count, choices_at, choice_at, IsInner, row_by, IsPolicy, IsComponent}, Iteration.{EndsWith}}
-use Rattle.mdp_unichain.specs.{Part.{members}, Path.{Found, IsStart}}
+use Rattle.mdp_unichain.specs.Component.{Component, count, choices_at, choice_at, IsInner, row_by, IsPolicy, IsComponent}
+use Rattle.mdp_unichain.specs.{Iteration.{EndsWith}, Part.{members}, Path.{Found, IsStart}}
 use Rattle.mdp_unichain.specs.Path as path
 use Rattle.mdp_unichain.proofs.{Ending.{better_left}, Best.{inner_of_state}, Improving.{inner-below}, Parts.{member-below}, Picking.{IsFirst}}
-use Rattle.mdp_parts.specs.FoundEnds.{AreEndsOf}
-use Rattle.mdp_gain.specs.{Code.{component_in}, declared.component.EndComponent.{EndComponent}, declared.only_state.Only.{Only}}
-use Rattle.mdp_gain.specs.{Only.{IsOnly, policy_of, values_of, Makes, Ends, IsErrorOf}, OnlyTerms.{zeros}, Query.{Answer, answer_of, plain, EndsSo}}
+use Rattle.mdp_gain.specs.{Only.{IsOnly, policy_of, values_of, answer_alone, Makes, Ends, IsErrorOf}, OnlyTerms.{zeros}, Query.{Answer, answer_of, plain}}
+use Rattle.mdp_gain.specs.{Code.{component_in, HasEnds, QueryEndsSo}, declared.component.EndComponent.{EndComponent}, declared.only_state.Only.{Only}}
 use Rattle.mdp_gain.specs.{declared.only_round.Settled.{Settled}, declared.only_round.Turn.{Turn}}
 use Rattle.mdp_gain.proofs.{Given.{part-of, member-is}, Flagging.{find-or}, OnlyState.{policy-at, policy-is, only-reference, only-first}, OnlySums.{zero-at}}
 use Rattle.mdp_gain.proofs.Rounds.{goes_on, ends_done, next_start, next_fewer}
@@ -109,7 +108,7 @@ module _ (test : ℕ → Bool) where
 
 -- ---- the start and the end
 
-module _ (q : Only) (ends : AreEndsOf q.component.model.now q.component.ends.now) where
+module _ (q : Only) (ends : HasEnds q.component) where
   abbrev x : EndComponent
   x = q.component
 
@@ -150,7 +149,7 @@ module _ (q : Only) (ends : AreEndsOf q.component.model.now q.component.ends.now
     abbrev term : ℕ → List ℕ → Kind → ℕ → ℕ → Result Answer WideTerm
     term n policy kind t d = Err (record { part = Inner x.number; number = n; policy = policy; kind = kind; state = Some t; choice = Some d })
 
-    error_by : (y : PathError) → Ends p s start (Err y) → Solves plain (EndsSo x.dir x.model.now x.ends.now.parts x.number x.name) (Err (error_of_part (Inner x.number) y))
+    error_by : (y : PathError) → Ends p s start (Err y) → Solves plain (QueryEndsSo x) (Err (error_of_part (Inner x.number) y))
     error_by (error.TooWide w) h = (
       h.0,
       h.2,
@@ -168,8 +167,7 @@ module _ (q : Only) (ends : AreEndsOf q.component.model.now q.component.ends.now
 
     module _ (end : Result Settled PathError) (done : Ends (component_in q.component) q.s start end) where
       pub answer-ends : (found : Settled) → end ≡ Ok found → (a : Answer)
-          → a ≡ record { states = q.s ∷ []; gain = found.gain; bias = of_int (pos 0) ∷ []; choices = found.choice ∷ [] }
-          → EndsSo q.component.dir q.component.model.now q.component.ends.now.parts q.component.number q.component.name (Ok a)
+          → a ≡ answer_alone q.s found → QueryEndsSo q.component (Ok a)
       answer-ends found was a e = record {
         start = policy_of p s start;
         is_first = first_policy;
@@ -184,6 +182,6 @@ module _ (q : Only) (ends : AreEndsOf q.component.model.now q.component.ends.now
       }
 
       pub error-solves : (y : PathError) → end ≡ Err y → (said : SolveError) → said ≡ error_of_part (Inner q.component.number) y
-          → Solves plain (EndsSo q.component.dir q.component.model.now q.component.ends.now.parts q.component.number q.component.name) (Err said)
+          → Solves plain (QueryEndsSo q.component) (Err said)
       error-solves y was said e =
-          subst (λ (z : SolveError). Solves plain (EndsSo x.dir x.model.now x.ends.now.parts x.number x.name) (Err z)) (sym e) (error_by y (subst (Ends p s start) was done))
+          subst (λ (z : SolveError). Solves plain (QueryEndsSo x) (Err z)) (sym e) (error_by y (subst (Ends p s start) was done))

@@ -11,9 +11,8 @@ use Rattle.mdp_elim.specs.System.{is_active}
 use Rattle.mdp_wide.specs.declared.too_wide.Kind.TheVariants.{Evaluate}
 use Rattle.mdp_policy_iteration.specs.{Places.{Place, at_place, up_to}, Path.{evaluating, placed, comparing}, Faults.{placed_at, Answers}, Errors.{RoundError}}
 use Rattle.mdp_policy_iteration.proofs.Answering.{up_to-refused}
-use Rattle.mdp_unichain.specs.Chain.{AllLeadTo, IsReference, IsClosedClass}
 use Rattle.mdp_unichain.specs.{Component.{Component, count, choice_at, IsInner, is_state, row_by, IsPolicy, IsComponent}, Evaluation.{active}}
-use Rattle.mdp_unichain.specs.{Next.{IsPicked, AreRanksToward, IsExactNext}, Path.{IsFirst}, Sums.{written_ratio}}
+use Rattle.mdp_unichain.specs.{Chain.{AllLeadTo, IsReference, IsClosedClass}, Next.{IsPicked, AreRanksToward, IsExactNext}, Path.{IsFirst}, Sums.{written_ratio}}
 use Rattle.mdp_unichain.specs.Written.{rows_of, row_or_loop, active_of, columns_of, written_columns, bias_of, written_values, improved_choice, improved_at, written_improved}
 use Rattle.mdp_unichain.specs.Written as written
 use Rattle.mdp_unichain.proofs.{Chains.{same_number}, Improving.{state-below}, Reaching.{clash_test}}

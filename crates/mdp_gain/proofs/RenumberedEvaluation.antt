@@ -1,7 +1,6 @@
 -- Values under other numbers, and what one evaluation adds to them.
 use Rattle.std.proofs.Common.{◌≡◌, ℕ, zero, suc, ◌<◌, ◌≤◌, ◌⊎◌, inl, inr, List, [], ◌∷◌, ◌++◌, length}
-use Rattle.std.proofs.Common.{refl, sym, ◌∙◌, ap, subst, arith, Option, Some, None, pos}
-use Rattle.std.proofs.lemmas.List.{get_or_append_left, get_or_push, get_or_past, length_push}
+use Rattle.std.proofs.{Common.{refl, sym, ◌∙◌, ap, subst, arith, Option, Some, None, pos}, lemmas.List.{get_or_append_left, get_or_push, get_or_past, length_push}}
 use Rattle.mdp_math.specs.{Rational.{ℚ, of_int}, Written.{◌>>=◌}}
 use Rattle.mdp_math.proofs.Numbers.{le_or}
 use Rattle.mdp_spec.specs.{Mdp.{value_at}, Written.{written_sum}}

@@ -12,8 +12,7 @@ use Rattle.mdp_unichain.specs.Path as path
 use Rattle.mdp_unichain.specs.Written as written
 use Rattle.mdp_unichain.proofs.{Classes.{one_reference}, Ending.{better_left, next_by}, Nexts.{exact_is_next}}
 use Rattle.mdp_unichain.proofs.Paths.{Goes_on, evaluation_next, now, imp, after, keeps, some_changed}
-use Rattle.mdp_parts.specs.FoundEnds.{AreEndsOf}
-use Rattle.mdp_gain.specs.{Code.{component_in, Makes, Ends, HasEntries, path_error}, declared.component.EndComponent.{EndComponent}}
+use Rattle.mdp_gain.specs.{Code.{component_in, HasEnds, Makes, Ends, HasEntries, path_error}, declared.component.EndComponent.{EndComponent}}
 use Rattle.mdp_gain.specs.declared.round.RoundEnd.{RoundEnd}
 use Rattle.mdp_wide.specs.declared.unfinished.Unfinished.TheVariants as fault
 use Rattle.mdp_gain.specs.declared.round.RoundEnd.TheVariants as end
@@ -123,7 +122,7 @@ pub record IsTurn (p : Component) (n : ℕ) (policy after : List ℕ) : Type 0 w
   pub start : IsStart p after
   pub fewer : (t u : ℕ) → IsReference (is_state p) (row_by p policy) t → IsReference (is_state p) (row_by p after) u → better_left p u after < better_left p t policy
 
-pub turned : (x : EndComponent) → AreEndsOf x.model.now x.ends.now → GivesSolutions → (n : ℕ) (policy : List ℕ) → IsStart (component_in x) policy → (held : List ℕ) → held ≡ policy
+pub turned : (x : EndComponent) → HasEnds x → GivesSolutions → (n : ℕ) (policy : List ℕ) → IsStart (component_in x) policy → (held : List ℕ) → held ≡ policy
     → (result : Result RoundEnd RoundError) → ((k : ℕ) → Makes (component_in x) k held result) → (after : Vec ℕ Global) → result ≡ Ok (end.Next after)
     → IsTurn (component_in x) n policy after.items
 turned x ends gives n policy k held same result made after was =

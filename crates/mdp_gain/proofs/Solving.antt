@@ -10,9 +10,8 @@ use Rattle.mdp_policy_iteration.specs.{Ends.{error_of_part}, Queries.{Solves}, E
 use Rattle.mdp_wide.specs.declared.unfinished.Unfinished.TheVariants as error
 use Rattle.mdp_unichain.specs.{Component.{Component, count, is_state}, Part.{IsPart, members, inner_component}, Path.{IsFirst}}
 use Rattle.mdp_unichain.proofs.Parts.{part-state, part-count}
-use Rattle.mdp_gain.specs.{Query.{Answer, plain, EndsSo}, Code.{component_in, Ends, AtStates, FitsStates, HasEntries, answer_at, values_in}}
+use Rattle.mdp_gain.specs.{Query.{Answer, plain}, Code.{component_in, HasEnds, QueryEndsSo, Ends, AtStates, FitsStates, HasEntries, answer_at, values_in}}
 use Rattle.mdp_gain.specs.declared.component.EndComponent.{EndComponent}
-use Rattle.mdp_parts.specs.FoundEnds.{AreEndsOf}
 use Rattle.mdp_gain.proofs.Given.{part-of}
 use Rattle.mdp_gain.specs.declared.best_policy.Found as code
 
@@ -57,12 +56,12 @@ module _ (x : EndComponent) (states : List ℕ) (e : states ≡ filter (is_state
 
   -- ---- the query
 
-  module _ (ends : AreEndsOf x.model.now x.ends.now) (start : List ℕ) (is : IsFirst (component_in x) start) (end : Result code.Found PathError) (path : Ends (component_in x) start end) where
+  module _ (ends : HasEnds x) (start : List ℕ) (is : IsFirst (component_in x) start) (end : Result code.Found PathError) (path : Ends (component_in x) start end) where
     are_members : states ≡ members x.model.now x.ends.now.parts x.number
     are_members = e ∙ states-members x.dir x.model.now x.ends.now.parts x.number x.name (part-of x ends)
 
     pub found_ends : (found : code.Found) → end ≡ Ok found → (a : Answer) → a ≡ answer_at states found.policy.items (values_in found.values)
-        → EndsSo x.dir x.model.now x.ends.now.parts x.number x.name (Ok a)
+        → QueryEndsSo x (Ok a)
     found_ends found was a q =
         let h = subst (Ends p start) was path in
         record {
@@ -78,7 +77,7 @@ module _ (x : EndComponent) (states : List ℕ) (e : states ≡ filter (is_state
     term n policy kind s c = Err (record { part = Inner x.number; number = n; policy = policy; kind = kind; state = Some s; choice = Some c })
 
     ends_by : (error y : PathError) → Ends p start (Err error) → AtStates states error y
-        → Solves plain (EndsSo x.dir x.model.now x.ends.now.parts x.number x.name) (Err (error_of_part (Inner x.number) y))
+        → Solves plain (QueryEndsSo x) (Err (error_of_part (Inner x.number) y))
     ends_by (error.TooWide w) (error.TooWide v) h a =
         let all = members x.model.now x.ends.now.parts x.number in (
           h.0,
@@ -100,7 +99,7 @@ module _ (x : EndComponent) (states : List ℕ) (e : states ≡ filter (is_state
     ends_by error.Memory error.Memory h a = tt
 
     pub error_ends : (error : PathError) → end ≡ Err error → (held : List ℕ) → held ≡ states → (y : PathError) → AtStates held error y → (said : SolveError)
-        → said ≡ error_of_part (Inner x.number) y → Solves plain (EndsSo x.dir x.model.now x.ends.now.parts x.number x.name) (Err said)
+        → said ≡ error_of_part (Inner x.number) y → Solves plain (QueryEndsSo x) (Err said)
     error_ends error was held same y a said is_error =
-        subst (λ (e : SolveError). Solves plain (EndsSo x.dir x.model.now x.ends.now.parts x.number x.name) (Err e)) (sym is_error)
+        subst (λ (e : SolveError). Solves plain (QueryEndsSo x) (Err e)) (sym is_error)
         (ends_by error y (subst (Ends p start) was path) (subst (λ (ss : List ℕ). AtStates ss error y) same a))

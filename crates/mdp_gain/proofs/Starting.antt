@@ -3,7 +3,7 @@ use Rattle.std.proofs.Common.{◌≡◌, ◌≢◌, ℕ, ◌<◌, ◌≤◌, ◌
 use Rattle.std.proofs.{Math.ListN.{get_or-eq_default}, lemmas.Bool.{cases_eq, and_from, eq-eqb, ne_eqb}, lemmas.List.{length-set, get_or-set_other}}
 use Rattle.std.proofs.{lemmas.List.FromFn.{get_or-map-range_with_len, length-map-range_with_len}, lemmas.Grind.{get_or-set_at}}
 use Rattle.std.specs.{List.{find, range_with_len}, Option.{unwrap_or}, Prelude.{slice_index}}
-use Rattle.mdp_math.proofs.Numbers.{le_or}
+use Rattle.mdp_math.proofs.{Booleans.{and-false}, Numbers.{le_or}}
 use Rattle.mdp_spec.specs.Mdp.{states_of}
 use Rattle.mdp_graph.specs.{Sets.{marked}, Choices.{AreLeast}}
 use Rattle.mdp_ends.specs.{Ends.{in_part, IsEnd, IsMaximal, AreEnds}, Toward.{target_in, IsToward}}
@@ -11,15 +11,14 @@ use Rattle.mdp_unichain.specs.{Component.{Component, count, choices_at, choice_a
 use Rattle.mdp_unichain.specs.Path as path
 use Rattle.mdp_unichain.proofs.{Best.{inner_of_state}, Chains.{same_or_other}, Improving.{state-below, inner-below}, Picking.{IsFirst}, Reaching.{clash_test}}
 use Rattle.mdp_unichain.proofs.Toward.{ranks_toward, nearest_choice, outside_choice}
-use Rattle.mdp_parts.specs.FoundEnds.{AreEndsOf}
-use Rattle.mdp_gain.specs.{Code.{component_in}, declared.component.EndComponent.{EndComponent}}
+use Rattle.mdp_gain.specs.{Code.{component_in, HasEnds}, declared.component.EndComponent.{EndComponent}}
 use Rattle.mdp_gain.proofs.{Flagging.{find-or}, Given.{count-is, part-of, member-is}}
 
 pub choices-len : (x : EndComponent) {target marks : List Bool} {ranks choices : List ℕ} → IsToward x.model.now x.ends.now.parts x.number target marks ranks choices
     → length choices ≡ count (component_in x)
 choices-len x pass = AreLeast.count (IsToward.chosen pass) ∙ sym (count-is x)
 
-module _ (x : EndComponent) (ends : AreEndsOf x.model.now x.ends.now) where
+module _ (x : EndComponent) (ends : HasEnds x) where
   abbrev p : Component
   p = component_in x
 
@@ -56,17 +55,13 @@ module _ (x : EndComponent) (ends : AreEndsOf x.model.now x.ends.now) where
         let l = IsFirst.below f in
         (t, omega (arith, n, l), member_t, target-at t l ∙ eq-eqb t t refl)
 
-    and_false_by : (b : Bool) → (b && false) ≡ false
-    and_false_by true = refl
-    and_false_by false = refl
-
     other_by : (s : ℕ) → (s ≡ t → ⊥) → (count p ≤ s) ⊎ (s < count p) → target_in x.ends.now.parts x.number target s ≡ (s == t)
     other_by s o (inl l) =
         let n = target-len in
         let m = count-is x in
-        ap (λ b. in_part x.ends.now.parts x.number s && b) (get_or-eq_default target false (omega (arith, n, m, l))) ∙ and_false_by (in_part x.ends.now.parts x.number s) ∙ sym (ne_eqb s t o)
+        ap (λ b. in_part x.ends.now.parts x.number s && b) (get_or-eq_default target false (omega (arith, n, m, l))) ∙ and-false (in_part x.ends.now.parts x.number s) ∙ sym (ne_eqb s t o)
     other_by s o (inr l) =
-        ap (λ b. in_part x.ends.now.parts x.number s && b) (target-at s l ∙ ne_eqb s t o) ∙ and_false_by (in_part x.ends.now.parts x.number s) ∙ sym (ne_eqb s t o)
+        ap (λ b. in_part x.ends.now.parts x.number s && b) (target-at s l ∙ ne_eqb s t o) ∙ and-false (in_part x.ends.now.parts x.number s) ∙ sym (ne_eqb s t o)
 
     same : (s : ℕ) → target_in x.ends.now.parts x.number target s ≡ (s == t)
     same s = elim (cases_eq s t) [

@@ -1,12 +1,12 @@
 -- Written terms that are told.
-use Rattle.std.proofs.Common.{◌≡◌, ℕ, Bool, true, false, if◌then◌else◌, List, Option, Some, Result, Ok, Err, refl, sym, ◌∙◌, ap, subst}
+use Rattle.std.proofs.{Common.{◌≡◌, ℕ, Bool, true, false, if◌then◌else◌, List, Option, Some, Result, Ok, Err, sym, ◌∙◌, ap, subst}, lemmas.Bool.{cond-false}}
 use Rattle.std.specs.{Prelude.{slice_index}, Result.{result_ok}}
 use Rattle.mdp_math.specs.Rational.{ℚ, ◌+ℚ◌, ◌≤ℚ◌}
 use Rattle.mdp_math.proofs.{Order.{0ℚ, 1ℚ, clash_ℚ}, Whole.{one-pos}}
 use Rattle.mdp_num.specs.declared.errors.Wide.{Wide}
 use Rattle.mdp_wide.specs.declared.too_wide.Kind.TheVariants.{Evaluate}
 use Rattle.mdp_spec.specs.{Mdp.{Entry, value_at}, Written.{written_sum}}
-use Rattle.mdp_policy_iteration.specs.{Places.{Place, at_place}, Path.{evaluating}, Faults.{placed_at, Answers}}
+use Rattle.mdp_policy_iteration.specs.{Places.{at_place}, Path.{evaluating}, Faults.{placed_at, Answers}}
 use Rattle.mdp_policy_iteration.proofs.Compares.{written_sum-is}
 use Rattle.mdp_unichain.specs.{Component.{Component, is_state}, Evaluation.{active, mean}, Sums.{written_bias}, Written.{bias_of}}
 
@@ -16,11 +16,7 @@ not_zero z row v h e q = clash_ℚ 0ℚ 1ℚ one-pos (subst (λ (w : ℚ). 1ℚ 
 
 module _ (p : Component) (policy : List ℕ) (t : ℕ) (g : ℚ) (x y : List ℚ) (s : ℕ) where
   pub bias-zero : active (is_state p) t s ≡ false → bias_of p policy t g x y s ≡ Ok 0ℚ
-  bias-zero e = by (active (is_state p) t s) e (at_place (evaluating policy s) (written_bias g (value_at x s) (value_at y s)))
-    where
-      by : (b : Bool) → b ≡ false → (r : Result ℚ Place) → (if b then r else Ok 0ℚ) ≡ Ok 0ℚ
-      by true e r = cc
-      by false e r = refl
+  bias-zero e = cond-false (active (is_state p) t s) (at_place (evaluating policy s) (written_bias g (value_at x s) (value_at y s))) (Ok 0ℚ) e
 
   told_by : (b : Bool) → b ≡ true → (step : Result ℚ Wide) (o : Option ℚ) → result_ok step ≡ o
       → Answers (λ (v : ℚ). v) (placed_at Evaluate s (slice_index policy s) step) (if b then at_place (evaluating policy s) o else Ok 0ℚ)

@@ -1,21 +1,42 @@
 -- What the code's contracts say beside the definitions.
-use Rattle.std.specs.{Prelude.{◌≡◌, ℕ, ◌+◌, ◌<◌, Bool, List, length, map, slice_index, Result, Ok, Err, Vec, if◌then◌else◌}, Global.{Global}}
+use Rattle.std.specs.{Prelude.{◌≡◌, ℕ, ◌+◌, ◌<◌, Bool, List, length, map, slice_index, Option, Result, Ok, Err, Vec, if◌then◌else◌}, Global.{Global}}
 use Rattle.std.specs.List.{All, range_with_len}
 use Rattle.mdp_math.specs.{Rational.{ℚ}, Result.{◌>>=◌}}
 use Rattle.mdp_graph.specs.Sets.{marked}
+use Rattle.mdp_parts.specs.FoundEnds.{AreEndsOf}
 use Rattle.mdp_policy_iteration.specs.{Iteration.{next, done, refused}, Places.{Place}, Path.{or_kept}, Laws.{first}, Ends.{capped}}
-use Rattle.mdp_policy_iteration.specs.Errors.{PathError, RoundError}
+use Rattle.mdp_policy_iteration.specs.{Candidates.{Best}, Errors.{PathError, RoundError}}
+use Rattle.mdp_wide.specs.Term.{WideTerm}
 use Rattle.mdp_wide.specs.declared.unfinished.Unfinished.TheVariants as error
-use Rattle.mdp_unichain.specs.{Component.{Component, count, choices_at}, Iteration.{EndsWith}}
+use Rattle.mdp_unichain.specs.{Component.{Component, count, choices_at, choice_at}, Classes.{has_flag}, Iteration.{EndsWith}, Sums.{compared}}
 use Rattle.mdp_unichain.specs.Written as written
 use Rattle.mdp_unichain.specs.Path as path
-use Rattle.mdp_gain.specs.{Query.{Answer, answer_of, inner_component}, declared.component.EndComponent.{EndComponent}, declared.values.Values.{Values}}
+use Rattle.mdp_gain.specs.{Query.{Answer, answer_of, inner_component, EndsSo}, declared.component.EndComponent.{EndComponent}, declared.values.Values.{Values}}
 use Rattle.mdp_gain.specs.{declared.best_policy.Found.{Found}, declared.round.RoundEnd.{RoundEnd}}
 use Rattle.mdp_gain.specs.declared.round.RoundEnd.TheVariants as end
 
 -- the component that the code holds
 abbrev pub component_in : EndComponent → Component
 component_in p = inner_component p.dir p.model.now p.ends.now.parts p.number p.name
+
+-- the end components that it holds are those of its model; the query of its best gain ends so
+abbrev pub HasEnds : EndComponent → Type 0
+HasEnds p = AreEndsOf p.model.now p.ends.now
+
+abbrev pub QueryEndsSo : EndComponent → Result Answer WideTerm → Type 0
+QueryEndsSo p = EndsSo p.dir p.model.now p.ends.now.parts p.number p.name
+
+-- after choice c of state s, under these biases
+abbrev pub compared_in : EndComponent → List ℚ → ℕ → ℕ → Best → Option Best
+compared_in p bias s c best = compared p.dir bias c (choice_at (component_in p) s c) best
+
+-- the numbers of a list's entries
+abbrev pub numbers_of : {A : Type 0} → List A → List ℕ
+numbers_of xs = range_with_len 0 (length xs)
+
+-- part k has a state of this kind
+abbrev pub part_has : Component → (ℕ → Bool) → List ℕ → ℕ → Bool
+part_has p kind parts k = has_flag (map kind (numbers_of p.states)) parts (count p) k
 
 -- the gain and the biases, as the code holds them
 abbrev pub values_in : Values → written.Values

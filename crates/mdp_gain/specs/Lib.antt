@@ -6,6 +6,7 @@ pub mod Classes
 pub mod Code
 pub mod OnlyTerms
 pub mod Only
+pub mod Policies
 pub mod Renumbering
 pub mod Alone
 pub mod PartQuery

@@ -1,12 +1,12 @@
 -- An end component of one state: each of its policies takes one choice there, with bias 0.
-use Rattle.std.specs.{Prelude.{◌≡◌, ℕ, ◌+◌, ◌==◌, Bool, not, ◌||◌, true, List, [], ◌∷◌, map, Result, Ok, Err, if◌then◌else◌}, List.{list_all, range_with_len}}
-use Rattle.mdp_math.specs.Rational.{ℚ}
+use Rattle.std.specs.{Prelude.{◌≡◌, ℕ, ◌+◌, ◌==◌, Bool, not, ◌||◌, true, List, [], ◌∷◌, map, Result, Ok, Err, if◌then◌else◌, pos}, List.{list_all, range_with_len}}
+use Rattle.mdp_math.specs.Rational.{ℚ, of_int}
 use Rattle.mdp_spec.specs.Mdp.{Entry}
 use Rattle.mdp_policy_iteration.specs.{Iteration.{next, done, refused}, Laws.{first}, Ends.{capped}, Errors.{PathError, RoundError}}
 use Rattle.mdp_wide.specs.declared.unfinished.Unfinished.TheVariants as error
 use Rattle.mdp_unichain.specs.{Component.{Component, count, choice_at, is_state}, Written.{Values}, Iteration.{EndsWith}}
 use Rattle.mdp_unichain.specs.Path as path
-use Rattle.mdp_gain.specs.{OnlyTerms.{zeros}, declared.only_round.Settled.{Settled}, declared.only_round.Turn.{Turn}}
+use Rattle.mdp_gain.specs.{Query.{Answer}, OnlyTerms.{zeros}, declared.only_round.Settled.{Settled}, declared.only_round.Turn.{Turn}}
 use Rattle.mdp_gain.specs.declared.only_round.Turn.TheVariants as turn
 
 -- s is a state of the component, and there is no other
@@ -29,6 +29,10 @@ policy_of p s c = map (λ t. if t == s then c else 0) (range_with_len 0 (count p
 -- its values with this gain
 abbrev pub values_of : Component → ℚ → Values
 values_of p gain = record { gain = gain; bias = zeros (count p) }
+
+-- what was found, at the only state
+abbrev pub answer_alone : ℕ → Settled → Answer
+answer_alone s found = record { states = s ∷ []; gain = found.gain; bias = of_int (pos 0) ∷ []; choices = found.choice ∷ [] }
 
 -- round n of the policy that takes choice c: its end, the next choice, the place of the first term past width, or want of memory
 abbrev pub Makes : Component → ℕ → ℕ → ℕ → Result Turn RoundError → Type 0

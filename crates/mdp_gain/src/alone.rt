@@ -1,7 +1,7 @@
 //! The model of one end component alone is handed to a builder, state by state.
 //!
-//! It is a model, and a builder takes each model that is handed over (mdp_rows, `replay_law`). So the builder refuses no call for anything but want of
-//! memory, and each refusal is answered as that.
+//! It is a model, and a builder takes each model that is handed over (mdp_rows, `replay_law`). So the builder refuses no call but for want of memory,
+//! and each refusal is answered as that.
 ghost use Rattle.std.specs.Prelude.{◌≡◌, ◌<◌, ◌∷◌, [], Ok, true, IsTrue, IfOk, OnOk, length, map};
 ghost use Rattle.mdp_spec.specs.Mdp.{row_at};
 ghost use Rattle.mdp_rows.specs.{Draft.{has_state, has_choice}, Head.{IsSameHead}, Replay.{with_entries, with_choices, with_states}};

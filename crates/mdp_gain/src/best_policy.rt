@@ -1,6 +1,5 @@
-ghost use Rattle.mdp_parts.specs.FoundEnds.{AreEndsOf};
 ghost use Rattle.mdp_unichain.specs.Path.{IsStart};
-ghost use Rattle.mdp_gain.specs.Code.{component_in, Ends, HasEntries};
+ghost use Rattle.mdp_gain.specs.Code.{component_in, Ends, HasEntries, HasEnds};
 
 use crate::chosen::Chosen;
 use crate::component::EndComponent;
@@ -18,10 +17,10 @@ pub(crate) struct Found {
 }
 
 impl EndComponent<'_> {
-    /// Policy iteration from a start policy (Howard 1960): the last policy of the path, or the first term past width. A round above 2^64 - 1 is given as
-    /// 2^64 - 1.
+    /// Policy iteration from a start policy (Howard 1960): the last policy of the path, or the first term past width. A round above 2^64 - 1 is given
+    /// as 2^64 - 1.
     pub(crate) fn improve(&self, alloc: Global, start: Vec<u32>) -> Result<Found, PathError>
-        requires given { AreEndsOf self.now.model.now self.now.ends.now }
+        requires given { HasEnds self.now }
         requires start { IsStart (component_in self.now) start.items }
         ensures path { Ends (component_in self.now) start.items result }
         ensures entries { HasEntries (component_in self.now) result }

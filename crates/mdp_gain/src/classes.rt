@@ -1,10 +1,11 @@
 ghost use Rattle.std.specs.{Prelude.{ℕ, ◌==◌, not, ◌≡◌, ◌<◌, ◌^◌, length, map, slice_index, IfOk}, List.{All, list_any, find, range_with_len}};
-ghost use Rattle.mdp_parts.specs.{FoundEnds.{AreEndsOf}, Allowed.{AreChoices}};
+ghost use Rattle.mdp_parts.specs.Allowed.{AreChoices};
 ghost use Rattle.mdp_spec.specs.Mdp.{states_of};
 ghost use Rattle.mdp_graph.specs.Sets.{marked};
 ghost use Rattle.mdp_unichain.specs.{Chain.{IsReference}, Component.{count, is_state, row_by, IsPolicy}, Path.{IsStart}};
-ghost use Rattle.mdp_unichain.specs.Classes.{takes, leaves, differs, has_flag, shares_part, AreClasses, is_in_class, is_in_changed_class, Picks};
-ghost use Rattle.mdp_gain.specs.{Code.{component_in}, Classes.{TakesAt, TakesAll}};
+ghost use Rattle.mdp_unichain.specs.Classes.{takes, leaves, differs, has_flag, shares_part, Picks};
+ghost use Rattle.mdp_gain.specs.{Code.{component_in, numbers_of, part_has, HasEnds}, Classes.{TakesAt, TakesAll}};
+ghost use Rattle.mdp_gain.specs.Policies.{under, AreClassesOf, in_class, in_changed_class};
 
 use crate::chosen::Chosen;
 use crate::component::EndComponent;
@@ -84,7 +85,7 @@ impl EndComponent<'_> {
     fn class_of(&self, alloc: Global, parts: &[u32], t: u32) -> Result<Marks, AllocError>
         requires parts { length parts.now ≡ count (component_in self.now) }
         requires state { t < count (component_in self.now) }
-        ensures { IfOk result (λ class. class ≡ map (shares_part (component_in self.now) parts.now t) (range_with_len 0 (count (component_in self.now)))) }
+        ensures { IfOk result (λ class. class ≡ map (shares_part (component_in self.now) parts.now t) (numbers_of (component_in self.now).states)) }
     {
         let mut class = Vec::new(alloc);
         for s in 0..self.count() {
@@ -98,7 +99,7 @@ impl Chosen<'_> {
     /// Whether choice `c` of state `s` is the policy's, at a state of the component.
     fn takes(&self, s: u32, c: u32) -> bool
         requires { s < count (component_in self.now.component) }
-        ensures { result ≡ takes (component_in self.now.component) self.now.policy.now s c }
+        ensures { result ≡ under self.now takes s c }
     {
         self.component.holds(s) && c == self.policy[s as usize]
     }
@@ -130,7 +131,7 @@ impl Chosen<'_> {
     fn leaves(&self, parts: &[u32], s: u32) -> bool
         requires parts { length parts.now ≡ count (component_in self.now.component) }
         requires state { s < count (component_in self.now.component) }
-        ensures { result ≡ leaves (component_in self.now.component) self.now.policy.now parts.now s }
+        ensures { result ≡ under self.now leaves parts.now s }
     {
         let row = self.component.row(s, self.policy[s as usize]);
         let other = has_other(row.targets, parts, parts[s as usize]);
@@ -140,7 +141,7 @@ impl Chosen<'_> {
     /// For each state whether it leaves its part.
     fn leaving(&self, alloc: Global, parts: &[u32]) -> Result<Vec<bool>, AllocError>
         requires { length parts.now ≡ count (component_in self.now.component) }
-        ensures { IfOk result (λ flags. flags.items ≡ map (leaves (component_in self.now.component) self.now.policy.now parts.now) (range_with_len 0 (count (component_in self.now.component)))) }
+        ensures { IfOk result (λ flags. flags.items ≡ map (under self.now leaves parts.now) (numbers_of (component_in self.now.component).states)) }
     {
         let mut flags = Vec::new(alloc);
         for s in 0..self.component.count() {
@@ -155,8 +156,7 @@ impl Chosen<'_> {
         requires below { All (λ k. k < length parts.now) parts.now }
         ensures count { IfOk result (λ marks. length marks ≡ count (component_in self.now.component)) }
         ensures left { IfOk result (λ marks. (k : ℕ) → k < count (component_in self.now.component) → marked marks k
-            ≡ has_flag (map (leaves (component_in self.now.component) self.now.policy.now parts.now) (range_with_len 0 (count (component_in self.now.component))))
-            parts.now (count (component_in self.now.component)) k) }
+            ≡ part_has (component_in self.now.component) (under self.now leaves parts.now) parts.now k) }
     {
         let flags = self.leaving(alloc, parts)?;
         flagged_parts(alloc, &flags, parts)
@@ -164,8 +164,8 @@ impl Chosen<'_> {
 
     /// The parts of the policy's chain.
     fn classes(&self, alloc: Global) -> Result<Classes, Memory>
-        requires given { AreEndsOf self.now.component.model.now self.now.component.ends.now }
-        ensures { IfOk result (λ classes. AreClasses (component_in self.now.component) self.now.policy.now classes.parts.items classes.left) }
+        requires given { HasEnds self.now.component }
+        ensures { IfOk result (λ classes. AreClassesOf self.now classes) }
     {
         let allowed = self.choices(alloc)?;
         let parts = components(alloc, self.component.model, &allowed)?;
@@ -175,17 +175,17 @@ impl Chosen<'_> {
 
     /// Whether state `s` is in a closed class.
     fn in_class(&self, classes: &Classes, s: u32) -> bool
-        requires are { AreClasses (component_in self.now.component) self.now.policy.now classes.now.parts.items classes.now.left }
+        requires are { AreClassesOf self.now classes.now }
         requires state { s < count (component_in self.now.component) }
-        ensures { result ≡ is_in_class (component_in self.now.component) classes.now.parts.items classes.now.left s }
+        ensures { result ≡ in_class self.now classes.now s }
     {
         self.component.holds(s) && !classes.left.at(classes.parts[s as usize])
     }
 
     /// The least state of a closed class.
     fn least_in_class(&self, classes: &Classes) -> Option<u32>
-        requires { AreClasses (component_in self.now.component) self.now.policy.now classes.now.parts.items classes.now.left }
-        ensures { result ≡ find (is_in_class (component_in self.now.component) classes.now.parts.items classes.now.left) (range_with_len 0 (count (component_in self.now.component))) }
+        requires { AreClassesOf self.now classes.now }
+        ensures { result ≡ find (in_class self.now classes.now) (numbers_of (component_in self.now.component).states) }
     {
         for s in 0..self.component.count() {
             if self.in_class(classes, s) {
@@ -197,19 +197,19 @@ impl Chosen<'_> {
 
     /// Whether state `s` is in a closed class with a changed state.
     fn in_changed_class(&self, classes: &Classes, changed: &Marks, s: u32) -> bool
-        requires are { AreClasses (component_in self.now.component) self.now.policy.now classes.now.parts.items classes.now.left }
+        requires are { AreClassesOf self.now classes.now }
         requires changed { length changed.now ≡ count (component_in self.now.component) }
         requires state { s < count (component_in self.now.component) }
-        ensures { result ≡ is_in_changed_class (component_in self.now.component) classes.now.parts.items classes.now.left changed.now s }
+        ensures { result ≡ in_changed_class self.now classes.now changed.now s }
     {
         self.in_class(classes, s) && changed.at(classes.parts[s as usize])
     }
 
     /// The least state of a closed class with a changed state.
     fn least_changed(&self, classes: &Classes, changed: &Marks) -> Option<u32>
-        requires are { AreClasses (component_in self.now.component) self.now.policy.now classes.now.parts.items classes.now.left }
+        requires are { AreClassesOf self.now classes.now }
         requires changed { length changed.now ≡ count (component_in self.now.component) }
-        ensures { result ≡ find (is_in_changed_class (component_in self.now.component) classes.now.parts.items classes.now.left changed.now) (range_with_len 0 (count (component_in self.now.component))) }
+        ensures { result ≡ find (in_changed_class self.now classes.now changed.now) (numbers_of (component_in self.now.component).states) }
     {
         for s in 0..self.component.count() {
             if self.in_changed_class(classes, changed, s) {
@@ -221,12 +221,13 @@ impl Chosen<'_> {
 
     /// For each number whether the part of this number has a state where the policy differs from another one.
     fn changed(&self, alloc: Global, classes: &Classes, policy: &[u32]) -> Result<Marks, Memory>
-        requires are { AreClasses (component_in self.now.component) self.now.policy.now classes.now.parts.items classes.now.left }
+        requires are { AreClassesOf self.now classes.now }
         requires policy { IsPolicy (component_in self.now.component) policy.now }
         ensures count { IfOk result (λ changed. length changed ≡ count (component_in self.now.component)) }
-        ensures changed { IfOk result (λ changed. (s : ℕ) → s < count (component_in self.now.component) → marked changed (slice_index classes.now.parts.items s)
-            ≡ has_flag (map (differs policy.now self.now.policy.now) (range_with_len 0 (count (component_in self.now.component))))
-            classes.now.parts.items (count (component_in self.now.component)) (slice_index classes.now.parts.items s)) }
+        ensures changed { IfOk result (λ changed. (s : ℕ) → s < count (component_in self.now.component)
+            → marked changed (slice_index classes.now.parts.items s)
+            ≡ part_has (component_in self.now.component) (differs policy.now self.now.policy.now) classes.now.parts.items
+            (slice_index classes.now.parts.items s)) }
     {
         let flags = differing(alloc, policy, self.policy)?;
         flagged_parts(alloc, &flags, &classes.parts)
@@ -234,7 +235,7 @@ impl Chosen<'_> {
 
     /// Of the closed classes that hold a state where the policy differs from another one, the one with the least state.
     pub(crate) fn picked(&self, alloc: Global, policy: &[u32]) -> Result<Option<Marks>, Memory>
-        requires given { AreEndsOf self.now.component.model.now self.now.component.ends.now }
+        requires given { HasEnds self.now.component }
         requires policy { IsPolicy (component_in self.now.component) policy.now }
         ensures { IfOk result (λ class. Picks (component_in self.now.component) policy.now self.now.policy.now class) }
     {
@@ -250,7 +251,7 @@ impl Chosen<'_> {
 impl EndComponent<'_> {
     /// The reference of a policy with one closed class: the least state of this class.
     pub(crate) fn reference(&self, alloc: Global, policy: &[u32]) -> Result<u32, Memory>
-        requires given { AreEndsOf self.now.model.now self.now.ends.now }
+        requires given { HasEnds self.now }
         requires start { IsStart (component_in self.now) policy.now }
         ensures { IfOk result (λ t. IsReference (is_state (component_in self.now)) (row_by (component_in self.now) policy.now) t) }
     {

@@ -1,7 +1,7 @@
 ghost use Rattle.std.specs.Prelude.{◌≡◌, ◌<◌, length, Some, None, IfOk, IfErr};
 ghost use Rattle.mdp_policy_iteration.specs.{Candidates.{judged}, Path.{or_kept}, Code.{shown}, Faults.{Answers}};
-ghost use Rattle.mdp_unichain.specs.{Component.{count, choices_at, choice_at}, Sums.{compared}, Written.{improved_choice, improved_at, written_improved}};
-ghost use Rattle.mdp_gain.specs.Code.{component_in, values_in, choice_over};
+ghost use Rattle.mdp_unichain.specs.{Component.{count, choices_at}, Written.{improved_choice, improved_at, written_improved}};
+ghost use Rattle.mdp_gain.specs.{Code.{component_in, values_in, choice_over, compared_in}, Policies.{under}};
 
 use crate::chosen::Chosen;
 use crate::component::EndComponent;
@@ -27,8 +27,8 @@ impl EndComponent<'_> {
         requires state { s < count (component_in self.now) }
         requires choice { c < length (choices_at (component_in self.now) s) }
         requires bias { length (V.values bias.now) ≡ count (component_in self.now) }
-        ensures value { IfOk result (λ next. compared self.now.dir (V.values bias.now) c (choice_at (component_in self.now) s c) (shown best) ≡ Some (shown next)) }
-        ensures wide { IfErr result (λ _. compared self.now.dir (V.values bias.now) c (choice_at (component_in self.now) s c) (shown best) ≡ None) }
+        ensures value { IfOk result (λ next. compared_in self.now (V.values bias.now) s c (shown best) ≡ Some (shown next)) }
+        ensures wide { IfErr result (λ _. compared_in self.now (V.values bias.now) s c (shown best) ≡ None) }
     {
         if !self.is_inner(s, c) {
             return Ok(best);
@@ -72,7 +72,7 @@ impl Valued<'_> {
     /// The improved policy's choice at a state of the component.
     fn improved_choice(&self, s: u32) -> Result<u32, RoundError>
         requires { s < count (component_in self.now.chosen.component) }
-        ensures { Answers (λ c. c) result (improved_choice (component_in self.now.chosen.component) self.now.chosen.policy.now (values_in self.now.values.now) s) }
+        ensures { Answers (λ c. c) result (under self.now.chosen improved_choice (values_in self.now.values.now) s) }
     {
         let kept = self.chosen.policy[s as usize];
         let sum = self.values.gain.add(&self.values.bias[s as usize]);
@@ -85,7 +85,7 @@ impl Valued<'_> {
     /// The improved policy's choice at state `s`: 0 outside the component.
     fn improved_at(&self, s: u32) -> Result<u32, RoundError>
         requires { s < count (component_in self.now.chosen.component) }
-        ensures { Answers (λ c. c) result (improved_at (component_in self.now.chosen.component) self.now.chosen.policy.now (values_in self.now.values.now) s) }
+        ensures { Answers (λ c. c) result (under self.now.chosen improved_at (values_in self.now.values.now) s) }
     {
         if !self.chosen.component.holds(s) {
             return Ok(0);
@@ -95,7 +95,7 @@ impl Valued<'_> {
 
     /// The improved policy: at each state of the component the best choice, where it is better than what the policy has.
     pub(crate) fn improved(&self, alloc: Global) -> Result<Vec<u32>, RoundError>
-        ensures { Answers (λ policy. policy.items) result (written_improved (component_in self.now.chosen.component) self.now.chosen.policy.now (values_in self.now.values.now)) }
+        ensures { Answers (λ policy. policy.items) result (under self.now.chosen written_improved (values_in self.now.values.now)) }
     {
         let mut choices = Vec::new(alloc);
         for s in 0..self.chosen.component.count() {

@@ -1,11 +1,10 @@
 ghost use Rattle.std.specs.{Prelude.{◌≡◌, ◌<◌, length, map, pos, IfOk}, Result.{result_ok}, List.{All}};
-ghost use Rattle.mdp_parts.specs.FoundEnds.{AreEndsOf};
 ghost use Rattle.mdp_math.specs.Rational.{of_int, ◌+ℚ◌, ◌≤ℚ◌};
 ghost use Rattle.mdp_spec.specs.Mdp.{value_at};
 ghost use Rattle.mdp_wide.specs.declared.too_wide.Kind.TheVariants.{Evaluate};
-ghost use Rattle.mdp_unichain.specs.{Chain.{AllLeadTo}, Component.{count, is_state, row_by}, Evaluation.{active, mean}, Sums.{written_ratio, written_bias}};
-ghost use Rattle.mdp_unichain.specs.Written.{active_of, rewards_of, ones_of, columns_of, written_columns, bias_of, written_bias_list, written_biases, written_values};
-ghost use Rattle.mdp_gain.specs.Code.{component_in, values_in};
+ghost use Rattle.mdp_unichain.specs.{Chain.{AllLeadTo}, Component.{count, is_state, row_by}, Evaluation.{active, mean}, Sums.{written_bias}};
+ghost use Rattle.mdp_unichain.specs.Written.{active_of, rewards_of, ones_of, columns_of, written_columns, written_values};
+ghost use Rattle.mdp_gain.specs.Code.{component_in, values_in, HasEnds};
 ghost use Rattle.mdp_policy_iteration.specs.Faults.{Answers};
 
 use crate::chosen::Chosen;
@@ -83,10 +82,12 @@ fn bias(gain: &Frac, x: &Frac, y: &Frac) -> Result<Frac, Wide>
 }
 
 impl Columns<'_> {
+    ghost use Rattle.mdp_gain.specs.Policies.{under, ratio_in, bias_in, bias_list_in, biases_in};
+
     /// What is earned on a way from the reference back to it, by the number of its steps.
     fn ratio(&self) -> Result<Frac, Wide>
-        requires { of_int (pos 1) ≤ℚ of_int (pos 1) +ℚ mean (row_by (component_in self.now.of.chosen.component) self.now.of.chosen.policy.now self.now.of.t) (value_at self.now.steps.now) }
-        ensures { result_ok result ≡ written_ratio (component_in self.now.of.chosen.component) self.now.of.chosen.policy.now self.now.of.t self.now.earned.now self.now.steps.now }
+        requires { of_int (pos 1) ≤ℚ of_int (pos 1) +ℚ mean (under self.now.of.chosen row_by self.now.of.t) (value_at self.now.steps.now) }
+        ensures { result_ok result ≡ ratio_in self.now }
     {
         let t = self.of.t;
         let choice = self.of.chosen.policy[t as usize];
@@ -100,7 +101,7 @@ impl Columns<'_> {
     /// The bias of state `s` to a gain: 0 at the reference and outside the component.
     fn bias_at(&self, gain: &Frac, s: u32) -> Result<Frac, RoundError>
         requires { s < count (component_in self.now.of.chosen.component) }
-        ensures { Answers (λ bias. bias) result (bias_of (component_in self.now.of.chosen.component) self.now.of.chosen.policy.now self.now.of.t gain.now self.now.earned.now self.now.steps.now s) }
+        ensures { Answers (λ bias. bias) result (bias_in self.now gain.now s) }
     {
         if !self.of.chosen.component.is_active(self.of.t, s) {
             return Ok(Frac::whole(0));
@@ -111,7 +112,7 @@ impl Columns<'_> {
 
     /// The biases to a gain.
     fn biases(&self, alloc: Global, gain: &Frac) -> Result<Vec<Frac>, RoundError>
-        ensures { Answers (λ biases. biases.items) result (written_bias_list (component_in self.now.of.chosen.component) self.now.of.chosen.policy.now self.now.of.t gain.now self.now.earned.now self.now.steps.now) }
+        ensures { Answers (λ biases. biases.items) result (bias_list_in self.now gain.now) }
     {
         let mut biases = Vec::new(alloc);
         for s in 0..self.of.chosen.component.count() {
@@ -123,8 +124,8 @@ impl Columns<'_> {
 
     /// The gain and the biases.
     fn values(&self, alloc: Global) -> Result<Values, RoundError>
-        requires { of_int (pos 1) ≤ℚ of_int (pos 1) +ℚ mean (row_by (component_in self.now.of.chosen.component) self.now.of.chosen.policy.now self.now.of.t) (value_at self.now.steps.now) }
-        ensures value { Answers values_in result (written_biases (component_in self.now.of.chosen.component) self.now.of.chosen.policy.now self.now.of.t self.now.earned.now self.now.steps.now) }
+        requires { of_int (pos 1) ≤ℚ of_int (pos 1) +ℚ mean (under self.now.of.chosen row_by self.now.of.t) (value_at self.now.steps.now) }
+        ensures value { Answers values_in result (biases_in self.now) }
         ensures count { IfOk result (λ values. length values.bias.items ≡ count (component_in self.now.of.chosen.component)) }
     {
         let gain = at_node(self.ratio(), self.of.chosen.policy, self.of.t)?;
@@ -134,9 +135,11 @@ impl Columns<'_> {
 }
 
 impl Referred<'_> {
+    ghost use Rattle.mdp_gain.specs.Policies.{under};
+
     /// What the policy earns at each state, and one step there.
     fn sides(&self, alloc: Global) -> Result<Vec<Vec<Frac>>, AllocError>
-        ensures columns { IfOk result (λ sides. map (λ x. x.items) sides.items ≡ columns_of (component_in self.now.chosen.component) self.now.chosen.policy.now) }
+        ensures columns { IfOk result (λ sides. map (λ x. x.items) sides.items ≡ under self.now.chosen columns_of) }
         ensures count { IfOk result (λ sides. length sides.items ≡ 2) }
     {
         let rewards = self.chosen.rewards(alloc)?;
@@ -147,9 +150,9 @@ impl Referred<'_> {
 
     /// What is earned from each state until the reference, and the number of steps.
     fn columns(&self, alloc: Global) -> Result<Vec<Vec<Frac>>, RoundError>
-        requires given { AreEndsOf self.now.chosen.component.model.now self.now.chosen.component.ends.now }
-        requires leads { AllLeadTo (is_state (component_in self.now.chosen.component)) (row_by (component_in self.now.chosen.component) self.now.chosen.policy.now) self.now.t }
-        ensures value { Answers (λ columns. map (λ x. x.items) columns.items) result (written_columns (component_in self.now.chosen.component) self.now.chosen.policy.now self.now.t) }
+        requires given { HasEnds self.now.chosen.component }
+        requires leads { AllLeadTo (is_state (component_in self.now.chosen.component)) (under self.now.chosen row_by) self.now.t }
+        ensures value { Answers (λ columns. map (λ x. x.items) columns.items) result (under self.now.chosen written_columns self.now.t) }
         ensures count { IfOk result (λ columns. length columns.items ≡ 2) }
         ensures lengths { IfOk result (λ columns. All (λ x. length x.items ≡ count (component_in self.now.chosen.component)) columns.items) }
     {
@@ -172,9 +175,9 @@ impl Referred<'_> {
 
     /// The gain and the biases of the policy, or the first place at which a written term is past width.
     pub(crate) fn evaluate(&self, alloc: Global) -> Result<Values, RoundError>
-        requires given { AreEndsOf self.now.chosen.component.model.now self.now.chosen.component.ends.now }
-        requires leads { AllLeadTo (is_state (component_in self.now.chosen.component)) (row_by (component_in self.now.chosen.component) self.now.chosen.policy.now) self.now.t }
-        ensures value { Answers values_in result (written_values (component_in self.now.chosen.component) self.now.chosen.policy.now self.now.t) }
+        requires given { HasEnds self.now.chosen.component }
+        requires leads { AllLeadTo (is_state (component_in self.now.chosen.component)) (under self.now.chosen row_by) self.now.t }
+        ensures value { Answers values_in result (under self.now.chosen written_values self.now.t) }
         ensures count { IfOk result (λ values. length values.bias.items ≡ count (component_in self.now.chosen.component)) }
     {
         solution_law();

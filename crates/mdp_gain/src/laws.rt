@@ -1,4 +1,5 @@
-ghost use Rattle.mdp_gain.specs.Laws.{HasOneEnd, AnswersAreBest, HasOneGain, NoPolicyIsBetter, NoTreeEarnsMore, NoTreeEarnsLess, StepImproves, NoPolicyTwice};
+ghost use Rattle.mdp_gain.specs.Laws.{HasOneEnd, AnswersAreBest, HasOneGain, NoPolicyIsBetter, NoTreeEarnsMore, NoTreeEarnsLess};
+ghost use Rattle.mdp_gain.specs.Laws.{StepImproves, NoPolicyTwice};
 
 use mdp_elim::solution_law;
 

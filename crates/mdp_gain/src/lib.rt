@@ -1,5 +1,5 @@
-//! The best gain of one end component, with a bias and a policy that has one closed class, by policy iteration: in the whole model, or in a model of the
-//! component alone, where each round takes time in proportion to the component's states and entries.
+//! The best gain of one end component, with a bias and a policy that has one closed class, by policy iteration: in the whole model, or in a model of
+//! the component alone, where each round takes time in proportion to the component's states and entries.
 #![tactic(auto)]
 
 mod access;

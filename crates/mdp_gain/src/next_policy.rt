@@ -1,8 +1,7 @@
 ghost use Rattle.std.specs.Prelude.{◌≡◌, ◌<◌, ◌^◌, length, slice_index, if◌then◌else◌, IfOk};
-ghost use Rattle.mdp_parts.specs.FoundEnds.{AreEndsOf};
 ghost use Rattle.mdp_graph.specs.Sets.{marked};
 ghost use Rattle.mdp_unichain.specs.{Component.{count, IsPolicy}, Next.{IsPicked, IsExactNext}};
-ghost use Rattle.mdp_gain.specs.Code.{component_in, joined};
+ghost use Rattle.mdp_gain.specs.Code.{component_in, joined, HasEnds};
 
 use crate::chosen::Chosen;
 use mdp_num::Memory;
@@ -45,10 +44,10 @@ fn joined(
 }
 
 impl Chosen<'_> {
-    /// The policy that keeps its choices on a closed class, which was picked for them against another policy, and goes toward it from the other states of
-    /// the component.
+    /// The policy that keeps its choices on a closed class, which was picked for them against another policy; the other states of the component go
+    /// toward it.
     fn toward_class(&self, alloc: Global, policy: &[u32], class: &Marks) -> Result<Vec<u32>, Memory>
-        requires given { AreEndsOf self.now.component.model.now self.now.component.ends.now }
+        requires given { HasEnds self.now.component }
         requires picked { IsPicked (component_in self.now.component) policy.now self.now.policy.now (marked class.now) }
         requires count { length class.now ≡ count (component_in self.now.component) }
         ensures { IfOk result (λ next. IsExactNext (component_in self.now.component) policy.now self.now.policy.now next.items) }
@@ -64,10 +63,10 @@ impl Chosen<'_> {
         Ok(joined(alloc, class, self.policy, &pass.choices)?)
     }
 
-    /// The next policy: the improved one where none of its closed classes holds a state where it differs; else one such class keeps its choices, and the
-    /// other states go toward it.
+    /// The next policy: the improved one where none of its closed classes holds a state where it differs; else one such class keeps its choices, and
+    /// the other states go toward it.
     pub(crate) fn next_policy(&self, alloc: Global, improved: Vec<u32>) -> Result<Vec<u32>, Memory>
-        requires given { AreEndsOf self.now.component.model.now self.now.component.ends.now }
+        requires given { HasEnds self.now.component }
         requires improved { IsPolicy (component_in self.now.component) improved.items }
         ensures { IfOk result (λ next. IsExactNext (component_in self.now.component) self.now.policy.now improved.items next.items) }
     {

@@ -1,9 +1,7 @@
-ghost use Rattle.std.specs.{Prelude.{◌≡◌, ◌<◌, ◌==◌, length, IfOk, pos, [], ◌∷◌}, List.{list_all, range_with_len}};
-ghost use Rattle.mdp_parts.specs.FoundEnds.{AreEndsOf};
-ghost use Rattle.mdp_math.specs.Rational.{of_int};
+ghost use Rattle.std.specs.{Prelude.{◌≡◌, ◌<◌, ◌==◌, length, IfOk}, List.{list_all}};
 ghost use Rattle.mdp_policy_iteration.specs.Queries.{Solves};
 ghost use Rattle.mdp_unichain.specs.Component.{count, choices_at};
-ghost use Rattle.mdp_gain.specs.{Code.{component_in}, Only.{stays}, Query.{plain, EndsSo}};
+ghost use Rattle.mdp_gain.specs.{Code.{component_in, numbers_of, HasEnds, QueryEndsSo}, Only.{stays, answer_alone}, Query.{plain}};
 
 use crate::classes::is_other;
 use crate::component::EndComponent;
@@ -44,7 +42,7 @@ impl EndComponent<'_> {
     /// Whether each choice of the component at state `s` stays there: then it is the only state.
     pub(crate) fn is_only(&self, s: u32) -> bool
         requires { s < count (component_in self.now) }
-        ensures { result ≡ list_all (stays (component_in self.now) s) (range_with_len 0 (length (choices_at (component_in self.now) s))) }
+        ensures { result ≡ list_all (stays (component_in self.now) s) (numbers_of (choices_at (component_in self.now) s)) }
     {
         for c in 0..self.choices(s) {
             if !self.stays(s, c) {
@@ -57,7 +55,7 @@ impl EndComponent<'_> {
 
 /// What was found, at the only state.
 fn inner_of(alloc: Global, s: u32, found: &Settled) -> Result<Inner, AllocError>
-    ensures { IfOk result (λ inner. plain inner ≡ record { states = s ∷ []; gain = found.now.gain; bias = of_int (pos 0) ∷ []; choices = found.now.choice ∷ [] }) }
+    ensures { IfOk result (λ inner. plain inner ≡ answer_alone s found.now) }
 {
     Ok(Inner {
         states: vec![in alloc; s]?,
@@ -70,8 +68,8 @@ fn inner_of(alloc: Global, s: u32, found: &Settled) -> Result<Inner, AllocError>
 impl Only<'_> {
     /// The best gain.
     pub(crate) fn solve(&self, alloc: Global) -> Result<Inner, SolveError>
-        requires given { AreEndsOf self.now.component.model.now self.now.component.ends.now }
-        ensures { Solves plain (EndsSo self.now.component.dir self.now.component.model.now self.now.component.ends.now.parts self.now.component.number self.now.component.name) result }
+        requires given { HasEnds self.now.component }
+        ensures { Solves plain (QueryEndsSo self.now.component) result }
     {
         let start = self.component.least_choice(self.s).unwrap_or(0);
         match self.settle(alloc, start) {

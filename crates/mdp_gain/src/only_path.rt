@@ -1,6 +1,5 @@
-ghost use Rattle.mdp_parts.specs.FoundEnds.{AreEndsOf};
 ghost use Rattle.mdp_unichain.specs.Component.{IsInner};
-ghost use Rattle.mdp_gain.specs.{Code.{component_in}, Only.{IsErrorOf, Ends}};
+ghost use Rattle.mdp_gain.specs.{Code.{component_in, HasEnds}, Only.{IsErrorOf, Ends}};
 
 use crate::only_round::{Settled, Turn};
 use crate::only_state::Only;
@@ -37,7 +36,7 @@ fn path_error(alloc: Global, error: RoundError, round: u64, choice: u32) -> Path
 impl Only<'_> {
     /// Policy iteration from a choice.
     pub(crate) fn settle(&self, alloc: Global, start: u32) -> Result<Settled, PathError>
-        requires given { AreEndsOf self.now.component.model.now self.now.component.ends.now }
+        requires given { HasEnds self.now.component }
         requires start { IsInner (component_in self.now.component) self.now.s start }
         ensures { Ends (component_in self.now.component) self.now.s start result }
     {

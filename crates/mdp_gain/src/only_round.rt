@@ -1,9 +1,8 @@
 ghost use Rattle.std.specs.{Prelude.{ℕ, ◌≡◌, ◌<◌, length}, Result.{result_ok}};
-ghost use Rattle.mdp_parts.specs.FoundEnds.{AreEndsOf};
 ghost use Rattle.mdp_wide.specs.declared.too_wide.Kind.TheVariants.{Evaluate};
 ghost use Rattle.mdp_unichain.specs.{Component.{count, choices_at, choice_at, IsInner}, Written.{written_values, written_improved}};
 ghost use Rattle.mdp_policy_iteration.specs.Faults.{placed_at, Answers};
-ghost use Rattle.mdp_gain.specs.{Code.{component_in}, Only.{policy_of, values_of, Makes}, OnlyTerms.{ratio_of}};
+ghost use Rattle.mdp_gain.specs.{Code.{component_in, HasEnds}, Only.{Makes}, OnlyTerms.{ratio_of}, Policies.{policy_by, values_by}};
 
 use crate::only_state::Only;
 use mdp_num::{Frac, Wide};
@@ -56,15 +55,15 @@ impl Only<'_> {
     /// The gain of choice `c`; its bias is 0.
     fn gain(&self, c: u32) -> Result<Frac, RoundError>
         requires { IsInner (component_in self.now.component) self.now.s c }
-        ensures { Answers (values_of (component_in self.now.component)) result (written_values (component_in self.now.component) (policy_of (component_in self.now.component) self.now.s c) self.now.s) }
+        ensures { Answers (values_by self.now) result (written_values (component_in self.now.component) (policy_by self.now c) self.now.s) }
     {
         at_evaluation(self.ratio(c), self.s, c)
     }
 
     /// The choice that improves choice `c`, which has this gain.
     fn improved(&self, c: u32, gain: &Frac) -> Result<u32, RoundError>
-        ensures { Answers (policy_of (component_in self.now.component) self.now.s) result
-            (written_improved (component_in self.now.component) (policy_of (component_in self.now.component) self.now.s c) (values_of (component_in self.now.component) gain.now)) }
+        ensures { Answers (policy_by self.now) result
+            (written_improved (component_in self.now.component) (policy_by self.now c) (values_by self.now gain.now)) }
     {
         let present = at_choice(gain.add(&Frac::whole(0)), self.s, c)?;
         self.component.choice_over(self, self.s, c, present)
@@ -72,7 +71,7 @@ impl Only<'_> {
 
     /// One round of choice `c`: its gain, and the choice that improves it.
     pub(crate) fn round(&self, c: u32) -> Result<Turn, RoundError>
-        requires given { AreEndsOf self.now.component.model.now self.now.component.ends.now }
+        requires given { HasEnds self.now.component }
         requires inner { IsInner (component_in self.now.component) self.now.s c }
         ensures { (n : ℕ) → Makes (component_in self.now.component) self.now.s n c result }
     {

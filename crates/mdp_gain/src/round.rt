@@ -1,7 +1,6 @@
 ghost use Rattle.std.specs.Prelude.{ℕ, ◌≡◌, ◌≢◌, true, false};
-ghost use Rattle.mdp_parts.specs.FoundEnds.{AreEndsOf};
 ghost use Rattle.mdp_unichain.specs.{Chain.{IsReference}, Component.{is_state, row_by}};
-ghost use Rattle.mdp_gain.specs.Code.{component_in, Makes, HasBiases};
+ghost use Rattle.mdp_gain.specs.{Code.{component_in, Makes, HasBiases, HasEnds}, Policies.{under}};
 
 use crate::chosen::Chosen;
 use crate::comparison::Valued;
@@ -30,8 +29,8 @@ fn is_same(policy: &[u32], other: &[u32]) -> bool
 impl Chosen<'_> {
     /// One round, where `t` is the policy's reference: its gain and biases, and the choices that improve it.
     pub(crate) fn round(&self, alloc: Global, t: u32) -> Result<RoundEnd, RoundError>
-        requires given { AreEndsOf self.now.component.model.now self.now.component.ends.now }
-        requires reference { IsReference (is_state (component_in self.now.component)) (row_by (component_in self.now.component) self.now.policy.now) t }
+        requires given { HasEnds self.now.component }
+        requires reference { IsReference (is_state (component_in self.now.component)) (under self.now row_by) t }
         ensures made { (n : ℕ) → Makes (component_in self.now.component) n self.now.policy.now result }
         ensures biases { HasBiases (component_in self.now.component) result }
     {

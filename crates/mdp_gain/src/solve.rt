@@ -5,7 +5,8 @@ ghost use Rattle.mdp_parts.specs.FoundEnds.{AreEndsOf};
 ghost use Rattle.mdp_policy_iteration.specs.Queries.{Solves};
 ghost use Rattle.mdp_unichain.specs.{Component.{count, is_state}, Path.{IsFirst}};
 ghost use Rattle.mdp_gain.specs.Code as code;
-ghost use Rattle.mdp_gain.specs.{Code.{component_in, values_in, HasEntries, FitsStates, AtStates, answer_at}, Query.{plain, EndsSo}, Best.{IsBestInner}};
+ghost use Rattle.mdp_gain.specs.Code.{component_in, values_in, numbers_of, HasEnds, HasEntries, FitsStates, AtStates, answer_at, QueryEndsSo};
+ghost use Rattle.mdp_gain.specs.{Query.{plain, EndsSo}, Best.{IsBestInner}};
 
 use crate::best_policy::Found;
 use crate::component::EndComponent;
@@ -88,7 +89,7 @@ fn at_states(alloc: Global, states: &[u32], error: PathError) -> PathError
 impl EndComponent<'_> {
     /// The states of the component, ascending.
     fn states(&self, alloc: Global) -> Result<Vec<u32>, AllocError>
-        ensures { IfOk result (λ states. states.items ≡ filter (is_state (component_in self.now)) (range_with_len 0 (count (component_in self.now)))) }
+        ensures { IfOk result (λ states. states.items ≡ filter (is_state (component_in self.now)) (numbers_of (component_in self.now).states)) }
     {
         let mut states = Vec::new(alloc);
         for s in 0..self.count() {
@@ -101,10 +102,10 @@ impl EndComponent<'_> {
 
     /// The end of the path as that of the query.
     fn outcome(&self, alloc: Global, end: Result<Found, PathError>) -> Result<Inner, SolveError>
-        requires given { AreEndsOf self.now.model.now self.now.ends.now }
+        requires given { HasEnds self.now }
         requires path { (start : List ℕ) × IsFirst (component_in self.now) start × code.Ends (component_in self.now) start end }
         requires entries { HasEntries (component_in self.now) end }
-        ensures { Solves plain (EndsSo self.now.dir self.now.model.now self.now.ends.now.parts self.now.number self.now.name) result }
+        ensures { Solves plain (QueryEndsSo self.now) result }
     {
         let states = self.states(alloc)?;
         match end {
@@ -115,8 +116,8 @@ impl EndComponent<'_> {
 
     /// The best gain, by policy iteration.
     fn solve(&self, alloc: Global) -> Result<Inner, SolveError>
-        requires given { AreEndsOf self.now.model.now self.now.ends.now }
-        ensures { Solves plain (EndsSo self.now.dir self.now.model.now self.now.ends.now.parts self.now.number self.now.name) result }
+        requires given { HasEnds self.now }
+        ensures { Solves plain (QueryEndsSo self.now) result }
     {
         let start = self.start(alloc)?;
         let end = self.improve(alloc, start);
@@ -124,8 +125,8 @@ impl EndComponent<'_> {
     }
 }
 
-/// The greatest or the least gain of end component `i`, under the reward name of place `m`, by policy iteration (Howard 1960): the component's states,
-/// the gain, a bias, and a policy with one closed class. `TooWide` is the first written term past width; its policy lists the component's states,
+/// The greatest or the least gain of end component `i`, under the reward name of place `m`, by policy iteration (Howard 1960): the component's
+/// states, the gain, a bias, and a policy with one closed class. `TooWide` is the first written term past width; its policy lists the states,
 /// ascending. A round takes time in proportion to the model's states and entries, and that of one elimination over the component's states.
 pub fn solve_inner(
     alloc: Global,

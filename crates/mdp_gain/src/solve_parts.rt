@@ -2,8 +2,8 @@ ghost use Rattle.std.specs.Prelude.{◌≡◌, ◌<◌, length, IfOk};
 ghost use Rattle.mdp_ends.specs.Ends.{count_of};
 ghost use Rattle.mdp_parts.specs.FoundEnds.{AreEndsOf};
 ghost use Rattle.mdp_policy_iteration.specs.Queries.{Solves};
-ghost use Rattle.mdp_gain.specs.{Query.{plain, EndsSo}, Best.{IsBestInner}, PartQuery.{answer_in, state_in}, FoundMembers.{AreMembersOf}, PartCode.{IsGiven}};
-ghost use Rattle.mdp_gain.specs.EndCode.{IsTermIn, IsEndIn};
+ghost use Rattle.mdp_gain.specs.{Query.{plain, EndsSo}, Best.{IsBestInner}, PartQuery.{answer_in, state_in}, FoundMembers.{AreMembersOf}};
+ghost use Rattle.mdp_gain.specs.{PartCode.{IsGiven}, EndCode.{IsTermIn, IsEndIn}};
 
 use crate::alone::{OnePart, alone};
 use crate::inner::Inner;
@@ -79,10 +79,10 @@ fn solve_one(alloc: Global, part: &OnePart<'_>, dir: Dir) -> Result<Inner, Solve
     end_in(alloc, part.states, part.number, end)
 }
 
-/// The greatest or the least gain of end component `i`, under the reward name of place `m`, as `solve_inner` of mdp_gain finds it: the states, the gain, a
-/// bias, and a policy with one closed class. `TooWide` is the first written term past width; its policy lists the end component's states, ascending.
-/// Where these are fewer than half of the model's states, the end component is solved as a model of its own: a round takes time in proportion to its own
-/// states and entries, and that of one elimination over its states.
+/// The greatest or the least gain of end component `i`, under the reward name of place `m`, as `solve_inner` finds it: the states, the gain, a bias,
+/// and a policy with one closed class. `TooWide` is the first written term past width; its policy lists the end component's states, ascending.
+/// Where these are fewer than half of the model's states, the end component is solved as a model of its own: a round takes time in proportion to
+/// its own states and entries, and that of one elimination over its states.
 pub fn solve_alone(
     alloc: Global,
     model: &Model,

@@ -1,7 +1,6 @@
 ghost use Rattle.std.specs.{Prelude.{◌≡◌, ◌<◌, ◌==◌, length, map, IfOk}, List.{find, range_with_len}};
-ghost use Rattle.mdp_parts.specs.FoundEnds.{AreEndsOf};
 ghost use Rattle.mdp_unichain.specs.{Component.{count, choices_at, choice_at, is_state}, Path.{IsFirst}};
-ghost use Rattle.mdp_gain.specs.Code.{component_in};
+ghost use Rattle.mdp_gain.specs.Code.{component_in, numbers_of, HasEnds};
 
 use crate::component::EndComponent;
 use mdp_num::Memory;
@@ -23,7 +22,7 @@ fn one_state(alloc: Global, t: u32, states: u32) -> Result<Marks, AllocError>
 impl EndComponent<'_> {
     /// The least state of the component.
     fn least_state(&self) -> Option<u32>
-        ensures { result ≡ find (is_state (component_in self.now)) (range_with_len 0 (count (component_in self.now))) }
+        ensures { result ≡ find (is_state (component_in self.now)) (numbers_of (component_in self.now).states) }
     {
         for s in 0..self.count() {
             if self.holds(s) {
@@ -36,7 +35,7 @@ impl EndComponent<'_> {
     /// The least choice of state `s` that is one of the component.
     pub(crate) fn least_choice(&self, s: u32) -> Option<u32>
         requires { s < count (component_in self.now) }
-        ensures { result ≡ find (λ c. (choice_at (component_in self.now) s c).inner) (range_with_len 0 (length (choices_at (component_in self.now) s))) }
+        ensures { result ≡ find (λ c. (choice_at (component_in self.now) s c).inner) (numbers_of (choices_at (component_in self.now) s)) }
     {
         for c in 0..self.choices(s) {
             if self.is_inner(s, c) {
@@ -48,7 +47,7 @@ impl EndComponent<'_> {
 
     /// The start policy: it goes toward the least state of the component, and takes the least choice of the component there.
     pub(crate) fn start(&self, alloc: Global) -> Result<Vec<u32>, Memory>
-        requires given { AreEndsOf self.now.model.now self.now.ends.now }
+        requires given { HasEnds self.now }
         ensures { IfOk result (λ start. IsFirst (component_in self.now) start.items) }
     {
         let least = self.least_state().unwrap_or(0);

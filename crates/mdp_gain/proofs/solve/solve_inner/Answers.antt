@@ -7,5 +7,4 @@ invariant_of-component c = record { mdp = c.known.ensures.mdp; found = ∣ c.req
 pub returns-clause-best : goal.returns-clause-best
 returns-clause-best c =
     solves_best c.solution_law.ensures.solves c.args.dir c.args.model.now c.args.ends.now.parts c.args.i c.args.m
-    (record { model = c.known.ensures.mdp; ends = c.requires.ends.ends; below = c.requires.part }) c.solve.result
-    c.solve.ensures
+    (record { model = c.known.ensures.mdp; ends = c.requires.ends.ends; below = c.requires.part }) c.solve.result c.solve.ensures

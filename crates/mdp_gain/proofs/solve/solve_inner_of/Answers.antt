@@ -23,5 +23,4 @@ invariant_of-only c = record {
 pub returns-then-is_only-clause-best : goal.returns-then-is_only-clause-best
 returns-then-is_only-clause-best c =
     solves_best c.solution_law.ensures.solves c.args.dir c.args.model.now c.args.ends.now.parts c.args.i c.args.m
-    (record { model = c.known.ensures.mdp; ends = c.requires.ends.ends; below = c.requires.part }) c.solve.result
-    c.solve.ensures
+    (record { model = c.known.ensures.mdp; ends = c.requires.ends.ends; below = c.requires.part }) c.solve.result c.solve.ensures

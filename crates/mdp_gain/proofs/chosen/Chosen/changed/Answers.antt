@@ -31,5 +31,4 @@ returns-clause-changed c =
     IfOk-weaker c.flagged_parts.result _ _
     (λ changed h s l.
     changed-is (component_in y.component) c.args.policy.now y.policy.now classes.parts.items c.deref-2.result.now classes.left changed c.deref.result.now c.requires.are
-    (IsPolicy.len c.requires.policy) (c.deref.ensures.value ∙ c.in_ok-flags.ensures {u = tt}) c.deref-2.ensures.value h s l)
-    c.flagged_parts.ensures.flagged
+    (IsPolicy.len c.requires.policy) (c.deref.ensures.value ∙ c.in_ok-flags.ensures {u = tt}) c.deref-2.ensures.value h s l) c.flagged_parts.ensures.flagged

@@ -21,5 +21,4 @@ returns-clause-left c =
     IfOk-weaker c.flagged_parts.result _ _
     (λ marks h k l.
     flagged-is (map (leaves p c.args.self.now.policy.now c.args.parts.now) (range_with_len 0 (count p))) c.deref.result.now c.args.parts.now c.args.parts.now (count p) marks
-    (c.deref.ensures.value ∙ c.in_ok-flags.ensures {u = tt}) refl c.requires.parts h k l)
-    c.flagged_parts.ensures.flagged
+    (c.deref.ensures.value ∙ c.in_ok-flags.ensures {u = tt}) refl c.requires.parts h k l) c.flagged_parts.ensures.flagged

@@ -3,7 +3,7 @@ use Rattle.std.proofs.Common.{◌∙◌, List, sym, ap, ap₂, ◌<◌, subst}
 use Rattle.mdp_math.specs.Rational.{ℚ}
 use Rattle.mdp_spec.specs.{Mdp.{Entry}, Written.{written_sum}}
 use Rattle.mdp_unichain.specs.Component.{row_by}
-use Rattle.mdp_gain.specs.Code.{component_in}
+use Rattle.mdp_gain.specs.Policies.{under}
 use Rattle.mdp_gain.proofs.{Given.{policy-below}, Told.{not_zero}}
 use Rattle.mdp_gain.proofs.evaluation.Columns.ratio.Goals as goal
 
@@ -16,7 +16,7 @@ reward-reward-requires-clause-choice c = policy-below c.args.self.now.of.chosen 
 pub div-requires : goal.div-requires
 div-requires c =
     let x = c.args.self.now in
-    not_zero x.steps.now (row_by (component_in x.of.chosen.component) x.of.chosen.policy.now x.of.t) c.in_ok-steps.steps c.requires
+    not_zero x.steps.now (under x.of.chosen row_by x.of.t) c.in_ok-steps.steps c.requires
     (ap₂ (λ (one : ℚ) (es : List Entry). written_sum x.steps.now one es) (sym c.whole.ensures) (sym c.row-row.ensures.row)
     ∙ sym c.sum-2.ensures ∙ ap result_ok (c.in_ok-steps.was {u = tt}))
 
