@@ -48,10 +48,6 @@ impl Search for Reaching<'_, '_> {
         self.model
     }
 
-    fn first_digits(&self, _digits: u32) -> Option<u32> {
-        None
-    }
-
     fn propose(&self, alloc: Global, digits: u32) -> Result<ProposedReach, Memory> {
         propose_reach(alloc, self.model, self.goals, self.dir, digits)
     }
@@ -72,8 +68,7 @@ impl Search for Reaching<'_, '_> {
         near: &ProposedReach,
         is_sought: &[bool],
     ) -> Result<ReachBoundsCert, Memory> {
-        let exact = simplest_reach(alloc, self.model, near, is_sought)?;
-        Ok(exact)
+        simplest_reach(alloc, self.model, near, is_sought)
     }
 
     fn holds_at(&self, cert: &ReachBoundsCert, s: u32) -> bool {

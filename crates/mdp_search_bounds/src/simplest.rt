@@ -4,13 +4,13 @@ ghost use Rattle.std.specs.Prelude.{IfOk};
 ghost use Rattle.mdp_search_bounds.specs.Held.{HasReachSizes, HasRewardSizes, HasMeanSizes};
 
 use mdp_bounds::{MeanBoundsCert, ReachBoundsCert, RewardBoundsCert};
-use mdp_num::Frac;
+use mdp_num::{Frac, Memory};
 use mdp_proposals::{
     ProposedMean, ProposedReach, ProposedReward, all_capped, numbers, simplest_near_values,
     simplest_rewards, simplest_values,
 };
 use mdp_rows::Model;
-use std::alloc::{AllocError, Global};
+use std::alloc::Global;
 use std::cmp::Ordering;
 
 /// The certificate with the simplest fractions between proposed bounds as lower and as upper values, at the states where they are sought: where they are the
@@ -20,7 +20,7 @@ pub(crate) fn simplest_reach(
     model: &Model,
     near: &ProposedReach,
     is_sought: &[bool],
-) -> Result<ReachBoundsCert, AllocError>
+) -> Result<ReachBoundsCert, Memory>
     ensures { IfOk result (HasReachSizes model.now) }
 {
     let states = model.states();
@@ -43,7 +43,7 @@ pub(crate) fn simplest_rewards_of(
     model: &Model,
     near: &ProposedReward,
     is_sought: &[bool],
-) -> Result<RewardBoundsCert, AllocError>
+) -> Result<RewardBoundsCert, Memory>
     ensures { IfOk result (HasRewardSizes model.now) }
 {
     let states = model.states();
@@ -59,29 +59,32 @@ pub(crate) fn simplest_rewards_of(
     })
 }
 
-/// The greatest of the numbers, or for `Less` the least, and 0 of none.
-fn extreme(numbers: &[Frac], order: Ordering) -> Frac {
-    let mut best = match numbers.first() {
+/// The greatest of the numbers less the least, and 0 of none. None where that is past width.
+fn width_of(numbers: &[Frac]) -> Option<Frac> {
+    let mut least = match numbers.first() {
         Some(first) => *first,
-        None => Frac::whole(0),
+        None => return Some(Frac::whole(0)),
     };
+    let mut greatest = least;
     for number in numbers {
-        if number.order(&best) == order {
-            best = *number;
+        if number.order(&least) == Ordering::Less {
+            least = *number;
+        }
+        if number.order(&greatest) == Ordering::Greater {
+            greatest = *number;
         }
     }
-    best
-}
-
-/// The greatest of the numbers less the least. None where that is past width.
-fn width_of(numbers: &[Frac]) -> Option<Frac> {
-    let greatest = extreme(numbers, Ordering::Greater);
-    greatest.sub(&extreme(numbers, Ordering::Less)).ok()
+    greatest.sub(&least).ok()
 }
 
 /// The greater of the widths of two columns. None where one of them is past width.
 fn spread_of(bound: &[Frac], bias: &[Frac]) -> Option<Frac> {
-    Some(extreme(&[width_of(bound)?, width_of(bias)?], Ordering::Greater))
+    let (first, second) = (width_of(bound)?, width_of(bias)?);
+    if second.order(&first) == Ordering::Greater {
+        Some(second)
+    } else {
+        Some(first)
+    }
 }
 
 /// The certificate with the simplest fractions between proposed gains as lower and as upper gains, and with the simplest relative values near the proposed
@@ -91,7 +94,7 @@ pub(crate) fn simplest_mean(
     model: &Model,
     near: &ProposedMean,
     is_sought: &[bool],
-) -> Result<MeanBoundsCert, AllocError>
+) -> Result<MeanBoundsCert, Memory>
     ensures { IfOk result (HasMeanSizes model.now) }
 {
     let states = model.states();
