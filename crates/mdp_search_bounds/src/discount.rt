@@ -96,17 +96,12 @@ impl Discounting<'_> {
         })
     }
 
-    /// The bounds by one number for all states, where the rules say yes to them.
-    fn finite(self, alloc: Global) -> Result<Option<DiscountBounds>, Memory>
-        ensures { IfOk result (λ found. IfSome found (IsHeldDiscount self.entry.dir self.entry.model.now self.entry.name self.entry.factor.now)) }
+    /// The bounds by one number for all states.
+    fn finite(self, alloc: Global) -> Result<DiscountBounds, Memory>
+        ensures { IfOk result (HasDiscountSizes self.entry.model.now) }
     {
         let none = missing_discount(alloc, self.model)?;
-        let bounds = finite_bounds(self.model, self.name, self.factor, none);
-        if self.holds(&bounds) {
-            Ok(Some(bounds))
-        } else {
-            Ok(None)
-        }
+        Ok(finite_bounds(self.model, self.name, self.factor, none))
     }
 }
 
@@ -131,6 +126,10 @@ impl Search for Discounting<'_> {
 
     fn model(&self) -> &Model {
         self.model
+    }
+
+    fn first_digits(&self, _digits: u32) -> Option<u32> {
+        None
     }
 
     fn propose(&self, alloc: Global, digits: u32) -> Result<ProposedDiscount, Memory> {
@@ -199,8 +198,9 @@ impl Search for Discounting<'_> {
     }
 
     fn trivial(&self, alloc: Global) -> Result<DiscountBounds, Memory> {
-        if let Some(bounds) = self.finite(alloc)? {
-            return Ok(bounds);
+        let finite = self.finite(alloc)?;
+        if self.holds(&finite) {
+            return Ok(finite);
         }
         let bounds = missing_discount(alloc, self.model)?;
         match holds_bounds_discount(self.model, self.name, self.dir, self.factor, &bounds) {

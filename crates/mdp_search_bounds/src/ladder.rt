@@ -49,9 +49,7 @@ pub(crate) trait Search {
     fn model(&self) -> &Model;
 
     /// With how many digits the search begins, where so few come as near as `digits` say as a rule: of a large model more of them take long.
-    fn first_digits(&self, _digits: u32) -> Option<u32> {
-        None
-    }
+    fn first_digits(&self, digits: u32) -> Option<u32>;
 
     /// What the search proposes with so many digits.
     fn propose(&self, alloc: Global, digits: u32) -> Result<Self::Proposal, Memory>
@@ -127,11 +125,7 @@ fn holds_at_few<S: Search>(search: &S, cert: &S::Cert) -> bool
 }
 
 /// Whether the rules say yes to the simplest fractions between the bounds that the search proposed, at a few states.
-fn is_held_at_few<S: Search>(
-    alloc: Global,
-    search: &S,
-    near: &S::Proposal,
-) -> Result<bool, Memory> {
+fn passes_at_few<S: Search>(alloc: Global, search: &S, near: &S::Proposal) -> Result<bool, Memory> {
     let needed = few_flags(alloc, search.model())?;
     let few = search.simplest(alloc, near, &needed)?;
     Ok(holds_at_few(search, &few))
@@ -146,7 +140,7 @@ fn held_exact<S: Search>(
     ensures held { IfOk result (λ found. IfSome found (S.is_held search.now)) }
     ensures found { IfOk result (λ found. IfSome found (S.is_found search.now)) }
 {
-    if !is_held_at_few(alloc, search, near)? {
+    if !passes_at_few(alloc, search, near)? {
         return Ok(None);
     }
     let all = vec![in alloc; true; search.model().states() as usize]?;

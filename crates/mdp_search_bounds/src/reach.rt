@@ -48,6 +48,10 @@ impl Search for Reaching<'_, '_> {
         self.model
     }
 
+    fn first_digits(&self, _digits: u32) -> Option<u32> {
+        None
+    }
+
     fn propose(&self, alloc: Global, digits: u32) -> Result<ProposedReach, Memory> {
         propose_reach(alloc, self.model, self.goals, self.dir, digits)
     }

@@ -59,6 +59,10 @@ impl Search for Earning<'_, '_> {
         self.model
     }
 
+    fn first_digits(&self, _digits: u32) -> Option<u32> {
+        None
+    }
+
     fn propose(&self, alloc: Global, digits: u32) -> Result<ProposedReward, Memory> {
         propose_reward(alloc, self.model, self.name, self.goals, self.dir, digits)
     }

@@ -59,32 +59,29 @@ pub(crate) fn simplest_rewards_of(
     })
 }
 
-/// The greatest of the numbers less the least, and 0 of none. None where that is past width.
-fn width_of(numbers: &[Frac]) -> Option<Frac> {
-    let mut least = match numbers.first() {
+/// The greatest of the numbers, or for `Less` the least, and 0 of none.
+fn extreme(numbers: &[Frac], order: Ordering) -> Frac {
+    let mut best = match numbers.first() {
         Some(first) => *first,
-        None => return Some(Frac::whole(0)),
+        None => Frac::whole(0),
     };
-    let mut greatest = least;
     for number in numbers {
-        if number.order(&least) == Ordering::Less {
-            least = *number;
-        }
-        if number.order(&greatest) == Ordering::Greater {
-            greatest = *number;
+        if number.order(&best) == order {
+            best = *number;
         }
     }
-    greatest.sub(&least).ok()
+    best
+}
+
+/// The greatest of the numbers less the least. None where that is past width.
+fn width_of(numbers: &[Frac]) -> Option<Frac> {
+    let greatest = extreme(numbers, Ordering::Greater);
+    greatest.sub(&extreme(numbers, Ordering::Less)).ok()
 }
 
 /// The greater of the widths of two columns. None where one of them is past width.
 fn spread_of(bound: &[Frac], bias: &[Frac]) -> Option<Frac> {
-    let (first, second) = (width_of(bound)?, width_of(bias)?);
-    if second.order(&first) == Ordering::Greater {
-        Some(second)
-    } else {
-        Some(first)
-    }
+    Some(extreme(&[width_of(bound)?, width_of(bias)?], Ordering::Greater))
 }
 
 /// The certificate with the simplest fractions between proposed gains as lower and as upper gains, and with the simplest relative values near the proposed
