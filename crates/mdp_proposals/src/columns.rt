@@ -3,7 +3,7 @@
 use crate::ends::put_picked;
 use crate::layout::Layout;
 use crate::proposed::fraction;
-use mdp_num::Frac;
+use mdp_num::{Frac, Memory};
 use mdp_refinement::{
     Bound, Rows, Scale, Solution, Task, Value, append, flag_at, put, solve, value_at,
 };
@@ -107,10 +107,11 @@ impl Columns {
 impl Sought<'_> {
     /// The least or the greatest number in units of 1 over `one`.
     fn limit(self, bound: Bound, one: i128) -> Option<i128> {
-        match bound {
-            Bound::Lower => self.least?.checked_mul(one),
-            Bound::Upper => self.greatest?.checked_mul(one),
-        }
+        let number = match bound {
+            Bound::Lower => self.least,
+            Bound::Upper => self.greatest,
+        };
+        number?.checked_mul(one)
     }
 
     /// The values of the nodes whose states have a known value, and of the last one where steps count less, in units of 1 over `one`.
@@ -152,26 +153,40 @@ impl Sought<'_> {
         column_of(alloc, rows, &self.given(alloc, one)?, task, other)
     }
 
-    /// The same bound with the most digits, fewer than those of the scale, for which all components can be refined; else as far as the search goes with those of
-    /// the scale. Where fewer digits are tried there is at least as much room before the point as digits are left out.
-    fn coarser(self, alloc: Global, bound: Bound) -> Result<Column, AllocError> {
+    /// Solves for one bound with values of this scale.
+    fn scaled_column(
+        self,
+        alloc: Global,
+        scale: Scale,
+        bound: Bound,
+        to_end: bool,
+    ) -> Result<Column, AllocError> {
+        let rows = self.layout.rows(alloc, scale)?;
+        self.column(alloc, &rows, bound, to_end, None)
+    }
+
+    /// Where components can't be refined, puts in place of a bound the same one with the most digits, fewer than those of the scale, for which all can be; else as
+    /// far as the search goes with those of the scale. Where fewer digits are tried there is at least as much room before the point as digits are left out.
+    fn refine(self, alloc: Global, bound: Bound, column: &mut Column) -> Result<(), AllocError> {
+        if column.solution.is_full {
+            return Ok(());
+        }
         for tried in 0..MOST_TRIES {
             let fewer = tried.saturating_mul(3).max(1);
             let scale = Scale {
                 digits: self.scale.digits.saturating_sub(fewer),
                 room: self.scale.room.max(fewer),
             };
-            let rows = self.layout.rows(alloc, scale)?;
-            let column = self.column(alloc, &rows, bound, false, None)?;
+            *column = self.scaled_column(alloc, scale, bound, false)?;
             if column.solution.is_full {
-                return Ok(column);
+                return Ok(());
             }
             if scale.digits == 0 {
                 break;
             }
         }
-        let rows = self.layout.rows(alloc, self.scale)?;
-        self.column(alloc, &rows, bound, true, None)
+        *column = self.scaled_column(alloc, self.scale, bound, true)?;
+        Ok(())
     }
 
     /// Both bounds with the digits of the scale, as far as the search goes with them.
@@ -186,12 +201,8 @@ impl Sought<'_> {
     /// Each bound with the digits of the scale, or with fewer where components can't be refined with these.
     fn refined_columns(self, alloc: Global) -> Result<Columns, AllocError> {
         let mut columns = self.columns(alloc, false)?;
-        if !columns.lower.solution.is_full {
-            columns.lower = self.coarser(alloc, Bound::Lower)?;
-        }
-        if !columns.upper.solution.is_full {
-            columns.upper = self.coarser(alloc, Bound::Upper)?;
-        }
+        self.refine(alloc, Bound::Lower, &mut columns.lower)?;
+        self.refine(alloc, Bound::Upper, &mut columns.upper)?;
         Ok(columns)
     }
 
@@ -228,7 +239,7 @@ impl Sought<'_> {
     }
 
     /// Both bounds of the states, each with the digits for which it can be refined, and the given choices, but for those that were picked.
-    pub(crate) fn bounds(self, alloc: Global, given: &[u32]) -> Result<Bounds, AllocError> {
+    pub(crate) fn bounds(self, alloc: Global, given: &[u32]) -> Result<Bounds, Memory> {
         let mut choices = given.to_vec(alloc)?;
         let columns = self.refined_columns(alloc)?;
         let lower = self.values(alloc, &columns.lower)?;

@@ -94,7 +94,7 @@ fn proposed(
     sought: Sought<'_>,
     columns: &Columns,
     given: &[u32],
-) -> Result<ProposedReach, AllocError> {
+) -> Result<ProposedReach, Memory> {
     let mut choices = given.to_vec(alloc)?;
     put_picked(&mut choices, columns.picked(sought.dir));
     Ok(ProposedReach {
@@ -113,7 +113,7 @@ fn single(
     decided: &Decided,
     dir: Dir,
     digits: u32,
-) -> Result<ProposedReach, AllocError> {
+) -> Result<ProposedReach, Memory> {
     let nodes = single_nodes(alloc, model.states())?;
     let sought = sought_of(model, &decided.known, &nodes, dir, digits);
     let columns = sought.columns(alloc, true)?;
@@ -139,37 +139,22 @@ fn joined(
     Ok(near)
 }
 
-/// Bounds of the greatest probabilities. Where the graph decides all there is no end component to look for.
-fn greatest(
+/// Bounds without ranks. Where the graph decides all there is no end component to look for, and there is none where it doesn't decide the least value.
+fn unranked(
     alloc: Global,
     model: &Model,
     goals: &Marks,
+    dir: Dir,
     digits: u32,
 ) -> Result<ProposedReach, Memory>
     requires { length goals.now ≡ states_of model.now }
 {
-    let decided = decide(alloc, model, goals, Dir::Max)?;
-    let mut near = if decided.is_all {
-        single(alloc, model, &decided, Dir::Max, digits)?
-    } else {
-        let ends = end_components(alloc, model)?;
-        joined(alloc, model, &ends, &decided, digits)?
-    };
-    if !near.take_ranks(alloc, model, goals)? {
-        near.forget_lower();
-        near.take_ranks(alloc, model, goals)?;
+    let decided = decide(alloc, model, goals, dir)?;
+    if dir == Dir::Min || decided.is_all {
+        return single(alloc, model, &decided, dir, digits);
     }
-    Ok(near)
-}
-
-/// Bounds of the least probabilities. There is no end component where the graph doesn't decide the value.
-fn least(alloc: Global, model: &Model, goals: &Marks, digits: u32) -> Result<ProposedReach, Memory>
-    requires { length goals.now ≡ states_of model.now }
-{
-    let decided = decide(alloc, model, goals, Dir::Min)?;
-    let mut near = single(alloc, model, &decided, Dir::Min, digits)?;
-    near.ranks = min_ranks(alloc, model, goals, &near.lower)?;
-    Ok(near)
+    let ends = end_components(alloc, model)?;
+    joined(alloc, model, &ends, &decided, digits)
 }
 
 /// Proposes bounds of the greatest or the least probability to reach a goal, as multiples of 10 to the power of -`digits` where the rows allow it,
@@ -186,8 +171,12 @@ pub fn propose_reach(
 ) -> Result<ProposedReach, Memory>
     requires goals { length goals.now ≡ states_of model.now }
 {
-    match dir {
-        Dir::Max => greatest(alloc, model, goals, digits.min(MOST_DIGITS)),
-        Dir::Min => least(alloc, model, goals, digits.min(MOST_DIGITS)),
+    let mut near = unranked(alloc, model, goals, dir, digits.min(MOST_DIGITS))?;
+    if dir == Dir::Min {
+        near.ranks = min_ranks(alloc, model, goals, &near.lower)?;
+    } else if !near.take_ranks(alloc, model, goals)? {
+        near.forget_lower();
+        near.take_ranks(alloc, model, goals)?;
     }
+    Ok(near)
 }

@@ -89,14 +89,14 @@ fn with_ranks(
     Ok(near)
 }
 
-/// Bounds where the states of an end component are a node.
+/// Bounds where the states of an end component are a node, and a policy that comes from these to the choices that were picked.
 fn on_ends(
     alloc: Global,
     sought: Sought<'_>,
     model: &Model,
     ends: &Ends,
     given: &[u32],
-) -> Result<Bounds, AllocError>
+) -> Result<Bounds, Memory>
     requires { AreEndsOf model.now ends.now }
 {
     let nodes = joined_nodes(alloc, model, ends, &[])?;
@@ -104,7 +104,10 @@ fn on_ends(
         nodes: &nodes,
         ..sought.layout
     };
-    Sought { layout, ..sought }.bounds(alloc, given)
+    let mut bounds = Sought { layout, ..sought }.bounds(alloc, given)?;
+    let picked = bounds.columns.picked(sought.dir);
+    lead(alloc, model, ends, picked, &mut bounds.choices)?;
+    Ok(bounds)
 }
 
 /// Bounds of the least rewards where the states of an end component of the model of free choices share one value.
@@ -115,10 +118,16 @@ fn joined(
     given: &[u32],
 ) -> Result<Bounds, Memory> {
     let ends = end_components(alloc, free)?;
-    let mut bounds = on_ends(alloc, sought, free, &ends, given)?;
-    let picked = bounds.columns.picked(sought.dir);
-    lead(alloc, free, &ends, picked, &mut bounds.choices)?;
-    Ok(bounds)
+    on_ends(alloc, sought, free, &ends, given)
+}
+
+/// Bounds of the least rewards, without ranks.
+fn unranked(alloc: Global, sought: Sought<'_>, given: &[u32]) -> Result<Bounds, Memory> {
+    if sought.layout.has_free() {
+        let free = sought.layout.free_model(alloc)?;
+        return joined(alloc, sought, &free, given);
+    }
+    sought.bounds(alloc, given)
 }
 
 /// Bounds of the least rewards.
@@ -130,12 +139,7 @@ fn least(
 ) -> Result<ProposedReward, Memory>
     requires { length goals.now ≡ states_of sought.layout.earning.model.now }
 {
-    let bounds = if sought.layout.has_free() {
-        let free = sought.layout.free_model(alloc)?;
-        joined(alloc, sought, &free, &start.policy)?
-    } else {
-        sought.bounds(alloc, &start.policy)?
-    };
+    let bounds = unranked(alloc, sought, &start.policy)?;
     with_ranks(alloc, sought.layout, bounds, goals, start)
 }
 

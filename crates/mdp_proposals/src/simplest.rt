@@ -28,11 +28,6 @@ impl Terms {
         Some(Terms::new(self.num.checked_neg()?, self.den))
     }
 
-    /// The greatest whole number that is at most a fraction of at least 0.
-    fn floor(self) -> Option<i128> {
-        self.num.checked_div(self.den)
-    }
-
     /// The numerator of what is left without a whole number.
     fn rest(self, whole: i128) -> Option<i128> {
         self.num.checked_sub(whole.checked_mul(self.den)?)
@@ -56,7 +51,7 @@ fn simplest_from(lower: Terms, upper: Terms) -> Option<Frac> {
     let mut before = Terms { num: 0, den: 1 };
     let mut last = Terms { num: 1, den: 0 };
     for _ in 0..MOST_TERMS {
-        let whole = low.floor()?;
+        let whole = low.num.checked_div(low.den)?;
         let rest = low.rest(whole)?;
         let over = high.rest(whole)?;
         let is_between = rest > 0 && over >= high.den;
@@ -93,12 +88,22 @@ fn simplest_of_units(lower: i128, upper: i128, one: i128) -> Frac {
     }
 }
 
-/// The simplest fraction of each flagged state from its lower to its upper value, in units of 1 over `one`; 0 of the others.
-pub fn simplest_values(
+/// The simplest fraction from so many units below a lower value to as many above an upper one, in units of 1 over `one`; the lower value where a term is past 128
+/// bits.
+fn simplest_within(lower: i128, upper: i128, room: i128, one: i128) -> Frac {
+    match (lower.checked_sub(room), upper.checked_add(room)) {
+        (Some(least), Some(greatest)) => simplest_of_units(least, greatest, one),
+        _ => fraction(lower, one),
+    }
+}
+
+/// The simplest fraction of each flagged state from `room` units below its lower to `room` units above its upper value, in units of 1 over `one`; 0 of the others.
+fn simplest_each(
     alloc: Global,
     states: u32,
     lower: &[i128],
     upper: &[i128],
+    room: i128,
     one: i128,
     is_sought: &[bool],
 ) -> Result<Vec<Frac>, AllocError>
@@ -108,7 +113,7 @@ pub fn simplest_values(
     for place in 0..list.len() {
         if item_at(is_sought, place, false) {
             let (least, greatest) = (item_at(lower, place, 0), item_at(upper, place, 0));
-            list[place] = simplest_of_units(least, greatest, one);
+            list[place] = simplest_within(least, greatest, room, one);
         }
     }
     Ok(list)
@@ -166,12 +171,18 @@ pub fn all_capped(
     Ok(list)
 }
 
-/// The simplest fraction that lies within so many units of a value in units of 1 over `one`; the value where a term is past 128 bits.
-fn simplest_near(value: i128, room: i128, one: i128) -> Frac {
-    match (value.checked_sub(room), value.checked_add(room)) {
-        (Some(lower), Some(upper)) => simplest_of_units(lower, upper, one),
-        _ => fraction(value, one),
-    }
+/// The simplest fraction of each flagged state from its lower to its upper value, in units of 1 over `one`; 0 of the others.
+pub fn simplest_values(
+    alloc: Global,
+    states: u32,
+    lower: &[i128],
+    upper: &[i128],
+    one: i128,
+    is_sought: &[bool],
+) -> Result<Vec<Frac>, AllocError>
+    ensures { IfOk result (λ values. length values.items ≡ states) }
+{
+    simplest_each(alloc, states, lower, upper, 0, one, is_sought)
 }
 
 /// The simplest fraction near the value of each flagged state, as far as half of the digits; 0 of the others. The values are in units of 1 over `one`, which
@@ -186,14 +197,15 @@ pub fn simplest_near_values(
 ) -> Result<Vec<Frac>, AllocError>
     ensures { IfOk result (λ simple. length simple.items ≡ states) }
 {
-    let room = room_of(digits);
-    let mut list = vec![in alloc; Frac::whole(0); states as usize]?;
-    for place in 0..list.len() {
-        if item_at(is_sought, place, false) {
-            list[place] = simplest_near(item_at(values, place, 0), room, one);
-        }
-    }
-    Ok(list)
+    simplest_each(
+        alloc,
+        states,
+        values,
+        values,
+        room_of(digits),
+        one,
+        is_sought,
+    )
 }
 
 /// How many units of 10^-`digits` are 10 to the power of minus half of the digits.

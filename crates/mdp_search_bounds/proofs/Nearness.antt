@@ -1,5 +1,5 @@
 -- What comes near to what.
-use Rattle.std.proofs.Common.{◌≡◌, ◌∙◌, ℕ, ◌+◌, ◌/◌, ◌<◌, ◌≤◌, ◌^◌, max, true, not, inl, inr, List, [], ◌∷◌, Option, Some, None, refl, sym, ap, ap₂, subst, subst₂, length, map, get_or, IsSome, arith, ℤ, pos, negsuc, unsigned_abs}
+use Rattle.std.proofs.Common.{◌≡◌, ◌∙◌, ℕ, ◌+◌, ◌/◌, ◌<◌, ◌≤◌, ◌^◌, max, true, not, inl, inr, List, [], ◌∷◌, Option, Some, None, refl, sym, ap, ap₂, subst, subst₂, length, get_or, IsSome, arith, ℤ, pos, negsuc, unsigned_abs}
 use borrow.Author.Count.{below_more}
 use Rattle.std.proofs.{lemmas.List.{get_or_default}, lemmas.Int.{ints, fits_signed_from_abs}, Math.Nat.{one-le-pow, pow-le-pow_right, mul-le-mul_left, div-mul-le_self, max-eq_left, max-eq_right}}
 use mir.Syntax.{w128}
@@ -89,10 +89,6 @@ reward_near_same digits None = tt
 reward_near_same digits (Some x) = near_same digits x
 
 -- ---- lists
-
-pub each-self : {X : Type 0} (xs : List X) → map (λ x. x) xs ≡ xs
-each-self [] = refl
-each-self (x ∷ xs) = ap (λ ys. x ∷ ys) (each-self xs)
 
 module _ {X : Type 0} (P : X → X → Type 0) (xs ys : List X) (d : X) where
   here : (n : ℕ) (x y : X) → n < length xs → n < length ys → x ≡ get_or xs n x → y ≡ get_or ys n y → P x y → P (get_or xs n d) (get_or ys n d)

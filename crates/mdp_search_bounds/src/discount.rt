@@ -38,7 +38,7 @@ fn simplest_bounds(
     model: &Model,
     bounds: &DiscountBounds,
     is_sought: &[bool],
-) -> Result<DiscountBounds, AllocError>
+) -> Result<DiscountBounds, Memory>
     requires { HasDiscountSizes model.now bounds.now }
     ensures { IfOk result (HasDiscountSizes model.now) }
 {
@@ -71,7 +71,11 @@ fn are_there(values: &[Option<Frac>]) -> bool
 fn some_values(alloc: Global, values: &[Frac]) -> Result<Vec<Option<Frac>>, AllocError>
     ensures { IfOk result (λ list. list.items ≡ map Some values.now) }
 {
-    values.iter().map(|value| Some(*value)).collect(alloc)
+    let mut list = Vec::new(alloc);
+    for value in values {
+        list.push(Some(*value))?;
+    }
+    Ok(list)
 }
 
 impl Discounting<'_> {
@@ -92,26 +96,12 @@ impl Discounting<'_> {
         })
     }
 
-    /// The bounds by one number for all states, where the rules say yes to them.
-    fn finite(self, alloc: Global) -> Result<Option<DiscountBounds>, Memory>
-        ensures { IfOk result (λ found. IfSome found (IsHeldDiscount self.entry.dir self.entry.model.now self.entry.name self.entry.factor.now)) }
+    /// The bounds by one number for all states.
+    fn finite(self, alloc: Global) -> Result<DiscountBounds, Memory>
+        ensures { IfOk result (HasDiscountSizes self.entry.model.now) }
     {
         let none = missing_discount(alloc, self.model)?;
-        let choices = none.choices;
-        let bounds = finite_bounds(
-            alloc,
-            self.model,
-            self.name,
-            self.factor,
-            &none.lower,
-            &none.upper,
-            choices,
-        )?;
-        if self.holds(&bounds) {
-            Ok(Some(bounds))
-        } else {
-            Ok(None)
-        }
+        Ok(finite_bounds(self.model, self.name, self.factor, none))
     }
 }
 
@@ -151,16 +141,13 @@ impl Search for Discounting<'_> {
         let lower = listed(alloc, model.states(), &near.lower)?;
         let upper = listed(alloc, model.states(), &near.upper)?;
         let choices = numbers(alloc, model.states(), &near.choices)?;
-        let bounds = finite_bounds(
-            alloc,
-            model,
-            self.name,
-            self.factor,
-            &lower,
-            &upper,
+        let bounds = DiscountBounds {
+            lower,
+            upper,
             choices,
-        )?;
-        Ok(bounds)
+            remainder: Frac::whole(0),
+        };
+        Ok(finite_bounds(model, self.name, self.factor, bounds))
     }
 
     fn simplest(
@@ -170,8 +157,7 @@ impl Search for Discounting<'_> {
         is_sought: &[bool],
     ) -> Result<DiscountBounds, Memory> {
         let bounds = self.proposed(alloc, near)?;
-        let exact = simplest_bounds(alloc, self.model, &bounds, is_sought)?;
-        Ok(exact)
+        simplest_bounds(alloc, self.model, &bounds, is_sought)
     }
 
     fn holds_at(&self, bounds: &DiscountBounds, s: u32) -> bool {
@@ -212,8 +198,9 @@ impl Search for Discounting<'_> {
     }
 
     fn trivial(&self, alloc: Global) -> Result<DiscountBounds, Memory> {
-        if let Some(bounds) = self.finite(alloc)? {
-            return Ok(bounds);
+        let finite = self.finite(alloc)?;
+        if self.holds(&finite) {
+            return Ok(finite);
         }
         let bounds = missing_discount(alloc, self.model)?;
         match holds_bounds_discount(self.model, self.name, self.dir, self.factor, &bounds) {

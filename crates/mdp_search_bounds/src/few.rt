@@ -7,13 +7,11 @@ use mdp_rows::Model;
 use std::alloc::{AllocError, Global};
 
 /// How many states are looked at.
-const FEW_STATES: u32 = 16;
+pub(crate) const FEW_STATES: u32 = 16;
 
-/// A few states, and a flag for each state of the model: whether the rules at those look at it.
-#[derive(Drop)]
-pub(crate) struct Few {
-    pub(crate) states: Vec<u32>,
-    pub(crate) is_needed: Vec<bool>,
+/// The state of place `i` of the few: they lie evenly among so many.
+pub(crate) fn few_state(states: u32, i: u32) -> u32 {
+    (states / FEW_STATES).saturating_mul(i)
 }
 
 /// Flags the states of a list.
@@ -26,37 +24,25 @@ fn flag_each(flags: &mut [bool], states: &[u32]) {
     }
 }
 
-impl Few {
-    /// Takes in a state, and flags it and those that its choices lead to.
-    fn take(&mut self, model: &Model, s: u32) -> Result<(), AllocError>
-        requires { s < states_of model.now }
-    {
-        self.states.push(s)?;
-        flag_each(&mut self.is_needed, &[s]);
-        for c in 0..model.choices(s) {
-            flag_each(&mut self.is_needed, model.row(s, c).targets);
-        }
-        Ok(())
-    }
-
-    /// States of a model that lie evenly among all.
-    pub(crate) fn of(alloc: Global, model: &Model) -> Result<Few, AllocError> {
-        let states = model.states();
-        let mut few = Few {
-            states: Vec::new(alloc),
-            is_needed: vec![in alloc; false; states as usize]?,
-        };
-        for i in 0..FEW_STATES {
-            let s = (states / FEW_STATES).saturating_mul(i);
-            if s < states {
-                few.take(model, s)?;
-            }
-        }
-        Ok(few)
+/// Flags a state and those that its choices lead to.
+fn flag_state(flags: &mut [bool], model: &Model, s: u32)
+    requires { s < states_of model.now }
+{
+    flag_each(flags, &[s]);
+    for c in 0..model.choices(s) {
+        flag_each(flags, model.row(s, c).targets);
     }
 }
 
-/// A flag for each state of a model.
-pub(crate) fn all_flags(alloc: Global, model: &Model) -> Result<Vec<bool>, AllocError> {
-    vec![in alloc; true; model.states() as usize]
+/// A flag for each state of a model: whether the rules at the few states look at it.
+pub(crate) fn few_flags(alloc: Global, model: &Model) -> Result<Vec<bool>, AllocError> {
+    let states = model.states();
+    let mut is_needed = vec![in alloc; false; states as usize]?;
+    for i in 0..FEW_STATES {
+        let s = few_state(states, i);
+        if s < states {
+            flag_state(&mut is_needed, model, s);
+        }
+    }
+    Ok(is_needed)
 }

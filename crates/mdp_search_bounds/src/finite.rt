@@ -1,12 +1,11 @@
 //! Bounds of all states by one number, which no discounted reward passes.
 
-ghost use Rattle.std.specs.Prelude.{◌≡◌, ◌<◌, length, IfOk};
+ghost use Rattle.std.specs.Prelude.{◌≡◌, ◌<◌, length};
 
 use crate::extent::extreme;
 use mdp_discount_rules::{DiscountBounds, greatest_bounds_magnitude};
 use mdp_num::Frac;
 use mdp_rows::{Dir, Model};
-use std::alloc::{AllocError, Global};
 
 /// The least whole number that the magnitude of a value doesn't pass. None past 127 bits.
 fn above(value: &Frac) -> Option<i128> {
@@ -38,44 +37,41 @@ fn opposite(value: &Option<Frac>) -> Option<Frac> {
     }
 }
 
-/// A copy of the values; where all of them are missing, one value for all states.
-fn filled(
-    alloc: Global,
-    values: &[Option<Frac>],
-    value: &Option<Frac>,
-) -> Result<Vec<Option<Frac>>, AllocError>
-    ensures { IfOk result (λ list. length list.items ≡ length values.now) }
-{
-    let has_value = values.iter().any(|own| own.is_some());
-    values
-        .iter()
-        .map(|own| if has_value { *own } else { *value })
-        .collect(alloc)
+/// Whether some value isn't missing.
+fn has_value(values: &[Option<Frac>]) -> bool {
+    for value in values {
+        if value.is_some() {
+            return true;
+        }
+    }
+    false
+}
+
+/// Puts one value in the place of all, where all of them are missing.
+fn fill(values: &mut [Option<Frac>], value: &Option<Frac>) {
+    if !has_value(values) {
+        for place in 0..values.len() {
+            values[place] = *value;
+        }
+    }
 }
 
 /// Bounds of these values, with one number for all states in the place of lower values, and of upper ones, that are all missing.
 pub(crate) fn finite_bounds(
-    alloc: Global,
     model: &Model,
     name: u32,
     factor: &Frac,
-    lower: &[Option<Frac>],
-    upper: &[Option<Frac>],
-    choices: Vec<u32>,
-) -> Result<DiscountBounds, AllocError>
+    bounds: DiscountBounds,
+) -> DiscountBounds
     requires name { name < length model.now.names }
-    ensures lower { IfOk result (λ bounds. length bounds.lower.items ≡ length lower.now) }
-    ensures upper { IfOk result (λ bounds. length bounds.upper.items ≡ length upper.now) }
-    ensures choices { IfOk result (λ bounds. bounds.choices.items ≡ choices.items) }
+    ensures lower { length result.lower.items ≡ length bounds.lower.items }
+    ensures upper { length result.upper.items ≡ length bounds.upper.items }
+    ensures choices { result.choices.items ≡ bounds.choices.items }
 {
     let most = extent(model, name, factor);
-    let below = filled(alloc, lower, &opposite(&most))?;
-    let above = filled(alloc, upper, &most)?;
-    let remainder = greatest_bounds_magnitude(&below, &above);
-    Ok(DiscountBounds {
-        lower: below,
-        upper: above,
-        choices,
-        remainder,
-    })
+    let mut finite = bounds;
+    fill(&mut finite.lower, &opposite(&most));
+    fill(&mut finite.upper, &most);
+    finite.remainder = greatest_bounds_magnitude(&finite.lower, &finite.upper);
+    finite
 }

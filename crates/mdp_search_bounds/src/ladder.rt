@@ -3,7 +3,7 @@
 ghost use Rattle.std.specs.Prelude.{◌≡◌, ℕ, ◌↔◌, ◌⊎◌, true, IfOk, IfSome, IfNone};
 ghost use Rattle.mdp_search_bounds.specs.{Gap.{ShowsNear}, Tried.{IsVain, FewerAreVain, AllAreVain}};
 
-use crate::few::{Few, all_flags};
+use crate::few::{FEW_STATES, few_flags, few_state};
 use crate::gap::Gap;
 use mdp_num::Memory;
 use mdp_proposals::MOST_DIGITS;
@@ -111,16 +111,24 @@ fn held<S: Search>(search: &S, cert: S::Cert) -> Option<S::Cert>
     }
 }
 
-/// Whether the rules say yes to a certificate at each of these states.
-fn holds_at_each<S: Search>(search: &S, cert: &S::Cert, states: &[u32]) -> bool
+/// Whether the rules say yes to a certificate at each of a few states.
+fn holds_at_few<S: Search>(search: &S, cert: &S::Cert) -> bool
     requires { S.is_sized search.now cert.now }
 {
-    for s in states {
-        if !search.holds_at(cert, *s) {
+    let states = search.model().states();
+    for i in 0..FEW_STATES {
+        if !search.holds_at(cert, few_state(states, i)) {
             return false;
         }
     }
     true
+}
+
+/// Whether the rules say yes to the simplest fractions between the bounds that the search proposed, at a few states.
+fn passes_at_few<S: Search>(alloc: Global, search: &S, near: &S::Proposal) -> Result<bool, Memory> {
+    let needed = few_flags(alloc, search.model())?;
+    let few = search.simplest(alloc, near, &needed)?;
+    Ok(holds_at_few(search, &few))
 }
 
 /// The simplest fractions between the bounds that the search proposed, as exact values, where the rules say yes to them: first at a few states.
@@ -132,12 +140,10 @@ fn held_exact<S: Search>(
     ensures held { IfOk result (λ found. IfSome found (S.is_held search.now)) }
     ensures found { IfOk result (λ found. IfSome found (S.is_found search.now)) }
 {
-    let few = Few::of(alloc, search.model())?;
-    let first = search.simplest(alloc, near, &few.is_needed)?;
-    if !holds_at_each(search, &first, &few.states) {
+    if !passes_at_few(alloc, search, near)? {
         return Ok(None);
     }
-    let all = all_flags(alloc, search.model())?;
+    let all = vec![in alloc; true; search.model().states() as usize]?;
     let exact = search.simplest(alloc, near, &all)?;
     Ok(held(search, exact))
 }

@@ -104,8 +104,7 @@ impl Search for Averaging<'_> {
         near: &ProposedMean,
         is_sought: &[bool],
     ) -> Result<MeanBoundsCert, Memory> {
-        let exact = simplest_mean(alloc, self.model, near, is_sought)?;
-        Ok(exact)
+        simplest_mean(alloc, self.model, near, is_sought)
     }
 
     fn holds_at(&self, cert: &MeanBoundsCert, s: u32) -> bool {

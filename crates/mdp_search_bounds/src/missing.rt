@@ -1,4 +1,4 @@
-ghost use Rattle.std.specs.{Prelude.{◌≡◌, length, map, None, IfOk}, List.{range_with_len}};
+ghost use Rattle.std.specs.Prelude.{◌≡◌, length, replicate, None, IfOk};
 ghost use Rattle.mdp_spec.specs.Mdp.{states_of};
 ghost use Rattle.mdp_discount_rules.specs.BoundsChecks.{IsTrivialDiscount};
 
@@ -7,18 +7,11 @@ use mdp_num::{Frac, Memory};
 use mdp_rows::Model;
 use std::alloc::{AllocError, Global};
 
-/// No value.
-fn no_value(_s: u32) -> Option<Frac>
-    ensures { result ≡ None }
-{
-    None
-}
-
 /// No value for each state.
 fn no_values(alloc: Global, states: u32) -> Result<Vec<Option<Frac>>, AllocError>
-    ensures { IfOk result (λ values. values.items ≡ map (λ s. None) (range_with_len 0 states)) }
+    ensures { IfOk result (λ values. values.items ≡ replicate states None) }
 {
-    (0..states).map(|s| no_value(s)).collect(alloc)
+    vec![in alloc; None; states as usize]
 }
 
 /// The bounds of discounted rewards that say nothing: no value at all, the first choice of each state, and the remainder 0. They hold for every model.

@@ -72,8 +72,7 @@ impl Search for Reaching<'_, '_> {
         near: &ProposedReach,
         is_sought: &[bool],
     ) -> Result<ReachBoundsCert, Memory> {
-        let exact = simplest_reach(alloc, self.model, near, is_sought)?;
-        Ok(exact)
+        simplest_reach(alloc, self.model, near, is_sought)
     }
 
     fn holds_at(&self, cert: &ReachBoundsCert, s: u32) -> bool {

@@ -1,4 +1,4 @@
-ghost use Rattle.std.specs.Prelude.{◌≡◌, ◌<◌, ◌⊎◌, false, length, map, IfOk};
+ghost use Rattle.std.specs.Prelude.{◌≡◌, ◌<◌, ◌⊎◌, false, length, IfOk};
 ghost use Rattle.mdp_spec.specs.Mdp.{states_of};
 ghost use Rattle.mdp_rows.specs.Negative.{has_negative};
 ghost use Rattle.mdp_bounds.specs.Reward.{IsRewardBounds};
@@ -31,9 +31,9 @@ struct Earning<'m, 'g> {
 
 /// The same values once more.
 fn copied(alloc: Global, values: &[Option<Frac>]) -> Result<Vec<Option<Frac>>, AllocError>
-    ensures { IfOk result (λ list. list.items ≡ map (λ x. x) values.now) }
+    ensures { IfOk result (λ list. list.items ≡ values.now) }
 {
-    values.iter().map(|value| *value).collect(alloc)
+    values.to_vec(alloc)
 }
 
 impl Search for Earning<'_, '_> {
@@ -83,8 +83,7 @@ impl Search for Earning<'_, '_> {
         near: &ProposedReward,
         is_sought: &[bool],
     ) -> Result<RewardBoundsCert, Memory> {
-        let exact = simplest_rewards_of(alloc, self.model, near, is_sought)?;
-        Ok(exact)
+        simplest_rewards_of(alloc, self.model, near, is_sought)
     }
 
     fn holds_at(&self, cert: &RewardBoundsCert, s: u32) -> bool {

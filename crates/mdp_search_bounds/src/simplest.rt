@@ -4,13 +4,13 @@ ghost use Rattle.std.specs.Prelude.{IfOk};
 ghost use Rattle.mdp_search_bounds.specs.Held.{HasReachSizes, HasRewardSizes, HasMeanSizes};
 
 use mdp_bounds::{MeanBoundsCert, ReachBoundsCert, RewardBoundsCert};
-use mdp_num::Frac;
+use mdp_num::{Frac, Memory};
 use mdp_proposals::{
     ProposedMean, ProposedReach, ProposedReward, all_capped, numbers, simplest_near_values,
     simplest_rewards, simplest_values,
 };
 use mdp_rows::Model;
-use std::alloc::{AllocError, Global};
+use std::alloc::Global;
 use std::cmp::Ordering;
 
 /// The certificate with the simplest fractions between proposed bounds as lower and as upper values, at the states where they are sought: where they are the
@@ -20,7 +20,7 @@ pub(crate) fn simplest_reach(
     model: &Model,
     near: &ProposedReach,
     is_sought: &[bool],
-) -> Result<ReachBoundsCert, AllocError>
+) -> Result<ReachBoundsCert, Memory>
     ensures { IfOk result (HasReachSizes model.now) }
 {
     let states = model.states();
@@ -43,7 +43,7 @@ pub(crate) fn simplest_rewards_of(
     model: &Model,
     near: &ProposedReward,
     is_sought: &[bool],
-) -> Result<RewardBoundsCert, AllocError>
+) -> Result<RewardBoundsCert, Memory>
     ensures { IfOk result (HasRewardSizes model.now) }
 {
     let states = model.states();
@@ -91,7 +91,7 @@ pub(crate) fn simplest_mean(
     model: &Model,
     near: &ProposedMean,
     is_sought: &[bool],
-) -> Result<MeanBoundsCert, AllocError>
+) -> Result<MeanBoundsCert, Memory>
     ensures { IfOk result (HasMeanSizes model.now) }
 {
     let states = model.states();

@@ -25,7 +25,11 @@ fn least_values(alloc: Global, states: u32, goals: &Marks) -> Result<Vec<Frac>, 
     requires { length goals.now ≡ states }
     ensures { IfOk result (λ values. values.items ≡ map (λ s. if is_marked goals.now s then 1ℚ else 0ℚ) (range_with_len 0 states)) }
 {
-    (0..states).map(|s| least_at(goals, s)).collect(alloc)
+    let mut values = Vec::new(alloc);
+    for s in 0..states {
+        values.push(least_at(goals, s))?;
+    }
+    Ok(values)
 }
 
 /// The bounds 0 and 1 of the probability to reach a goal, and 1 and 1 at a goal, with the first choice of each state. They hold for every model, and

@@ -26,5 +26,9 @@ pub(crate) fn zeros_of(
     requires { length marks.now ≡ states }
     ensures { IfOk result (λ values. values.items ≡ zeros_of states marks.now) }
 {
-    (0..states).map(|s| zero_by(marks, s)).collect(alloc)
+    let mut values = Vec::new(alloc);
+    for s in 0..states {
+        values.push(zero_by(marks, s))?;
+    }
+    Ok(values)
 }
