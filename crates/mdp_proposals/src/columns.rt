@@ -13,8 +13,8 @@ use std::alloc::{AllocError, Global};
 /// How often fewer digits are tried for a bound: first 1 fewer, then 3, 6, 9 and so on.
 const MOST_TRIES: u32 = 11;
 
-/// What is sought: the best values of nodes, which lie from the least to the greatest number, where there are such. Where values beyond these are put to them,
-/// the rules hold as before.
+/// What is sought: the best values of nodes, which lie from the least to the greatest number, where there are such. Where values beyond these are put
+/// to them, the rules hold as before.
 #[derive(Clone, Copy)]
 pub(crate) struct Sought<'a> {
     pub(crate) layout: Layout<'a>,
@@ -133,8 +133,8 @@ impl Sought<'_> {
         Ok(given)
     }
 
-    /// Solves for one bound, by what was found for the other on the same rows. It ends with the first component that can't be refined, unless it is to go to
-    /// the end.
+    /// Solves for one bound, by what was found for the other on the same rows. It ends with the first component that can't be refined, unless it is
+    /// to go to the end.
     fn column(
         self,
         alloc: Global,
@@ -165,8 +165,9 @@ impl Sought<'_> {
         self.column(alloc, &rows, bound, to_end, None)
     }
 
-    /// Where components can't be refined, puts in place of a bound the same one with the most digits, fewer than those of the scale, for which all can be; else as
-    /// far as the search goes with those of the scale. Where fewer digits are tried there is at least as much room before the point as digits are left out.
+    /// Where components can't be refined, puts in place of a bound the same one with the most digits, fewer than those of the scale, for which all
+    /// can be; else as far as the search goes with those of the scale. Where fewer digits are tried there is at least as much room before the point
+    /// as digits are left out.
     fn refine(self, alloc: Global, bound: Bound, column: &mut Column) -> Result<(), AllocError> {
         if column.solution.is_full {
             return Ok(());

@@ -9,7 +9,8 @@ use mdp_refinement::{Value, put};
 use mdp_rows::{Dir, Marks, Model};
 use std::alloc::Global;
 
-/// What the graph alone decides: the values that are 0 or 1 by it, whether these are all, and choices that bring them about where that takes a policy.
+/// What the graph alone decides: the values that are 0 or 1 by it, whether these are all, and choices that bring them about where that takes a
+/// policy.
 #[derive(Drop)]
 pub(crate) struct Decided {
     pub(crate) known: Vec<Value>,
@@ -17,8 +18,8 @@ pub(crate) struct Decided {
     pub(crate) choices: Vec<u32>,
 }
 
-/// For the greatest probability the states from which some policy surely reaches a goal, whose value is 1; for the least one those from which some policy avoids
-/// the goals, whose value is 0.
+/// For the greatest probability the states from which some policy surely reaches a goal, whose value is 1; for the least one those from which some
+/// policy avoids the goals, whose value is 0.
 fn first_of(alloc: Global, model: &Model, goals: &Marks, dir: Dir) -> Result<Pass, Memory>
     requires { length goals.now ≡ states_of model.now }
     ensures { IfOk result (λ pass. length pass.marks ≡ states_of model.now) }

@@ -10,8 +10,8 @@ use mdp_refinement::{
 use mdp_rows::Model;
 use std::alloc::{AllocError, Global};
 
-/// What the choices of a model earn: their rewards under the name of a place, or nothing where there is no such name. The rewards are negated where the
-/// least values are sought as the opposites of the greatest ones.
+/// What the choices of a model earn: their rewards under the name of a place, or nothing where there is no such name. The rewards are negated where
+/// the least values are sought as the opposites of the greatest ones.
 #[derive(Clone, Copy)]
 pub(crate) struct Earning<'a> {
     pub(crate) model: &'a Model,
@@ -71,9 +71,10 @@ fn has_flag(flags: &[bool], places: &[u32]) -> bool {
     false
 }
 
-/// How the choices of a model become rows of nodes. A state whose value is known has no row, and none leads to a barred state. Where there is a policy it alone has
-/// rows; where there is a factor a step later counts so many times as much, and what it counts less goes to the last node. A row that stays in its node is one
-/// only where such rows are kept. Before the rows of a node comes one that stops with the value of its first state, if that has one.
+/// How the choices of a model become rows of nodes. A state whose value is known has no row, and none leads to a barred state. Where there is a
+/// policy it alone has rows; where there is a factor a step later counts so many times as much, and what it counts less goes to the last node. A row
+/// that stays in its node is one only where such rows are kept. Before the rows of a node comes one that stops with the value of its first state, if
+/// that has one.
 #[derive(Clone, Copy)]
 pub(crate) struct Layout<'a> {
     pub(crate) earning: Earning<'a>,

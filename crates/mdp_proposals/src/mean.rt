@@ -23,8 +23,9 @@ const MOST_ROOM: u32 = 37;
 /// How many digits more than rewards relative values may have before the point. Few are tried first, as more of them leave fewer behind the point.
 const MORE_DIGITS: [u32; 5] = [4, 8, 12, 16, 22];
 
-/// Proposed bounds of mean payoffs: for each state a lower and an upper gain, two relative values (the bound and the bias), all in units of 1 over `one`, which
-/// is 10 to the power of `digits`, and a choice; and the spread of the relative values. Nothing is promised of them, nor of how many there are.
+/// Proposed bounds of mean payoffs: for each state a lower and an upper gain, two relative values (the bound and the bias), all in units of 1 over
+/// `one`, which is 10 to the power of `digits`, and a choice; and the spread of the relative values. Nothing is promised of them, nor of how many
+/// there are.
 #[derive(Drop)]
 pub struct ProposedMean {
     pub digits: u32,
@@ -171,12 +172,12 @@ fn width(values: &[i128]) -> i128 {
     greatest.saturating_sub(least).max(0)
 }
 
-/// Proposes bounds of the greatest or the least mean payoff of the reward name of place `name`, as multiples of 10 to the power of -`digits` where the
-/// rows allow it, with relative values and a policy.
+/// Proposes bounds of the greatest or the least mean payoff of the reward name of place `name`, as multiples of 10 to the power of -`digits` where
+/// the rows allow it, with relative values and a policy.
 ///
-/// In each maximal end component a bias is refined until the gains that it comes to are near to each other. Each end component is then one node, where one
-/// stops with its gain or leaves it. For the least mean payoff all rewards are negated. Where upper or lower gains aren't found with their relative values,
-/// they are whole numbers between which all rewards lie.
+/// In each maximal end component a bias is refined until the gains that it comes to are near to each other. Each end component is then one node,
+/// where one stops with its gain or leaves it. For the least mean payoff all rewards are negated. Where upper or lower gains aren't found with their
+/// relative values, they are whole numbers between which all rewards lie.
 pub fn propose_mean(
     alloc: Global,
     model: &Model,

@@ -26,8 +26,8 @@ pub(crate) struct Gains {
     pub(crate) is_found: bool,
 }
 
-/// What a search comes to with so many digits behind the point: upper and lower gains with their relative values, each where they are found, and a policy;
-/// how far the bounds of the gain of an end component lie apart at most, and whether all are near enough.
+/// What a search comes to with so many digits behind the point: upper and lower gains with their relative values, each where they are found, and a
+/// policy; how far the bounds of the gain of an end component lie apart at most, and whether all are near enough.
 #[derive(Drop)]
 pub(crate) struct Found {
     pub(crate) upper: Gains,
@@ -88,8 +88,8 @@ impl Found {
     }
 }
 
-/// The nodes that end components and the other states are, and each state as a node of its own; and the end components, each in the order in which it is best
-/// solved.
+/// The nodes that end components and the other states are, and each state as a node of its own; and the end components, each in the order in which it
+/// is best solved.
 #[derive(Drop)]
 pub(crate) struct Places {
     pub(crate) nodes: Nodes,
@@ -97,8 +97,8 @@ pub(crate) struct Places {
     pub(crate) components: Components,
 }
 
-/// What all steps of a search need: what choices earn, the maximal end components, the rows of all choices, none of which was too wide, what is known of the
-/// gains of end components, and the scale of relative values where these are left, which has so many units for one.
+/// What all steps of a search need: what choices earn, the maximal end components, the rows of all choices, none of which was too wide, what is known
+/// of the gains of end components, and the scale of relative values where these are left, which has so many units for one.
 #[derive(Clone, Copy)]
 pub(crate) struct Search<'a> {
     pub(crate) earning: Earning<'a>,
@@ -110,8 +110,8 @@ pub(crate) struct Search<'a> {
     pub(crate) units: i128,
 }
 
-/// The scale of relative values where end components are left, beside gains of this one: how near they are costs the gains nothing, so what they have fewer
-/// digits behind the point they have more before it.
+/// The scale of relative values where end components are left, beside gains of this one: how near they are costs the gains nothing, so what they have
+/// fewer digits behind the point they have more before it.
 pub(crate) fn coarse_scale(scale: Scale) -> Scale {
     let few = FEW_DIGITS.max((scale.digits / 3).saturating_mul(2));
     let digits = scale.digits.min(few);
@@ -177,7 +177,8 @@ impl<'a> Search<'a> {
         Ok(spread)
     }
 
-    /// The greatest gains of the nodes: to stop in an end component with its gain, or to leave it. The search begins with what was found for the other bound.
+    /// The greatest gains of the nodes: to stop in an end component with its gain, or to leave it. The search begins with what was found for the
+    /// other bound.
     fn node_gains(
         self,
         alloc: Global,
@@ -204,8 +205,8 @@ impl<'a> Search<'a> {
         column_of(alloc, &rows, &given, task, other)
     }
 
-    /// What the choice of a row earns over the bias and the gain of its state, in coarse units times the denominator of the row, rounded so that it is a bound.
-    /// None past 128 bits.
+    /// What the choice of a row earns over the bias and the gain of its state, in coarse units times the denominator of the row, rounded so that it
+    /// is a bound. None past 128 bits.
     fn earned_over(self, row: &WholeRow, gains: &[i128], bound: Bound) -> Option<i128> {
         let fine = self.rows.rows_of(row.state).get(row.choice as usize)?;
         let gain = item_at(gains, row.state as usize, 0);

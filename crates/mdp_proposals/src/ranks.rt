@@ -21,8 +21,8 @@ fn targets_at<'a>(model: &'a Model, policy: &[u32], is_blocked: &[bool], s: u32)
     model.row(s, choice).targets
 }
 
-/// For the greatest values: the least number of steps from each state to a goal by a policy, where no step begins at a blocked state; none where there is no
-/// such way.
+/// For the greatest values: the least number of steps from each state to a goal by a policy, where no step begins at a blocked state; none where
+/// there is no such way.
 fn max_ranks(
     alloc: Global,
     model: &Model,

@@ -16,8 +16,8 @@ use mdp_refinement::{Nodes, Scale, Value, item_at, put};
 use mdp_rows::{Dir, Marks, Model};
 use std::alloc::{AllocError, Global};
 
-/// Proposed bounds of probabilities: for each state a lower and an upper value in units of 1 over `one`, a choice and a rank. Nothing is promised of them, nor
-/// of how many there are.
+/// Proposed bounds of probabilities: for each state a lower and an upper value in units of 1 over `one`, a choice and a rank. Nothing is promised of
+/// them, nor of how many there are.
 #[derive(Drop)]
 pub struct ProposedReach {
     pub one: i128,
@@ -139,7 +139,8 @@ fn joined(
     Ok(near)
 }
 
-/// Bounds without ranks. Where the graph decides all there is no end component to look for, and there is none where it doesn't decide the least value.
+/// Bounds without ranks. Where the graph decides all there is no end component to look for, and there is none where it doesn't decide the least
+/// value.
 fn unranked(
     alloc: Global,
     model: &Model,

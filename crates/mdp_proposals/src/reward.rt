@@ -16,8 +16,8 @@ use mdp_reward::{Start, start_of};
 use mdp_rows::{Dir, Marks, Model};
 use std::alloc::{AllocError, Global};
 
-/// Proposed bounds of rewards: for each state a lower and an upper value, a choice and a rank. A lower value of none is infinite; an upper one of none bounds
-/// nothing. Nothing is promised of them, nor of how many there are.
+/// Proposed bounds of rewards: for each state a lower and an upper value, a choice and a rank. A lower value of none is infinite; an upper one of
+/// none bounds nothing. Nothing is promised of them, nor of how many there are.
 #[derive(Drop)]
 pub struct ProposedReward {
     pub lower: Vec<Option<Frac>>,
@@ -64,7 +64,8 @@ fn proposed(bounds: Bounds, ranks: Vec<u32>) -> ProposedReward {
     }
 }
 
-/// Bounds of the least rewards with ranks. Where their policy misses the goals it is the one to begin with, and no upper value is known but that of goals.
+/// Bounds of the least rewards with ranks. Where their policy misses the goals it is the one to begin with, and no upper value is known but that of
+/// goals.
 fn with_ranks(
     alloc: Global,
     layout: Layout<'_>,
@@ -143,15 +144,15 @@ fn least(
     with_ranks(alloc, sought.layout, bounds, goals, start)
 }
 
-/// Bounds of the greatest rewards. No choice of a state of finite reward leads to one of infinite reward, and no end component is among these states but for
-/// goals.
+/// Bounds of the greatest rewards. No choice of a state of finite reward leads to one of infinite reward, and no end component is among these states
+/// but for goals.
 fn greatest(alloc: Global, sought: Sought<'_>, start: Start) -> Result<ProposedReward, Memory> {
     let bounds = sought.bounds(alloc, &start.policy)?;
     Ok(proposed(bounds, start.known))
 }
 
-/// Proposes bounds of the greatest or the least expected reward until a goal, under the reward name of place `name`, as multiples of 10 to the power of
-/// -`digits` where the rows allow it, with a policy and ranks. A lower value of none is infinite; an upper one of none bounds nothing.
+/// Proposes bounds of the greatest or the least expected reward until a goal, under the reward name of place `name`, as multiples of 10 to the power
+/// of -`digits` where the rows allow it, with a policy and ranks. A lower value of none is infinite; an upper one of none bounds nothing.
 ///
 /// The graph decides where the reward is infinite. Elsewhere components are solved, successors first, as for the probability to reach a goal.
 pub fn propose_reward(

@@ -1,4 +1,5 @@
-//! The simplest fractions between bounds, by continued fractions (Kwek and Mehlhorn 2003). Nothing rests on them: the rules judge what is made of them.
+//! The simplest fractions between bounds, by continued fractions (Kwek and Mehlhorn 2003). Nothing rests on them: the rules judge what is made of
+//! them.
 
 ghost use Rattle.std.specs.Prelude.{◌≡◌, length, IfOk};
 
@@ -44,7 +45,8 @@ impl Terms {
 
 /// The fraction of least denominator from `lower` to `upper`, both at least 0, and of those the least. None where a term is past 128 bits.
 ///
-/// As long as both have the same whole part it is a term of the continued fraction, and it goes on with the reciprocals of the rests, in turned order.
+/// As long as both have the same whole part it is a term of the continued fraction, and it goes on with the reciprocals of the rests, in turned
+/// order.
 fn simplest_from(lower: Terms, upper: Terms) -> Option<Frac> {
     let mut low = lower;
     let mut high = upper;
@@ -88,8 +90,8 @@ fn simplest_of_units(lower: i128, upper: i128, one: i128) -> Frac {
     }
 }
 
-/// The simplest fraction from so many units below a lower value to as many above an upper one, in units of 1 over `one`; the lower value where a term is past 128
-/// bits.
+/// The simplest fraction from so many units below a lower value to as many above an upper one, in units of 1 over `one`; the lower value where a term
+/// is past 128 bits.
 fn simplest_within(lower: i128, upper: i128, room: i128, one: i128) -> Frac {
     match (lower.checked_sub(room), upper.checked_add(room)) {
         (Some(least), Some(greatest)) => simplest_of_units(least, greatest, one),
@@ -97,7 +99,8 @@ fn simplest_within(lower: i128, upper: i128, room: i128, one: i128) -> Frac {
     }
 }
 
-/// The simplest fraction of each flagged state from `room` units below its lower to `room` units above its upper value, in units of 1 over `one`; 0 of the others.
+/// The simplest fraction of each flagged state from `room` units below its lower to `room` units above its upper value, in units of 1 over `one`; 0
+/// of the others.
 fn simplest_each(
     alloc: Global,
     states: u32,
@@ -185,8 +188,8 @@ pub fn simplest_values(
     simplest_each(alloc, states, lower, upper, 0, one, is_sought)
 }
 
-/// The simplest fraction near the value of each flagged state, as far as half of the digits; 0 of the others. The values are in units of 1 over `one`, which
-/// is 10 to the power of `digits`.
+/// The simplest fraction near the value of each flagged state, as far as half of the digits; 0 of the others. The values are in units of 1 over
+/// `one`, which is 10 to the power of `digits`.
 pub fn simplest_near_values(
     alloc: Global,
     states: u32,

@@ -111,7 +111,8 @@ fn all_nodes<'b>(
     requires exits { All (All (λ x. (x.state < states_of model.now) × (x.choice < length (choices_at model.now x.state)))) lists.now }
     ensures components { IfOk result (λ nodes. map (λ x. x.component) nodes.items ≡ numbering.now.components.items) }
     ensures exits { IfOk result (λ nodes. map (λ x. x.exits.now) nodes.items ≡ lists.now) }
-    ensures rows { IfOk result (λ nodes. map rows_in nodes.items ≡ map (λ k. rows_by model.now numbering.now.nodes.items k (slice_index_or lists.now k [])) (range_with_len 0 (length lists.now))) }
+    ensures rows { IfOk result (λ nodes. map rows_in nodes.items ≡ map (λ k. rows_by model.now numbering.now.nodes.items k
+        (slice_index_or lists.now k [])) (range_with_len 0 (length lists.now))) }
 {
     let mut sums = Sums::new(alloc, lists.len() as u32)?;
     let mut nodes = Vec::with_capacity(alloc, lists.len())?;

@@ -1,4 +1,5 @@
-ghost use Rattle.mdp_quot.specs.ExitsLaws.{StepsHaveOneEnd, OuterHasOneEnd, StepsEnd, OuterEnds, StepsAreLongest, OuterIsBest, NoneTakesMore, NoneIsBetter, ChosenExitsLeave, OuterPoliciesLeave};
+ghost use Rattle.mdp_quot.specs.ExitsLaws.{StepsHaveOneEnd, OuterHasOneEnd, StepsEnd, OuterEnds, StepsAreLongest, OuterIsBest, NoneTakesMore};
+ghost use Rattle.mdp_quot.specs.ExitsLaws.{NoneIsBetter, ChosenExitsLeave, OuterPoliciesLeave};
 
 use mdp_policy_iteration::{evaluation_law, path_law};
 

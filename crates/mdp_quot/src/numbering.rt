@@ -37,7 +37,8 @@ impl Numbering {
         ensures components { OnOk result (self.new.components.items ≡ self.old.components.items ++ part ∷ []) }
         ensures room { OnOk result (length self.new.first.items ≡ length self.old.first.items) }
         ensures given { OnOk result ((i : ℕ) → part ≡ Some i → slice_index_or self.new.first.items i None ≡ Some (length self.old.components.items)) }
-        ensures others { OnOk result ((j : ℕ) → (part ≡ Some j → ⊥) → slice_index_or self.new.first.items j None ≡ slice_index_or self.old.first.items j None) }
+        ensures others { OnOk result ((j : ℕ) → (part ≡ Some j → ⊥) → slice_index_or self.new.first.items j None
+            ≡ slice_index_or self.old.first.items j None) }
     {
         let node = self.components.len() as u32;
         self.nodes.push(node)?;
@@ -52,7 +53,8 @@ impl Numbering {
     fn add(&mut self, part: Option<u32>) -> Result<(), AllocError>
         requires part { IfSome part (λ i. i < length self.old.first.items) }
         requires few { length self.old.components.items < 2 ^ 32 }
-        ensures { OnOk result ((parts : List (Option ℕ)) (n : ℕ) → IsNumbering parts n self.old.nodes.items self.old.components.items self.old.first.items
+        ensures { OnOk result ((parts : List (Option ℕ)) (n : ℕ) → IsNumbering parts n self.old.nodes.items self.old.components.items
+            self.old.first.items
             → part ≡ part_of parts n → IsNumbering parts (n + 1) self.new.nodes.items self.new.components.items self.new.first.items) }
     {
         match self.known(part) {

@@ -1,6 +1,7 @@
 ghost use Rattle.std.specs.Prelude.{◌≡◌, ◌<◌, length, IfOk};
 ghost use Rattle.mdp_policy_iteration.specs.Queries.{Solves};
-ghost use Rattle.mdp_quot.specs.{OfModel.{IsOfModel}, Problem.{component_of, first_choice, outer_start}, Outer.{HasGains, plain, OuterEndSo, IsBestOuter}};
+ghost use Rattle.mdp_quot.specs.{OfModel.{IsOfModel}, Problem.{component_of, first_choice, outer_start}};
+ghost use Rattle.mdp_quot.specs.Outer.{HasGains, plain, OuterEndSo, IsBestOuter};
 
 use crate::outer_problem::OuterProblem;
 use crate::quotient::Quotient;

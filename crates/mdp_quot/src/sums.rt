@@ -62,7 +62,8 @@ impl Sums {
         requires targets { All (λ t. t < length nodes.now) row.targets.now }
         requires nodes { All (λ q. q < length self.old.sums.items) nodes.now }
         requires width { row_den (entries row.targets.now row.probs.now) ≤ limit }
-        ensures { OnOk result (AreSums (length self.old.sums.items) (slice_index nodes.now) (entries row.entry.targets.now row.entry.probs.now) self.new.sums.items self.new.seen.items) }
+        ensures { OnOk result (AreSums (length self.old.sums.items) (slice_index nodes.now)
+            (entries row.entry.targets.now row.entry.probs.now) self.new.sums.items self.new.seen.items) }
     {
         for i in 0..row.targets.len() {
             self.add(nodes[row.targets[i] as usize], &row.probs[i])?;
@@ -75,7 +76,8 @@ impl Sums {
         requires { All (λ q. q < length self.old.sums.items) self.old.seen.items }
         ensures none { self.new.seen.items ≡ [] }
         ensures count { length self.new.sums.items ≡ length self.old.sums.items }
-        ensures cleared { (k : ℕ) → k < length self.old.seen.items → value_at self.new.sums.items (slice_index self.old.seen.items k) ≡ of_int (pos 0) }
+        ensures cleared { (k : ℕ) → k < length self.old.seen.items → value_at self.new.sums.items (slice_index self.old.seen.items k)
+            ≡ of_int (pos 0) }
         ensures same { (q : ℕ) → value_at self.old.sums.items q ≡ of_int (pos 0) → value_at self.new.sums.items q ≡ of_int (pos 0) }
     {
         for i in 0..self.seen.len() {
@@ -97,7 +99,8 @@ impl Sums {
         requires targets { All (λ t. t < length nodes.now) row.targets.now }
         requires nodes { All (λ q. q < length self.old.sums.items) nodes.now }
         requires width { row_den (entries row.targets.now row.probs.now) ≤ limit }
-        ensures row { IfOk result (λ r. entries r.targets.now r.probs.now ≡ merged (length self.old.sums.items) (slice_index nodes.now) (entries row.entry.targets.now row.entry.probs.now)) }
+        ensures row { IfOk result (λ r. entries r.targets.now r.probs.now
+            ≡ merged (length self.old.sums.items) (slice_index nodes.now) (entries row.entry.targets.now row.entry.probs.now)) }
         ensures clear { OnOk result (IsClear (length self.old.sums.items) self.new.sums.items self.new.seen.items) }
         ensures in_range { IfOk result (λ r. All (λ q. q < length self.old.sums.items) r.targets.now) }
     {

@@ -7,8 +7,8 @@ pub enum Bound {
     Upper,
 }
 
-/// A bound of the greatest or of the least value, with the value, in units, that is such a bound whatever the rows are, if there is one. The search goes on
-/// to the end, by interval iteration where refinement fails, or it ends where the first component can't be refined.
+/// A bound of the greatest or of the least value, with the value, in units, that is such a bound whatever the rows are, if there is one. The search
+/// goes on to the end, by interval iteration where refinement fails, or it ends where the first component can't be refined.
 #[derive(Clone, Copy)]
 pub struct Task {
     /// Whether the greatest value is sought, and not the least.

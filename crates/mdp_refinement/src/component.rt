@@ -6,8 +6,8 @@ use crate::strong::Components;
 use crate::value::{Value, value_at};
 use std::alloc::{AllocError, Global};
 
-/// A row of a node of a component, in floats: `total` times the node's value is the row's reward, the sum of probability times value over the entries,
-/// and what goes to nodes outside or stops, with probability `exit`. The node's own entry is left out, so `total` is what remains of 1.
+/// A row of a node of a component, in floats: `total` times the node's value is the row's reward, the sum of probability times value over the
+/// entries, and what goes to nodes outside or stops, with probability `exit`. The node's own entry is left out, so `total` is what remains of 1.
 #[derive(Clone, Copy)]
 pub(crate) struct FloatRow {
     /// The place of the node in the component.
@@ -33,8 +33,8 @@ const NO_ROW: FloatRow = FloatRow {
     slack: 0.0,
 };
 
-/// A strong component with more than one node, in floats: its rows that lead to no node outside whose value isn't known. Nodes are named by their places in
-/// it, mostly behind those that they lead to; an entry is the place of a node and its probability.
+/// A strong component with more than one node, in floats: its rows that lead to no node outside whose value isn't known. Nodes are named by their
+/// places in it, mostly behind those that they lead to; an entry is the place of a node and its probability.
 #[derive(Drop)]
 pub(crate) struct Component {
     pub(crate) nodes: Vec<u32>,

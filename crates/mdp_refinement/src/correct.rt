@@ -1,5 +1,5 @@
-//! Corrections of the values of a component, in floats: the best values that gains come to, by sweeps where these come forward, else by policies, each
-//! better than the one before.
+//! Corrections of the values of a component, in floats: the best values that gains come to, by sweeps where these come forward, else by policies,
+//! each better than the one before.
 
 use crate::component::{Component, over};
 use crate::convert::to_float;
@@ -47,8 +47,8 @@ const FAR: f64 = 64.0;
 /// What sums of floats may lose in an improvement, as a part of a node's value.
 const GAIN_LOSS: f64 = 1e-13;
 
-/// What each row earns over a gain, whether greater values are better or less, whether nodes are swept, and by how much less than the policy's a row earns
-/// that isn't tried.
+/// What each row earns over a gain, whether greater values are better or less, whether nodes are swept, and by how much less than the policy's a row
+/// earns that isn't tried.
 #[derive(Clone, Copy)]
 struct Earning<'a> {
     component: &'a Component,
@@ -101,8 +101,8 @@ impl Earning<'_> {
         best
     }
 
-    /// Improves a policy by its values: each node in turn takes the row that gains most, where that is more than `small`, and the value that this comes to.
-    /// Whether the policy changed.
+    /// Improves a policy by its values: each node in turn takes the row that gains most, where that is more than `small`, and the value that this
+    /// comes to. Whether the policy changed.
     fn improve(self, small: f64, values: &mut [f64], policy: &mut [usize]) -> bool {
         let mut is_changed = false;
         for place in 0..policy.len().min(values.len()) {
@@ -132,8 +132,9 @@ fn centre(values: &mut [f64]) -> f64 {
     mean
 }
 
-/// The search for corrections, with these and the policy that it has come to. Where each step may end, the corrections are centred: their mean is 0, and what
-/// each of them has over that is `gain` times the number of steps until the end. A row is better than the policy's if it gains more than `small_gain` units.
+/// The search for corrections, with these and the policy that it has come to. Where each step may end, the corrections are centred: their mean is 0,
+/// and what each of them has over that is `gain` times the number of steps until the end. A row is better than the policy's if it gains more than
+/// `small_gain` units.
 #[derive(Drop)]
 pub(crate) struct Corrector<'a> {
     component: &'a Component,
@@ -234,8 +235,8 @@ impl<'a> Corrector<'a> {
         self.settle()
     }
 
-    /// Sweeps so many times over all rows that the values may make better, and then along those of the policy. Whether that changed, and what its rows are
-    /// wrong by.
+    /// Sweeps so many times over all rows that the values may make better, and then along those of the policy. Whether that changed, and what its
+    /// rows are wrong by.
     fn sweep_round(&mut self, gains: &[f64], first: usize) -> Result<(bool, f64), AllocError> {
         let mut is_changed = false;
         for _ in 0..first {

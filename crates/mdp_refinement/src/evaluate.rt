@@ -1,4 +1,5 @@
-//! The values of policies, in floats: by steps of GMRES, which are preconditioned by a sweep, or by an elimination that drops the less the slower they are.
+//! The values of policies, in floats: by steps of GMRES, which are preconditioned by a sweep, or by an elimination that drops the less the slower
+//! they are.
 
 use crate::chosen::Chosen;
 use crate::component::Component;
@@ -55,7 +56,8 @@ enum Nearness {
     Poor,
 }
 
-/// The rows of the policy whose values are sought; the factors of it, or of one before, `factored`, if there are any, and how many entries their rows keep.
+/// The rows of the policy whose values are sought; the factors of it, or of one before, `factored`, if there are any, and how many entries their rows
+/// keep.
 #[derive(Drop)]
 pub(crate) struct Evaluation<'a> {
     component: &'a Component,
@@ -98,8 +100,8 @@ impl<'a> Evaluation<'a> {
         };
     }
 
-    /// Has factors of the policy at hand, whose rows keep more entries where else a node wouldn't leave. Whether it leaves. Where an elimination takes too
-    /// long, the factors of before are kept.
+    /// Has factors of the policy at hand, whose rows keep more entries where else a node wouldn't leave. Whether it leaves. Where an elimination
+    /// takes too long, the factors of before are kept.
     fn factor(&mut self, alloc: Global, policy: &[usize]) -> Result<bool, AllocError> {
         for _ in 0..self.products_left {
             match eliminated(alloc, self.component, policy, self.most, self.products_left)? {

@@ -1,6 +1,6 @@
-//! Incomplete elimination of the nodes of a component under a policy, without subtraction: each pivot is the sum of what is left of a node's row (Grassmann,
-//! Taksar and Heyman 1985), so that it keeps its digits however slowly the chain leaves. The nodes go in the order of least fill (Markowitz 1957). A row
-//! keeps its greatest entries; what is dropped counts as staying at the node, so that the row keeps its sum.
+//! Incomplete elimination of the nodes of a component under a policy, without subtraction: each pivot is the sum of what is left of a node's row
+//! (Grassmann, Taksar and Heyman 1985), so that it keeps its digits however slowly the chain leaves. The nodes go in the order of least fill
+//! (Markowitz 1957). A row keeps its greatest entries; what is dropped counts as staying at the node, so that the row keeps its sum.
 
 use crate::component::Component;
 use crate::lists::{
@@ -88,8 +88,8 @@ fn push_at(lists: &mut [Vec<u32>], place: u32, item: u32) -> Result<(), AllocErr
     }
 }
 
-/// Puts the sum of the row of a node and of `share` times another one, without what would lead to the node itself, into `merged`. It is noted in `preds` to
-/// which targets the node leads then and not before.
+/// Puts the sum of the row of a node and of `share` times another one, without what would lead to the node itself, into `merged`. It is noted in
+/// `preds` to which targets the node leads then and not before.
 fn merge(
     own: &[(u32, f64)],
     node: u32,
@@ -134,8 +134,8 @@ fn keep_greatest(row: &mut Entries, most: usize) -> bool {
     true
 }
 
-/// The rows that are left, which keep so many entries; the nodes whose rows have, or had, an entry to each node; and a queue in which each node that is left
-/// waits with a number of products, and may stand with greater ones.
+/// The rows that are left, which keep so many entries; the nodes whose rows have, or had, an entry to each node; and a queue in which each node that
+/// is left waits with a number of products, and may stand with greater ones.
 #[derive(Drop)]
 struct System {
     most: usize,

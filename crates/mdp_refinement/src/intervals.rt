@@ -56,8 +56,8 @@ fn bring_nearer(rows: &Rows, task: Task, node: u32, solution: &mut Solution) -> 
     }
 }
 
-/// Brings the values of the nodes of a component nearer, which are such bounds whatever its rows are. The picks of the nodes are to be rows by which they
-/// leave it.
+/// Brings the values of the nodes of a component nearer, which are such bounds whatever its rows are. The picks of the nodes are to be rows by which
+/// they leave it.
 pub(crate) fn sweep_exact(rows: &Rows, task: Task, nodes: &[u32], solution: &mut Solution) {
     for _ in 0..count_sweeps(rows, nodes) {
         let mut is_changed = false;

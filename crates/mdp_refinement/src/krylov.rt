@@ -1,6 +1,6 @@
-//! The values of a policy by steps of GMRES, preconditioned: the best values in the space of the directions which the equations lead to, one after the other.
-//! Each direction is kept with what the equations make of it, at right angles to those before (generalized conjugate residuals: Eisenstat, Elman and Schultz
-//! 1983), so that each step is final.
+//! The values of a policy by steps of GMRES, preconditioned: the best values in the space of the directions which the equations lead to, one after
+//! the other. Each direction is kept with what the equations make of it, at right angles to those before (generalized conjugate residuals: Eisenstat,
+//! Elman and Schultz 1983), so that each step is final.
 
 use crate::chosen::Chosen;
 use crate::factors::Factors;
@@ -42,8 +42,8 @@ fn divide(vector: &mut [f64], divisor: f64) {
     }
 }
 
-/// A direction: a vector, and how much of a constant goes with it. `product` is what the equations make of both, of length 1. A constant is by far the slowest
-/// part of values where nodes are hardly left, so it is kept apart.
+/// A direction: a vector, and how much of a constant goes with it. `product` is what the equations make of both, of length 1. A constant is by far
+/// the slowest part of values where nodes are hardly left, so it is kept apart.
 #[derive(Drop)]
 struct Direction {
     vector: Vec<f64>,
@@ -83,8 +83,8 @@ impl Equations<'_> {
         Ok(product)
     }
 
-    /// Brings values nearer to those to which rows come that earn so much, until what they lack is at most `tolerance` of what all that is earned comes to.
-    /// How many times more it is at the end.
+    /// Brings values nearer to those to which rows come that earn so much, until what they lack is at most `tolerance` of what all that is earned
+    /// comes to. How many times more it is at the end.
     pub(crate) fn come_nearer(
         self,
         alloc: Global,

@@ -5,8 +5,8 @@ use crate::graph::Graph;
 use crate::lists::{append, flag_at, put, takes};
 use std::alloc::{AllocError, Global};
 
-/// A search backwards for ways out of a component: for each node a row by which it is led there, if it has one, and the nodes that are led, in the order
-/// in which they got their rows.
+/// A search backwards for ways out of a component: for each node a row by which it is led there, if it has one, and the nodes that are led, in the
+/// order in which they got their rows.
 #[derive(Drop)]
 pub(crate) struct Leaving<'a> {
     component: &'a Component,

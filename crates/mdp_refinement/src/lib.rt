@@ -1,6 +1,7 @@
 //! Bounds of the values of a model, near to each other, found in floats and whole numbers. A bound for each node, a state or an end component of the
-//! model, is a whole number in units; components of nodes are solved one after the other, successors first, by iterative refinement: what the rows have
-//! over the values is exact in whole numbers, and floats give corrections. Nothing is promised of what comes out: it is to be held against exact rules.
+//! model, is a whole number in units; components of nodes are solved one after the other, successors first, by iterative refinement: what the rows
+//! have over the values is exact in whole numbers, and floats give corrections. Nothing is promised of what comes out: it is to be held against exact
+//! rules.
 #![tactic(auto)]
 
 mod bound;

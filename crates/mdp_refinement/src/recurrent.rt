@@ -1,7 +1,7 @@
-//! Gains and biases of end components, by value iteration over a random number of steps: a step ends with a small chance, and then counts by the bias that
-//! was found before. What the best rows gain over a new bias differs from node to node by what the corrections differ, times that chance: so the bounds of the
-//! gain come nearer as long as the chance is less than 1 over the time in which the component mixes. As each policy comes to an end, it doesn't matter how
-//! many recurrent classes one has.
+//! Gains and biases of end components, by value iteration over a random number of steps: a step ends with a small chance, and then counts by the bias
+//! that was found before. What the best rows gain over a new bias differs from node to node by what the corrections differ, times that chance: so the
+//! bounds of the gain come nearer as long as the chance is less than 1 over the time in which the component mixes. As each policy comes to an end, it
+//! doesn't matter how many recurrent classes one has.
 
 use crate::component::Component;
 use crate::convert::{nearest, to_float};
@@ -39,9 +39,9 @@ const FAR: f64 = 6.0;
 /// Of no more nodes the bias is corrected once more then, so that its simplest values may be found.
 const FEW_NODES: usize = 1000;
 
-/// For each node, in units: an upper gain and a lower one of its component, where they are known; for each of these a bias over which the rows show it, the
-/// bound and the bias, which are 0 outside of end components; and the place of the row that a policy takes whose gain is no less than the lower one.
-/// `width` is how far the bounds of a gain lie apart at most, and `is_near` whether those of each are near enough.
+/// For each node, in units: an upper gain and a lower one of its component, where they are known; for each of these a bias over which the rows show
+/// it, the bound and the bias, which are 0 outside of end components; and the place of the row that a policy takes whose gain is no less than the
+/// lower one. `width` is how far the bounds of a gain lie apart at most, and `is_near` whether those of each are near enough.
 #[derive(Drop)]
 pub struct EndGains {
     pub upper: Vec<Value>,
@@ -67,9 +67,9 @@ impl Range {
     }
 }
 
-/// A search for the gain of an end component: about what each row earns over a gain and a bias; of each node the row that earns most; the nearest bounds, and
-/// how many corrections since then brought them hardly nearer. A row that earned less than that of its node by more than `far` earns less after the
-/// corrections since then too, and isn't measured.
+/// A search for the gain of an end component: about what each row earns over a gain and a bias; of each node the row that earns most; the nearest
+/// bounds, and how many corrections since then brought them hardly nearer. A row that earned less than that of its node by more than `far` earns less
+/// after the corrections since then too, and isn't measured.
 #[derive(Drop)]
 struct Refinement<'a> {
     rows: &'a Rows,
@@ -146,7 +146,8 @@ impl Refinement<'_> {
         Some(best)
     }
 
-    /// Measures all rows. The least and the greatest of what the best rows gain: whatever the bias is, the greatest gain of the component lies between.
+    /// Measures all rows. The least and the greatest of what the best rows gain: whatever the bias is, the greatest gain of the component lies
+    /// between.
     fn measure_all(&mut self, component: &Component, bias: &[Value]) -> Option<Range> {
         let mut range = Range {
             upper: i128::MIN,

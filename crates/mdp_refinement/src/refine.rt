@@ -12,7 +12,8 @@ use std::alloc::{AllocError, Global};
 /// How many corrections are made at most.
 const MOST_ROUNDS: u32 = 30;
 
-/// After how many corrections that don't halve what rows are wrong by they are given more room, and need not be near; after how many there are no more.
+/// After how many corrections that don't halve what rows are wrong by they are given more room, and need not be near; after how many there are no
+/// more.
 const FEW_STALE: u32 = 3;
 
 const MOST_STALE: u32 = 12;
@@ -29,8 +30,8 @@ const LOOSE: f64 = 4.0;
 /// A row that gains less units isn't taken where the bound is asked of the policy's rows alone.
 const POLICY_GAIN: f64 = 0.05;
 
-/// How the values of a component lie to its rows: whether all hold that are to hold, whether the policy's are near to the values of their nodes, and what these
-/// are wrong by at most.
+/// How the values of a component lie to its rows: whether all hold that are to hold, whether the policy's are near to the values of their nodes, and
+/// what these are wrong by at most.
 #[derive(Clone, Copy)]
 struct Measured {
     is_held: bool,
@@ -38,8 +39,8 @@ struct Measured {
     error: f64,
 }
 
-/// A refinement of the values of a component: what each row has over its node's value, and room for rounding, which is a multiple of what that may cost; the
-/// least that rows were wrong by, and how many rounds came to no less than half of it since.
+/// A refinement of the values of a component: what each row has over its node's value, and room for rounding, which is a multiple of what that may
+/// cost; the least that rows were wrong by, and how many rounds came to no less than half of it since.
 #[derive(Drop)]
 struct Refinement<'a> {
     rows: &'a Rows,
@@ -121,8 +122,8 @@ impl Refinement<'_> {
     }
 }
 
-/// Comes to values of a component that meet the bound on the rows, and to a policy for it, which the corrector has then; it begins with the first values.
-/// Whether it came to them; the values are changed otherwise too.
+/// Comes to values of a component that meet the bound on the rows, and to a policy for it, which the corrector has then; it begins with the first
+/// values. Whether it came to them; the values are changed otherwise too.
 pub(crate) fn refine(
     alloc: Global,
     rows: &Rows,

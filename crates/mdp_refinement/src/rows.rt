@@ -22,17 +22,17 @@ pub struct ChoiceRow<'a> {
     pub probs: &'a [Frac],
 }
 
-/// How much a step later counts: `factor` times as much, where that is at least 0 and at most 1. What is left of each probability goes to the node `end`, where
-/// nothing more is earned, so that each row leaves its component.
+/// How much a step later counts: `factor` times as much, where that is at least 0 and at most 1. What is left of each probability goes to the node
+/// `end`, where nothing more is earned, so that each row leaves its component.
 #[derive(Clone, Copy)]
 pub struct Discount<'a> {
     pub factor: &'a Frac,
     pub end: u32,
 }
 
-/// The row of a choice that leaves its node, in whole numbers: `denominator` times its value is `reward` and the sum of `numerator` times value over its
-/// entries, where `reward` and the values are in units. A row without entries stops: its reward is all. No product is past width, where values are no greater
-/// than the rows leave room for.
+/// The row of a choice that leaves its node, in whole numbers: `denominator` times its value is `reward` and the sum of `numerator` times value over
+/// its entries, where `reward` and the values are in units. A row without entries stops: its reward is all. No product is past width, where values
+/// are no greater than the rows leave room for.
 #[derive(Clone, Copy)]
 pub struct WholeRow {
     pub state: u32,
@@ -61,8 +61,9 @@ pub struct Scale {
     pub room: u32,
 }
 
-/// The rows of nodes, node by node, in the order in which they were pushed. Values are whole numbers in units, of which `one` make 1: as many as the scale
-/// says, or fewer, where the greatest of the denominators and of what rows earn leave fewer digits. Until they are fitted to that, rewards are in units of 1.
+/// The rows of nodes, node by node, in the order in which they were pushed. Values are whole numbers in units, of which `one` make 1: as many as the
+/// scale says, or fewer, where the greatest of the denominators and of what rows earn leave fewer digits. Until they are fitted to that, rewards are
+/// in units of 1.
 #[derive(Drop)]
 pub struct Rows {
     scale: Scale,
@@ -213,7 +214,8 @@ impl Rows {
         Ok(())
     }
 
-    /// Appends the row of a choice, with its reward, to the last node. One that stays in the node is left out, and one that is too wide is only noted.
+    /// Appends the row of a choice, with its reward, to the last node. One that stays in the node is left out, and one that is too wide is only
+    /// noted.
     pub fn push_row(
         &mut self,
         nodes: &Nodes,
@@ -364,8 +366,8 @@ impl Rows {
         }
     }
 
-    /// The reward and the sum of numerators times values, but for the entry of the row's own node, whose numerator comes beside it. None past 128 bits, or
-    /// where a value isn't known.
+    /// The reward and the sum of numerators times values, but for the entry of the row's own node, whose numerator comes beside it. None past 128
+    /// bits, or where a value isn't known.
     fn sum_of_others(&self, row: &WholeRow, values: &[Value]) -> Option<(i128, i128)> {
         let mut total = row.reward;
         let mut own = 0;
@@ -387,7 +389,8 @@ impl Rows {
         total.checked_sub(others.checked_mul(value_at(values, row.node)?)?)
     }
 
-    /// The value that the row gives its node, its own entry solved for, rounded so that it is a bound. None past 128 bits, or where a value isn't known.
+    /// The value that the row gives its node, its own entry solved for, rounded so that it is a bound. None past 128 bits, or where a value isn't
+    /// known.
     pub(crate) fn rounded(&self, row: &WholeRow, values: &[Value], bound: Bound) -> Option<i128> {
         let (total, own) = self.sum_of_others(row, values)?;
         quotient(total, row.denominator.checked_sub(own)?, bound)

@@ -131,8 +131,8 @@ impl Solver<'_> {
         self.solve_leaving(alloc, component, start, &mut corrector)
     }
 
-    /// A component with several nodes, if each node can leave it. It begins with a policy by which each takes its first row that leaves the component, else
-    /// one that leads to a node which does so in fewer steps; or with that of the other bound where it leaves.
+    /// A component with several nodes, if each node can leave it. It begins with a policy by which each takes its first row that leaves the
+    /// component, else one that leads to a node which does so in fewer steps; or with that of the other bound where it leaves.
     fn solve_open(
         &mut self,
         alloc: Global,
@@ -234,9 +234,9 @@ fn open_components(
     strong_components(alloc, &graph, &open)
 }
 
-/// Finds values that are to meet the bound on the rows, for the nodes that are not given theirs. A row that leads to a value which isn't known is left out
-/// where the bound is asked of a policy's rows, and leaves its own node without one where it is asked of each row. The search begins with the values and
-/// the policy of the other bound, where what that came to on the same rows is handed in.
+/// Finds values that are to meet the bound on the rows, for the nodes that are not given theirs. A row that leads to a value which isn't known is
+/// left out where the bound is asked of a policy's rows, and leaves its own node without one where it is asked of each row. The search begins with
+/// the values and the policy of the other bound, where what that came to on the same rows is handed in.
 pub fn solve(
     alloc: Global,
     rows: &Rows,

@@ -2,7 +2,8 @@ ghost use Rattle.std.specs.Prelude.{◌≡◌, ◌<◌, ◌⊎◌, ℕ, true, le
 ghost use Rattle.mdp_spec.specs.{Mdp.{states_of}, Bounds.{reward_at}};
 ghost use Rattle.mdp_discount_rules.specs.{Rules.{IsFactor}, Checks.{IsDiscount}};
 ghost use Rattle.mdp_discount_rules.specs.BoundsChecks.{IsDiscountBounds};
-ghost use Rattle.mdp_search_bounds.specs.{DiscountHeld.{HasDiscountSizes, IsHeldDiscount, AreExactBounds}, Near.{AreValuesNear}, Wide.{IsDiscountWide}};
+ghost use Rattle.mdp_search_bounds.specs.{DiscountHeld.{HasDiscountSizes, IsHeldDiscount, AreExactBounds}, Near.{AreValuesNear}};
+ghost use Rattle.mdp_search_bounds.specs.Wide.{IsDiscountWide};
 
 use crate::finite::finite_bounds;
 use crate::gap::Gap;
@@ -210,10 +211,11 @@ impl Search for Discounting<'_> {
     }
 }
 
-/// Bounds of the greatest or the least sum of rewards of the name of place `name` where a step later counts `factor` times as much, with a policy and a
-/// remainder: exact values, where the simplest fractions between the bounds that the search proposes are such; else these bounds, in as few digits as
-/// come as near as `digits` say: at most 10^-`digits` apart, or that times an upper value above 1; where none do, the exact answer, if it isn't too wide;
-/// else what was found, at last one number that no reward passes, or no value at all. They always meet the rules. An `Err` is want of memory.
+/// Bounds of the greatest or the least sum of rewards of the name of place `name` where a step later counts `factor` times as much, with a policy and
+/// a remainder: exact values, where the simplest fractions between the bounds that the search proposes are such; else these bounds, in as few digits
+/// as come as near as `digits` say: at most 10^-`digits` apart, or that times an upper value above 1; where none do, the exact answer, if it isn't
+/// too wide; else what was found, at last one number that no reward passes, or no value at all. They always meet the rules. An `Err` is want of
+/// memory.
 pub fn bounds_discount(
     alloc: Global,
     model: &Model,
@@ -224,8 +226,10 @@ pub fn bounds_discount(
 ) -> Result<DiscountBounds, Memory>
     requires name { name < length model.now.names }
     requires factor { IsFactor factor.now }
-    ensures rules { IfOk result (λ bounds. IsDiscountBounds dir model.now name factor.now bounds.lower.items bounds.upper.items bounds.remainder bounds.choices.items) }
-    ensures near { IfOk result (λ bounds. AreValuesNear digits model.now bounds.lower.items bounds.upper.items ⊎ IsDiscountWide dir model.now name factor.now) }
+    ensures rules { IfOk result (λ bounds. IsDiscountBounds dir model.now name factor.now bounds.lower.items bounds.upper.items bounds.remainder
+        bounds.choices.items) }
+    ensures near { IfOk result (λ bounds. AreValuesNear digits model.now bounds.lower.items bounds.upper.items ⊎
+        IsDiscountWide dir model.now name factor.now) }
     ensures lower { IfOk result (λ bounds. length bounds.lower.items ≡ states_of model.now) }
     ensures upper { IfOk result (λ bounds. length bounds.upper.items ≡ states_of model.now) }
     ensures choices { IfOk result (λ bounds. length bounds.choices.items ≡ states_of model.now) }

@@ -1,4 +1,5 @@
-//! A few states that are looked at before the simplest fractions of all are found: where the rules refuse these at one of them, the others needn't be found.
+//! A few states that are looked at before the simplest fractions of all are found: where the rules refuse these at one of them, the others needn't be
+//! found.
 
 ghost use Rattle.std.specs.Prelude.{◌<◌};
 ghost use Rattle.mdp_spec.specs.Mdp.{states_of};

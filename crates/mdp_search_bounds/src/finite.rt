@@ -18,8 +18,9 @@ fn above(value: &Frac) -> Option<i128> {
     }
 }
 
-/// A number that no discounted reward of the name passes, if there is one in width: the least whole number that the magnitude of no reward passes, over 1 less
-/// the factor. Less the factor times itself it is that whole number, so where all states have this value no term of the rules is past width.
+/// A number that no discounted reward of the name passes, if there is one in width: the least whole number that the magnitude of no reward passes,
+/// over 1 less the factor. Less the factor times itself it is that whole number, so where all states have this value no term of the rules is past
+/// width.
 fn extent(model: &Model, name: u32, factor: &Frac) -> Option<Frac>
     requires { name < length model.now.names }
 {

@@ -18,8 +18,8 @@ const ALL_LACKING: u32 = MOST_DIGITS + 1;
 pub(crate) struct Gap {
     /// At how many states one of the two values is missing.
     missing: u32,
-    /// How many digits are lacking of `MOST_DIGITS`: one for each power of ten by which values are further apart than 10^-`MOST_DIGITS`, or than that times
-    /// the whole part of the upper value where its magnitude is above 1. `ALL_LACKING` where there are more.
+    /// How many digits are lacking of `MOST_DIGITS`: one for each power of ten by which values are further apart than 10^-`MOST_DIGITS`, or than that
+    /// times the whole part of the upper value where its magnitude is above 1. `ALL_LACKING` where there are more.
     lacking: u32,
     /// How many digits behind the point the values have.
     places: u32,
@@ -115,7 +115,8 @@ impl Gap {
 
     /// The gap between lower and upper values.
     pub(crate) fn between(lower: &[Frac], upper: &[Frac]) -> Gap
-        ensures { (digits : ℕ) → ShowsNear result digits → (s : ℕ) → s < length lower.now → s < length upper.now → IsNear digits (value_at lower.now s) (value_at upper.now s) }
+        ensures { (digits : ℕ) → ShowsNear result digits → (s : ℕ) → s < length lower.now → s < length upper.now →
+            IsNear digits (value_at lower.now s) (value_at upper.now s) }
     {
         let mut gap = Gap::NONE;
         for place in 0..lower.len().min(upper.len()) {
@@ -126,7 +127,8 @@ impl Gap {
 
     /// The gap between lower and upper values of which some are missing.
     pub(crate) fn between_rewards(lower: &[Option<Frac>], upper: &[Option<Frac>]) -> Gap
-        ensures { (digits : ℕ) → ShowsNear result digits → (s : ℕ) → s < length lower.now → s < length upper.now → IsRewardNear digits (reward_at lower.now s) (reward_at upper.now s) }
+        ensures { (digits : ℕ) → ShowsNear result digits → (s : ℕ) → s < length lower.now → s < length upper.now →
+            IsRewardNear digits (reward_at lower.now s) (reward_at upper.now s) }
     {
         let mut gap = Gap::NONE;
         for place in 0..lower.len().min(upper.len()) {
@@ -135,8 +137,8 @@ impl Gap {
         gap
     }
 
-    /// Whether bounds are as near as so many digits say: at most 10^-digits apart, or that times the whole part of the upper value where its magnitude is
-    /// above 1.
+    /// Whether bounds are as near as so many digits say: at most 10^-digits apart, or that times the whole part of the upper value where its
+    /// magnitude is above 1.
     pub(crate) fn is_near(self, digits: u32) -> bool
         ensures { (result ≡ true) ↔ ShowsNear self digits }
     {

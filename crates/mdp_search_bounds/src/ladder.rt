@@ -10,7 +10,8 @@ use mdp_proposals::MOST_DIGITS;
 use mdp_rows::Model;
 use std::alloc::Global;
 
-/// How many digits more than were asked for are tried where bounds with the most digits aren't near enough: values have less room before the point with these.
+/// How many digits more than were asked for are tried where bounds with the most digits aren't near enough: values have less room before the point
+/// with these.
 const SPARE_DIGITS: u32 = 6;
 
 /// How many numbers of digits are tried where more of them came to nothing that meets the rules: 12, 9, 6, 3 and 0.
@@ -156,7 +157,8 @@ fn held_proposed<S: Search>(
 ) -> Result<Option<S::Cert>, Memory>
     ensures held { IfOk result (λ found. IfSome found (S.is_held search.now)) }
     ensures found { IfOk result (λ found. IfSome found (S.is_found search.now)) }
-    ensures none { (digits : ℕ) → S.is_made search.now digits near.now → IfOk result (λ found. IfNone found (IsVain (S.is_proposed search.now) (S.is_held search.now) digits)) }
+    ensures none { (digits : ℕ) → S.is_made search.now digits near.now →
+        IfOk result (λ found. IfNone found (IsVain (S.is_proposed search.now) (S.is_held search.now) digits)) }
 {
     let cert = search.proposed(alloc, near)?;
     Ok(held(search, cert))
@@ -205,8 +207,8 @@ fn held_short<S: Search>(
     Ok(None)
 }
 
-/// What the search finds with the most digits, where the rules say yes to it: exact values, where the simplest fractions between its bounds are such; else its
-/// bounds, in fewer digits where these come as near as `digits` say.
+/// What the search finds with the most digits, where the rules say yes to it: exact values, where the simplest fractions between its bounds are such;
+/// else its bounds, in fewer digits where these come as near as `digits` say.
 fn held_with_most<S: Search>(
     alloc: Global,
     search: &S,
@@ -264,7 +266,8 @@ fn held_first<S: Search>(alloc: Global, search: &S, digits: u32) -> Result<Optio
     Ok(None)
 }
 
-/// What the search finds, where the rules say yes to it: with the most digits, or with fewer where these aren't as near as `digits` say and fewer are nearer.
+/// What the search finds, where the rules say yes to it: with the most digits, or with fewer where these aren't as near as `digits` say and fewer are
+/// nearer.
 fn held_found<S: Search>(alloc: Global, search: &S, digits: u32) -> Result<Option<S::Cert>, Memory>
     ensures held { IfOk result (λ found. IfSome found (S.is_held search.now)) }
     ensures found { IfOk result (λ found. IfSome found (S.is_found search.now)) }
@@ -336,8 +339,8 @@ fn answer_or<S: Search>(
     }
 }
 
-/// Bounds that meet the rules: what the search finds, where that is as near as so many digits say; else the exact answer, if it isn't too wide; else what the
-/// search found, or finds with fewer digits; else the bounds that say nothing.
+/// Bounds that meet the rules: what the search finds, where that is as near as so many digits say; else the exact answer, if it isn't too wide; else
+/// what the search found, or finds with fewer digits; else the bounds that say nothing.
 pub(crate) fn bounds_by<S: Search>(
     alloc: Global,
     search: &S,

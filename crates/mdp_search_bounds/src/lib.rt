@@ -1,6 +1,6 @@
-//! Bounds that meet the rules of mdp_bounds, or of mdp_discount_rules, for every model: those that a search proposes, where the rules say yes to them,
-//! else wider ones, at last those that say nothing: of rewards until a goal 0 and infinite, with the states where the reward is finite by the graph
-//! alone; of mean payoffs the least and the greatest reward.
+//! Bounds that meet the rules of mdp_bounds, or of mdp_discount_rules, for every model: those that a search proposes, where the rules say yes to
+//! them, else wider ones, at last those that say nothing: of rewards until a goal 0 and infinite, with the states where the reward is finite by the
+//! graph alone; of mean payoffs the least and the greatest reward.
 #![tactic(auto)]
 
 mod discount;

@@ -17,7 +17,8 @@ use mdp_rows::{Dir, Model};
 use mdp_wide::SolveError;
 use std::alloc::{AllocError, Global};
 
-/// Of more states a mean payoff is first searched with few digits: how near its bounds come is measured as they are found, and hardly grows with the model.
+/// Of more states a mean payoff is first searched with few digits: how near its bounds come is measured as they are found, and hardly grows with the
+/// model.
 const MANY_STATES: u32 = 1_000;
 
 /// How many digits more than were asked for are tried then.
@@ -36,7 +37,8 @@ impl Averaging<'_> {
     /// An exact answer as bounds: its gains are lower and upper ones.
     fn bounds_of(self, alloc: Global, answer: MeanCert) -> Result<MeanBoundsCert, AllocError>
         requires gains { length answer.gains.items ≡ states_of self.model.now }
-        requires rules { IsMean self.dir self.model.now self.name answer.gains.items answer.bound.items answer.bias.items answer.spread answer.choices.items }
+        requires rules { IsMean self.dir self.model.now self.name answer.gains.items answer.bound.items answer.bias.items answer.spread
+            answer.choices.items }
         ensures held { IfOk result (IsHeldMean self.entry.dir self.entry.model.now self.entry.name) }
         ensures same { IfOk result (λ cert. cert.upper.items ≡ cert.lower.items) }
     {
@@ -137,9 +139,9 @@ impl Search for Averaging<'_> {
 }
 
 /// Bounds of the greatest or the least mean payoff of the name of place `name`, in units of that reward, with a policy, two relative values for each
-/// state and their spread: exact gains, where the simplest fractions between the bounds that the search proposes are such; else these bounds, in as few
-/// digits as come as near as `digits` say: at most 10^-`digits` apart, or that times an upper value above 1; where none do, the exact answer, if it isn't
-/// too wide; else what was found, at last the least and the greatest reward. They always meet the rules. An `Err` is want of memory.
+/// state and their spread: exact gains, where the simplest fractions between the bounds that the search proposes are such; else these bounds, in as
+/// few digits as come as near as `digits` say: at most 10^-`digits` apart, or that times an upper value above 1; where none do, the exact answer, if
+/// it isn't too wide; else what was found, at last the least and the greatest reward. They always meet the rules. An `Err` is want of memory.
 pub fn bounds_mean(
     alloc: Global,
     model: &Model,
@@ -148,7 +150,8 @@ pub fn bounds_mean(
     digits: u32,
 ) -> Result<MeanBoundsCert, Memory>
     requires { name < length model.now.names }
-    ensures rules { IfOk result (λ cert. IsMeanBounds dir model.now name cert.lower.items cert.upper.items cert.bound.items cert.bias.items cert.spread cert.choices.items) }
+    ensures rules { IfOk result (λ cert. IsMeanBounds dir model.now name cert.lower.items cert.upper.items cert.bound.items cert.bias.items
+        cert.spread cert.choices.items) }
     ensures near { IfOk result (λ cert. AreNear digits model.now cert.lower.items cert.upper.items ⊎ IsMeanWide dir model.now name) }
     ensures lower { IfOk result (λ cert. length cert.lower.items ≡ states_of model.now) }
     ensures upper { IfOk result (λ cert. length cert.upper.items ≡ states_of model.now) }

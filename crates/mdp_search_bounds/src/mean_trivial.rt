@@ -15,8 +15,10 @@ use std::alloc::Global;
 /// `Err` is want of memory.
 pub fn trivial_mean(alloc: Global, model: &Model, name: u32) -> Result<MeanBoundsCert, Memory>
     requires { name < length model.now.names }
-    ensures trivial { IfOk result (λ cert. IsTrivialMean model.now name cert.lower.items cert.upper.items cert.bound.items cert.bias.items cert.spread cert.choices.items) }
-    ensures accepted { IfOk result (λ cert. (dir : Dir) → IsMeanBounds dir model.now name cert.lower.items cert.upper.items cert.bound.items cert.bias.items cert.spread cert.choices.items) }
+    ensures trivial { IfOk result (λ cert. IsTrivialMean model.now name cert.lower.items cert.upper.items cert.bound.items cert.bias.items
+        cert.spread cert.choices.items) }
+    ensures accepted { IfOk result (λ cert. (dir : Dir) → IsMeanBounds dir model.now name cert.lower.items cert.upper.items cert.bound.items
+        cert.bias.items cert.spread cert.choices.items) }
     ensures least { IfOk result (λ cert. AreAllExtreme Min model.now name cert.lower.items) }
     ensures greatest { IfOk result (λ cert. AreAllExtreme Max model.now name cert.upper.items) }
     ensures lower { IfOk result (λ cert. length cert.lower.items ≡ states_of model.now) }

@@ -14,9 +14,11 @@ fn no_values(alloc: Global, states: u32) -> Result<Vec<Option<Frac>>, AllocError
     vec![in alloc; None; states as usize]
 }
 
-/// The bounds of discounted rewards that say nothing: no value at all, the first choice of each state, and the remainder 0. They hold for every model.
+/// The bounds of discounted rewards that say nothing: no value at all, the first choice of each state, and the remainder 0. They hold for every
+/// model.
 pub fn missing_discount(alloc: Global, model: &Model) -> Result<DiscountBounds, Memory>
-    ensures trivial { IfOk result (λ bounds. IsTrivialDiscount model.now bounds.lower.items bounds.upper.items bounds.remainder bounds.choices.items) }
+    ensures trivial { IfOk result (λ bounds. IsTrivialDiscount model.now bounds.lower.items bounds.upper.items bounds.remainder
+        bounds.choices.items) }
     ensures lower { IfOk result (λ bounds. length bounds.lower.items ≡ states_of model.now) }
     ensures upper { IfOk result (λ bounds. length bounds.upper.items ≡ states_of model.now) }
     ensures choices { IfOk result (λ bounds. length bounds.choices.items ≡ states_of model.now) }

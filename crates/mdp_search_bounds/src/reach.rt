@@ -118,8 +118,8 @@ impl Search for Reaching<'_, '_> {
 
 /// Bounds of the greatest or the least probability to reach a goal, with a policy and ranks: exact values, where the simplest fractions between the
 /// bounds that the search proposes are such; else these bounds, in as few digits as come as near as `digits` say: at most 10^-`digits` apart, or that
-/// times an upper value above 1; where none do, the exact answer, if it isn't too wide; else what was found, at last 0 and 1. They always meet the rules.
-/// An `Err` is want of memory.
+/// times an upper value above 1; where none do, the exact answer, if it isn't too wide; else what was found, at last 0 and 1. They always meet the
+/// rules. An `Err` is want of memory.
 pub fn bounds_reach(
     alloc: Global,
     model: &Model,
@@ -128,7 +128,8 @@ pub fn bounds_reach(
     digits: u32,
 ) -> Result<ReachBoundsCert, Memory>
     requires goals { length goals.now ≡ states_of model.now }
-    ensures rules { IfOk result (λ cert. IsReachBounds dir model.now goals.now cert.lower.items cert.upper.items cert.choices.items cert.ranks.items) }
+    ensures rules { IfOk result (λ cert. IsReachBounds dir model.now goals.now cert.lower.items cert.upper.items cert.choices.items
+        cert.ranks.items) }
     ensures near { IfOk result (λ cert. AreNear digits model.now cert.lower.items cert.upper.items ⊎ IsReachWide dir model.now goals.now) }
     ensures lower { IfOk result (λ cert. length cert.lower.items ≡ states_of model.now) }
     ensures upper { IfOk result (λ cert. length cert.upper.items ≡ states_of model.now) }

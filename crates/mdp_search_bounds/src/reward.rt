@@ -123,10 +123,10 @@ impl Search for Earning<'_, '_> {
     }
 }
 
-/// Bounds of the greatest or the least reward of the name of place `name` until a goal, in units of that reward, with a policy and ranks: exact values,
-/// where the simplest fractions between the bounds that the search proposes are such; else these bounds, in as few digits as come as near as `digits`
-/// say: at most 10^-`digits` apart, or that times an upper value above 1; where none do, the exact answer, if it isn't too wide; else what was found, at
-/// last 0 and infinite. They always meet the rules. An `Err` is want of memory.
+/// Bounds of the greatest or the least reward of the name of place `name` until a goal, in units of that reward, with a policy and ranks: exact
+/// values, where the simplest fractions between the bounds that the search proposes are such; else these bounds, in as few digits as come as near as
+/// `digits` say: at most 10^-`digits` apart, or that times an upper value above 1; where none do, the exact answer, if it isn't too wide; else what
+/// was found, at last 0 and infinite. They always meet the rules. An `Err` is want of memory.
 pub fn bounds_reward(
     alloc: Global,
     model: &Model,
@@ -138,8 +138,10 @@ pub fn bounds_reward(
     requires name { name < length model.now.names }
     requires goals { length goals.now ≡ states_of model.now }
     requires none_negative { has_negative model.now name ≡ false }
-    ensures rules { IfOk result (λ cert. IsRewardBounds dir model.now name goals.now cert.lower.items cert.upper.items cert.choices.items cert.ranks.items) }
-    ensures near { IfOk result (λ cert. AreRewardsNear digits model.now cert.lower.items cert.upper.items ⊎ IsRewardWide dir model.now name goals.now) }
+    ensures rules { IfOk result (λ cert. IsRewardBounds dir model.now name goals.now cert.lower.items cert.upper.items cert.choices.items
+        cert.ranks.items) }
+    ensures near { IfOk result (λ cert. AreRewardsNear digits model.now cert.lower.items cert.upper.items ⊎
+        IsRewardWide dir model.now name goals.now) }
     ensures lower { IfOk result (λ cert. length cert.lower.items ≡ states_of model.now) }
     ensures upper { IfOk result (λ cert. length cert.upper.items ≡ states_of model.now) }
     ensures choices { IfOk result (λ cert. length cert.choices.items ≡ states_of model.now) }

@@ -11,9 +11,9 @@ use mdp_reward::{ranks_of, start_of};
 use mdp_rows::{Dir, Marks, Model};
 use std::alloc::Global;
 
-/// The bounds of the greatest, or the least, rewards until a goal that say nothing of numbers, under the reward name of place `name`: 0 and infinite at
-/// the states whose reward is finite by the graph alone, 0 and 0 at goals, infinite and infinite at the others, with the policy and the ranks that show
-/// it. They hold for every model without rewards below 0, and take no arithmetic. An `Err` is want of memory.
+/// The bounds of the greatest, or the least, rewards until a goal that say nothing of numbers, under the reward name of place `name`: 0 and infinite
+/// at the states whose reward is finite by the graph alone, 0 and 0 at goals, infinite and infinite at the others, with the policy and the ranks that
+/// show it. They hold for every model without rewards below 0, and take no arithmetic. An `Err` is want of memory.
 pub fn trivial_reward(
     alloc: Global,
     model: &Model,
@@ -24,8 +24,10 @@ pub fn trivial_reward(
     requires name { name < length model.now.names }
     requires goals { length goals.now ≡ states_of model.now }
     requires none_negative { has_negative model.now name ≡ false }
-    ensures trivial { IfOk result (λ cert. IsTrivialReward dir model.now name goals.now cert.lower.items cert.upper.items cert.choices.items cert.ranks.items) }
-    ensures accepted { IfOk result (λ cert. IsRewardBounds dir model.now name goals.now cert.lower.items cert.upper.items cert.choices.items cert.ranks.items) }
+    ensures trivial { IfOk result (λ cert. IsTrivialReward dir model.now name goals.now cert.lower.items cert.upper.items cert.choices.items
+        cert.ranks.items) }
+    ensures accepted { IfOk result (λ cert. IsRewardBounds dir model.now name goals.now cert.lower.items cert.upper.items cert.choices.items
+        cert.ranks.items) }
     ensures lower { IfOk result (λ cert. length cert.lower.items ≡ states_of model.now) }
     ensures upper { IfOk result (λ cert. length cert.upper.items ≡ states_of model.now) }
     ensures choices { IfOk result (λ cert. length cert.choices.items ≡ states_of model.now) }

@@ -13,8 +13,8 @@ use mdp_rows::Model;
 use std::alloc::Global;
 use std::cmp::Ordering;
 
-/// The certificate with the simplest fractions between proposed bounds as lower and as upper values, at the states where they are sought: where they are the
-/// exact values, the rules say yes to it.
+/// The certificate with the simplest fractions between proposed bounds as lower and as upper values, at the states where they are sought: where they
+/// are the exact values, the rules say yes to it.
 pub(crate) fn simplest_reach(
     alloc: Global,
     model: &Model,
@@ -36,8 +36,8 @@ pub(crate) fn simplest_reach(
     })
 }
 
-/// The certificate with the simplest fractions between proposed finite bounds as lower and as upper values, at the states where they are sought; infinite ones
-/// stay.
+/// The certificate with the simplest fractions between proposed finite bounds as lower and as upper values, at the states where they are sought;
+/// infinite ones stay.
 pub(crate) fn simplest_rewards_of(
     alloc: Global,
     model: &Model,
@@ -84,8 +84,8 @@ fn spread_of(bound: &[Frac], bias: &[Frac]) -> Option<Frac> {
     Some(extreme(&[width_of(bound)?, width_of(bias)?], Ordering::Greater))
 }
 
-/// The certificate with the simplest fractions between proposed gains as lower and as upper gains, and with the simplest relative values near the proposed
-/// ones, at the states where they are sought.
+/// The certificate with the simplest fractions between proposed gains as lower and as upper gains, and with the simplest relative values near the
+/// proposed ones, at the states where they are sought.
 pub(crate) fn simplest_mean(
     alloc: Global,
     model: &Model,
