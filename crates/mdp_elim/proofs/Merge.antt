@@ -1,6 +1,6 @@
 -- Two rows that are merged: an addition at a target leaves the entries to smaller states as they are.
 use Rattle.std.specs.Option.{unwrap_or, option_to_list, IsSome}
-use Rattle.std.proofs.{Math.Seq.{drop-cons, drop-length}, Common.{◌≡◌, ℕ, zero, suc, ◌+◌, ◌<◌, ◌≤◌, Bool, true, false, List, [], ◌∷◌, ◌++◌, length, take}}
+use Rattle.std.proofs.{Math.Seq.{drop-cons, drop-length}, Common.{◌≡◌, ◌≢◌, ℕ, zero, suc, ◌+◌, ◌<◌, ◌≤◌, Bool, true, false, List, [], ◌∷◌, ◌++◌, length, take}}
 use Rattle.std.proofs.Common.{drop, get_or, refl, sym, ◌∙◌, ap, ap₂, subst, arith, eqb, nat_le, Option, Some, None, if◌then◌else◌, pos}
 use Rattle.std.proofs.{lemmas.List.{append_assoc}, lemmas.Bool.{le-leb}, lemmas.Bool.Decides.{leb_tells}}
 use Rattle.mdp_math.specs.{Rational.{ℚ, of_int}, Written.{written_add, written_mul, ◌>>=◌}}
@@ -88,6 +88,13 @@ pub place_rest : (v : ℕ) (row : List Entry) → place v (drop (place v row) ro
 place_rest v [] = refl
 place_rest v (y ∷ row) = rest_by v y row (nat_le v y.target) refl (place_rest v row)
 
+pub place_le : (v : ℕ) (row : List Entry) → place v row ≤ length row
+place_le v [] = omega arith
+place_le v (y ∷ row) = elim (nat_le v y.target) as (λ b. (if b then 0 else suc (place v row)) ≤ suc (length row)) [
+  | true ↦ omega arith
+  | false ↦ omega (arith, place_le v row)
+]
+
 take_drop : (n : ℕ) (row : List Entry) → take n row ++ drop n row ≡ row
 take_drop zero row = refl
 take_drop (suc n) [] = refl
@@ -141,14 +148,28 @@ plus_first v x (y ∷ row) h =
     let e = first_from v y row h in
     ap (λ (b : Bool). at_first b (eqb y.target v) v x y row) e ∙ first_same (eqb y.target v) v x y row ∙ sym (ap (λ (b : Bool). from_first b (eqb y.target v) v x y row) e)
 
+split_same : (v : ℕ) (b c : Bool) (y : Entry) (row : List Entry) → b ≡ true → c ≡ true
+    → (Some y.prob ≡ (if b then (if c then Some y.prob else None) else entry_to v row)) × (row ≡ (if b then (if c then row else y ∷ row) else y ∷ without v row))
+split_same v true true y row d e = (refl, refl)
+split_same v true false y row d e = cc
+split_same v false c y row d e = cc
+
 split_other : (v : ℕ) (b c : Bool) (y : Entry) (row : List Entry) → b ≡ true → c ≡ false
     → (None ≡ (if b then (if c then Some y.prob else None) else entry_to v row)) × (y ∷ row ≡ (if b then (if c then row else y ∷ row) else y ∷ without v row))
 split_other v true false y row d e = (refl, refl)
 split_other v true true y row d e = cc
 split_other v false c y row d e = cc
 
+-- it is taken out
+pub split-first : (v : ℕ) (y : Entry) (row all : List Entry) → all ≡ y ∷ row → place v all ≡ 0 → eqb y.target v ≡ true → (Some y.prob ≡ entry_to v all) × (row ≡ without v all)
+split-first v y row all is h e = rw is (split_same v (nat_le v y.target) (eqb y.target v) y row (first_from v y row (rw is at h)) e)
+
 pub split-none : (v : ℕ) (y : Entry) (row all : List Entry) → all ≡ y ∷ row → place v all ≡ 0 → eqb y.target v ≡ false → (None ≡ entry_to v all) × (all ≡ without v all)
 split-none v y row all is h e = rw is (split_other v (nat_le v y.target) (eqb y.target v) y row (first_from v y row (rw is at h)) e)
+
+pub split-empty : (v : ℕ) (all : List Entry) → length all ≡ 0 → (None ≡ entry_to v all) × (all ≡ without v all)
+split-empty v [] h = (refl, refl)
+split-empty v (y ∷ row) h = absurd (omega arith)
 
 -- ---- one entry of the other row
 
@@ -271,6 +292,20 @@ no_last low s (x ∷ row) h =
 all_lower : (low s : ℕ) (front : List Entry) (y : Entry) → Between low (suc s) (front ++ y ∷ []) → y.target < s → Between low s (front ++ y ∷ [])
 all_lower low s [] y h l = (h.0, l, tt)
 all_lower low s (x ∷ front) y h l = (h.0, let k = first_lower low s x front y h in omega (arith, k), all_lower (suc x.target) s front y h.2 l)
+
+pub last_found : (s : ℕ) (front : List Entry) (y : Entry) (row : List Entry) → row ≡ front ++ y ∷ [] → Between 0 (suc s) row → y.target ≡ s → Some y.prob ≡ entry_to s row
+last_found s front y row is h e = rw is (end_is 0 s front y (rw is at h) e).0
+
+pub last_other : (s : ℕ) (front : List Entry) (y : Entry) (row : List Entry) → row ≡ front ++ y ∷ [] → Between 0 (suc s) row → y.target ≢ s → None ≡ entry_to s row
+last_other s front y row is h e =
+    let k = rw is at h in
+    let l = last_high 0 s front y k in
+    let m : y.target < s = grind arith in
+    rw is (sym (no_last 0 s (front ++ y ∷ []) (all_lower 0 s front y k m)).0)
+
+pub none_empty : (s : ℕ) (row : List Entry) → length row ≡ 0 → None ≡ entry_to s row
+none_empty s [] h = refl
+none_empty s (x ∷ row) h = absurd (omega arith)
 
 -- a row without an entry to s
 none_by : (s : ℕ) (x : Entry) (row : List Entry) (b c : Bool) → (if b then (if c then Some x.prob else None) else entry_to s row) ≡ None
