@@ -1,7 +1,7 @@
-use Rattle.std.proofs.Common.{◌-◌, ◌<◌, true, sym, subst, arith, pos}
+use Rattle.std.proofs.Common.{◌-◌, ◌<◌, true, [], sym, subst, refl, arith, pos}
 use Rattle.std.specs.{List.{All}, Option.{is_some}}
 use Rattle.mdp_math.specs.Rational.{of_int}
-use Rattle.mdp_policy_iteration.proofs.Reading.{reads-lent, reads-stop}
+use Rattle.mdp_policy_iteration.{specs.Problem.{plain, stop}, proofs.Reading.{reads-by, reads-lent}}
 use Rattle.mdp_quot.specs.{Quotient.{row_of}, Problem.{component_of, gain_of, outer_problem}}
 use Rattle.mdp_quot.proofs.OuterNodes.{outer-count, outer-stop, outer-exit, positive}
 use Rattle.mdp_quot.proofs.outer_problem.OuterProblemShortestPath.reads.Goals as goal
@@ -18,8 +18,9 @@ pub returns-then-c-eq0 : goal.returns-then-c-eq0
 returns-then-c-eq0 c =
     let p = c.args.self.now in
     let part = component_of p.quotient.now c.args.s in
-    reads-stop (outer_problem p.dir p.quotient.now p.gains.now) c.args.s c.args.c (is_some part) (gain_of p.gains.now part)
+    reads-by (outer_problem p.dir p.quotient.now p.gains.now) c.args.s c.args.c [] (λ k d l. absurd (omega (arith, l))) (plain (is_some part) (stop (gain_of p.gains.now part)))
     (outer-stop p.dir p.quotient.now p.gains.now c.args.s c.requires.node c.args.c c.requires.choice c.if-c-eq0.true)
+    tt (λ x y agree. refl)
 
 pub returns-else-c-eq0 : goal.returns-else-c-eq0
 returns-else-c-eq0 c =
