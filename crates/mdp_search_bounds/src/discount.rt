@@ -96,14 +96,6 @@ impl Discounting<'_> {
             remainder,
         })
     }
-
-    /// The bounds by one number for all states.
-    fn finite(self, alloc: Global) -> Result<DiscountBounds, Memory>
-        ensures { IfOk result (HasDiscountSizes self.entry.model.now) }
-    {
-        let none = missing_discount(alloc, self.model)?;
-        Ok(finite_bounds(self.model, self.name, self.factor, none))
-    }
 }
 
 impl Search for Discounting<'_> {
@@ -199,7 +191,8 @@ impl Search for Discounting<'_> {
     }
 
     fn trivial(&self, alloc: Global) -> Result<DiscountBounds, Memory> {
-        let finite = self.finite(alloc)?;
+        let none = missing_discount(alloc, self.model)?;
+        let finite = finite_bounds(self.model, self.name, self.factor, none);
         if self.holds(&finite) {
             return Ok(finite);
         }
